@@ -1,0 +1,12 @@
+pub mod Values
+pub mod SameValues
+pub mod Sees
+pub mod Shapes
+pub mod Spans
+pub mod EpochsVector
+pub mod Regions
+pub mod Visible
+pub mod Running
+pub mod Queries
+pub mod Answer
+pub mod Names

@@ -1,0 +1,32 @@
+-- Shapes of cubes that can be stored, and their bricks.
+-- Source: Cubrick (VLDB 2016), granular partitioning of the space of dimensions; the limits are this project's own.
+use Rattle.std.specs.Prelude.{ℕ, ◌+◌, ◌-◌, ◌*◌, ◌/◌, ◌^◌, ◌<◌, ◌≤◌, ◌≡◌, List, [], ◌∷◌, length, All}
+use Rattle.cube_values.specs.declared.shape.Size.{Size}
+use Rattle.cube_values.specs.declared.shape.Shape.{Shape}
+use Rattle.cube_values.specs.declared.shape.CubeShape.{CubeShape}
+
+-- A dimension of c coordinates in ranges of r has c / r ranges, rounded up.
+abbrev pub ranges_of : Size → ℕ
+ranges_of s = (s.cardinality + (s.range - 1)) / s.range
+
+-- A cube has one brick for each choice of a range in each dimension.
+abbrev pub bricks_of : List Size → ℕ
+bricks_of [] = 1
+bricks_of (s ∷ sizes) = ranges_of s * bricks_of sizes
+
+-- A dimension has coordinates and ranges, and no range is larger than the dimension.
+pub record IsSoundSize (s : Size) : Type 0 where
+  pub range : 0 < s.range
+  pub fits : s.range ≤ s.cardinality
+
+-- At most sixteen dimensions, each sound, and at most 2 ^ 62 bricks.
+pub record IsSoundShape (shape : Shape) : Type 0 where
+  pub sizes : All IsSoundSize shape.sizes
+  pub bricks : bricks_of shape.sizes ≤ 2 ^ 62
+  pub dims : length shape.sizes ≤ 16
+
+-- A sound shape with a flag for each dimension and at most sixteen metrics.
+pub record IsSoundCube (cube : CubeShape) : Type 0 where
+  pub shape : IsSoundShape cube.shape
+  pub flags : length cube.texts ≡ length cube.shape.sizes
+  pub metrics : cube.metrics ≤ 16
