@@ -4,6 +4,7 @@
 mod call_error;
 mod entry;
 mod epoch_list;
+mod law;
 mod name;
 mod operation;
 mod query;
@@ -19,8 +20,11 @@ mod value;
 pub use call_error::CallError;
 pub use entry::{Entries, Entry};
 pub use epoch_list::EpochList;
+pub use law::visible_is_what_running_leaves;
 pub use name::{NAME_BYTES, begins_name, continues_name, is_keyword, is_name, is_word, spells};
-pub use operation::{Condition, Conditions, Operation, Operations, Region, Test, Transaction, Transactions};
+pub use operation::{
+    Condition, Conditions, Operation, Operations, Region, Test, Transaction, Transactions,
+};
 pub use query::{BoundItem, BoundItems, BoundQuery, Query};
 pub use row::{CodedRow, CodedRows, Coords, Numbers, Row, Rows, StoredRow, StoredRows};
 pub use sequence::Sequence;

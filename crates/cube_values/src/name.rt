@@ -9,10 +9,10 @@ pub const NAME_BYTES: usize = 64;
 
 /// The keywords in lower case. Those from `create` on are reserved.
 const KEYWORDS: [&str; 38] = [
-    "select", "from", "where", "and", "in", "between", "group", "by", "sum", "count", "min", "max", "avg",
-    "insert", "into", "values", "load", "reject", "delete", "begin", "commit", "rollback", "flush", "purge",
-    "show", "epochs", "create", "cube", "dim", "metric", "text", "int", "having", "order", "limit", "asc",
-    "desc", "watch",
+    "select", "from", "where", "and", "in", "between", "group", "by", "sum", "count", "min", "max",
+    "avg", "insert", "into", "values", "load", "reject", "delete", "begin", "commit", "rollback",
+    "flush", "purge", "show", "epochs", "create", "cube", "dim", "metric", "text", "int", "having",
+    "order", "limit", "asc", "desc", "watch",
 ];
 
 /// Whether a name may begin with the byte: a letter of ASCII or `_`.
