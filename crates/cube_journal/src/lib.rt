@@ -1,13 +1,12 @@
-// A library with one function.
+//! Declarations, statements, tokens and replies, which the definitions and the refusals speak of.
 #![tactic(auto)]
 
-ghost use Rattle.std.specs.Prelude.{◌≡◌};
-ghost use Rattle.cube_journal.specs.Echo.{echo_of};
+mod decl;
+mod reply;
+mod statement;
+mod token;
 
-// The `ensures` clause is the contract: what `echo` returns is `echo_of` of its argument, a definition
-// in `specs/Echo.antt`, which a caller's clause can cite too.
-pub fn echo(x: usize) -> usize
-    ensures { result ≡ echo_of x }
-{
-    x
-}
+pub use decl::{Decl, DimDecl, DimDecls, Names};
+pub use reply::Reply;
+pub use statement::Statement;
+pub use token::{Keyword, Token, Tokens};

@@ -1,7 +1,7 @@
 -- The answer to a query over rows.
 -- Source: Cubrick (VLDB 2016), aggregates grouped by dimensions; sorted groups and four decimals are this
 -- project's own.
-use Rattle.std.specs.Prelude.{ℕ, ◌*◌, ◌/◌, ◌%◌, Bool, not, ◌&&◌, ◌==◌, List, [], ◌∷◌, length, map, filter, fold, pos, ◌+ℤ◌, ℤ, slice_get, unwrap_or, unsigned_abs, if◌then◌else◌}
+use Rattle.std.specs.Prelude.{ℕ, ◌*◌, ◌/◌, ◌%◌, not, ◌&&◌, ◌==◌, List, [], ◌∷◌, length, map, filter, fold, pos, ◌+ℤ◌, ℤ, slice_get, unwrap_or, unsigned_abs}
 use Rattle.std.specs.Int.{int_min, int_max, is_negative}
 use Rattle.std.specs.Ordering.{match_ordering}
 use Rattle.cube_values.specs.declared.query.Query.{Query}

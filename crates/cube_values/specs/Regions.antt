@@ -1,6 +1,6 @@
 -- Which rows a region has.
 -- Source: Cubrick (VLDB 2016), filters on dimensions.
-use Rattle.std.specs.Prelude.{ℕ, Bool, false, not, ◌&&◌, List, Option, slice_get, int_lt}
+use Rattle.std.specs.Prelude.{Bool, false, not, ◌&&◌, List, slice_get, int_lt}
 use Rattle.std.specs.List.{list_any, list_all}
 use Rattle.std.specs.Option.{option_map_or}
 use Rattle.std.specs.Str.{bytes_eq}

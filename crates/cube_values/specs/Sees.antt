@@ -1,6 +1,6 @@
 -- Which epochs a snapshot sees, and for which epochs it is admissible.
 -- Source: AOSI (ICDE 2018), visibility by epoch and deps; the difference of readers and writers is this project's own.
-use Rattle.std.specs.Prelude.{◌≡◌, ℕ, ◌<◌, ◌≤◌, Bool, false, not, ◌&&◌, ◌==◌, nat_le, nat_lt, [], length, All, Contains, MatchBool, if◌then◌else◌}
+use Rattle.std.specs.Prelude.{◌≡◌, ℕ, ◌<◌, ◌≤◌, Bool, not, ◌&&◌, ◌==◌, nat_le, nat_lt, [], length, All, Contains, MatchBool, if◌then◌else◌}
 use Rattle.std.specs.List.{list_any, list_all}
 use Rattle.cube_values.specs.declared.snapshot.Snapshot.{Snapshot}
 
