@@ -1,1 +1,5 @@
 pub mod WhatIsLeft
+pub mod BitMasks
+pub mod BitWords
+pub mod BitCounts
+pub mod BitLists

@@ -10,3 +10,4 @@ pub mod Running
 pub mod Queries
 pub mod Answer
 pub mod Names
+pub mod BitRows

@@ -1,6 +1,7 @@
 //! The values of cubes, and the definitions of what a snapshot sees.
 #![tactic(auto)]
 
+mod bits;
 mod call_error;
 mod entry;
 mod epoch_list;
@@ -17,6 +18,7 @@ mod table;
 mod text;
 mod value;
 
+pub use bits::Bits;
 pub use call_error::CallError;
 pub use entry::{Entries, Entry};
 pub use epoch_list::EpochList;

@@ -1,0 +1,6 @@
+pub mod Counts
+pub mod Files
+pub mod Given
+pub mod Memory
+pub mod Output
+pub mod Told

@@ -1,13 +1,22 @@
-// A library with one function.
+//! The traits that stand for files and output, their memory forms, and the two loops over them.
 #![tactic(auto)]
 
-ghost use Rattle.std.specs.Prelude.{◌≡◌};
-ghost use Rattle.outside.specs.Echo.{echo_of};
+mod answers;
+mod calls;
+mod reading;
+mod shelf;
+mod shelf_memory;
+mod sink;
+mod sink_memory;
+mod writing;
 
-// The `ensures` clause is the contract: what `echo` returns is `echo_of` of its argument, a definition
-// in `specs/Echo.antt`, which a caller's clause can cite too.
-pub fn echo(x: usize) -> usize
-    ensures { result ≡ echo_of x }
-{
-    x
-}
+pub use answers::{PutAnswer, ReadAnswer, SizeAnswer};
+pub use reading::{FileFault, read_whole};
+pub use shelf::Shelf;
+pub use shelf_memory::ShelfMemory;
+pub use sink::Sink;
+pub use sink_memory::SinkMemory;
+pub use writing::{OutputFault, put_whole};
+
+#[cfg(test)]
+mod tests;

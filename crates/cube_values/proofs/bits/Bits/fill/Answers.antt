@@ -1,0 +1,22 @@
+use Rattle.std.proofs.Common.{arith, ◌≡◌, ◌≤◌, length, ap}
+use Rattle.std.proofs.lemmas.List.{take_at}
+use Rattle.cube_values.specs.BitRows.{BitRows, IsFilled}
+use Rattle.cube_values.proofs.BitLists.{kept_filled}
+use Rattle.cube_values.proofs.BitWords.{bits_filled, bits_length}
+use Rattle.cube_values.proofs.bits.Bits.fill.Goals as goal
+
+pub invariant_of-self : goal.invariant_of-self
+invariant_of-self c =
+    let old = c.self.inside in
+    let f : IsFilled old.words.items c.fill_bits.new.words c.args.from c.args.to c.args.on = rw c.as_mut_slice.ensures.value at c.fill_bits.ensures in
+    let e : length c.fill_bits.new.words ≡ old.words.len = omega arith in
+    let t : c.args.to ≤ old.len = omega (arith, bits_length old.words.items old.len, ap (λ (r : BitRows). length r.bits) c.self.view_is) in
+    rw (take_at c.fill_bits.new.words _ old.words.len e) (kept_filled old.words.items c.fill_bits.new.words old.len old.room c.args.from c.args.to c.args.on c.self.invariant t f)
+
+pub returns-clause-bits : goal.returns-clause-bits
+returns-clause-bits c =
+    let old = c.self.inside in
+    let f : IsFilled old.words.items c.fill_bits.new.words c.args.from c.args.to c.args.on = rw c.as_mut_slice.ensures.value at c.fill_bits.ensures in
+    let e : length c.fill_bits.new.words ≡ old.words.len = omega arith in
+    let t : c.args.to ≤ old.len = omega (arith, bits_length old.words.items old.len, ap (λ (r : BitRows). length r.bits) c.self.view_is) in
+    rw (take_at c.fill_bits.new.words _ old.words.len e, ← c.self.view_is) (bits_filled old.words.items c.fill_bits.new.words old.len c.args.from c.args.to c.args.on c.requires.order t f)
