@@ -1,13 +1,13 @@
-// A library with one function.
+//! Everything that the definitions and the refusals speak of, from one place: the values of cubes, and
+//! declarations, statements, tokens and replies.
 #![tactic(auto)]
 
-ghost use Rattle.std.specs.Prelude.{◌≡◌};
-ghost use Rattle.cube_kinds.specs.Echo.{echo_of};
-
-// The `ensures` clause is the contract: what `echo` returns is `echo_of` of its argument, a definition
-// in `specs/Echo.antt`, which a caller's clause can cite too.
-pub fn echo(x: usize) -> usize
-    ensures { result ≡ echo_of x }
-{
-    x
-}
+pub use cube_journal::{Decl, DimDecl, DimDecls, Keyword, Names, Reply, Statement, Token, Tokens};
+pub use cube_values::{
+    Bits, BoundItem, BoundItems, BoundQuery, CallError, CodedRow, CodedRows, Condition, Conditions,
+    Coords, CubeShape, Entries, Entry, EpochList, Field, Flags, Line, NAME_BYTES, NameLists,
+    Numbers, Operation, Operations, Part, Parts, Query, Region, Row, Rows, Sequence, Shape, Size,
+    Sizes, Snapshot, Span, StoredRow, StoredRows, Table, Test, Text, TextLists, Texts, Transaction,
+    Transactions, Value, Values, begins_name, continues_name, is_keyword, is_name, is_word, spells,
+    visible_is_what_running_leaves,
+};

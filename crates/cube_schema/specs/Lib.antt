@@ -1,0 +1,3 @@
+pub mod Dimensions
+pub mod Reading
+pub mod Texts

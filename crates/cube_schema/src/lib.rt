@@ -1,13 +1,16 @@
-// A library with one function.
+//! The canonical text of cubes, and the test of which cubes can be stored.
 #![tactic(auto)]
 
-ghost use Rattle.std.specs.Prelude.{◌≡◌};
-ghost use Rattle.cube_schema.specs.Echo.{echo_of};
+mod accepting;
+mod law;
+mod printing;
+mod read_error;
+mod reading;
 
-// The `ensures` clause is the contract: what `echo` returns is `echo_of` of its argument, a definition
-// in `specs/Echo.antt`, which a caller's clause can cite too.
-pub fn echo(x: usize) -> usize
-    ensures { result ≡ echo_of x }
-{
-    x
-}
+pub use accepting::is_accepted;
+pub use law::each_text_is_of_one_cube;
+pub use printing::print_cube;
+pub use reading::read_cube;
+
+#[cfg(test)]
+mod tests;

@@ -14,10 +14,11 @@ abbrev pub bricks_of : List Size → ℕ
 bricks_of [] = 1
 bricks_of (s ∷ sizes) = ranges_of s * bricks_of sizes
 
--- A dimension has coordinates and ranges, and no range is larger than the dimension.
+-- A dimension has coordinates and ranges, no range is larger than the dimension, and a coordinate has 32 bits.
 pub record IsSoundSize (s : Size) : Type 0 where
   pub range : 0 < s.range
   pub fits : s.range ≤ s.cardinality
+  pub small : s.cardinality < 2 ^ 32
 
 -- At most sixteen dimensions, each sound, and at most 2 ^ 62 bricks.
 pub record IsSoundShape (shape : Shape) : Type 0 where

@@ -1,13 +1,16 @@
-// A library with one function.
+//! The run of the program: from its words to its text.
 #![tactic(auto)]
 
-ghost use Rattle.std.specs.Prelude.{◌≡◌};
-ghost use Rattle.cubrick_top.specs.Echo.{echo_of};
+mod fault;
+mod files;
+mod replies;
+mod running;
+mod script;
+mod session;
+mod statements;
 
-// The `ensures` clause is the contract: what `echo` returns is `echo_of` of its argument, a definition
-// in `specs/Echo.antt`, which a caller's clause can cite too.
-pub fn echo(x: usize) -> usize
-    ensures { result ≡ echo_of x }
-{
-    x
-}
+pub use fault::{BuiltPart, Fault, Finish};
+pub use running::{finish, run};
+
+#[cfg(test)]
+mod tests;

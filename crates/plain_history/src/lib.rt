@@ -1,13 +1,17 @@
-// A library with one function.
+//! The plain program over a list of transactions: what a snapshot sees, and the answer to a query.
 #![tactic(auto)]
 
-ghost use Rattle.std.specs.Prelude.{◌≡◌};
-ghost use Rattle.plain_history.specs.Echo.{echo_of};
+mod fields;
+mod groups;
+mod keys;
+mod numbers;
+mod regions;
+mod running;
+mod tables;
 
-// The `ensures` clause is the contract: what `echo` returns is `echo_of` of its argument, a definition
-// in `specs/Echo.antt`, which a caller's clause can cite too.
-pub fn echo(x: usize) -> usize
-    ensures { result ≡ echo_of x }
-{
-    x
-}
+pub use regions::region_has;
+pub use running::visible;
+pub use tables::answer;
+
+#[cfg(test)]
+mod tests;

@@ -1,13 +1,14 @@
-// A library with one function.
+//! Reading of one statement from a piece of a script.
 #![tactic(auto)]
 
-ghost use Rattle.std.specs.Prelude.{◌≡◌};
-ghost use Rattle.sql_tree.specs.Echo.{echo_of};
+mod form;
+mod front;
+mod kind;
+mod law;
+mod read;
 
-// The `ensures` clause is the contract: what `echo` returns is `echo_of` of its argument, a definition
-// in `specs/Echo.antt`, which a caller's clause can cite too.
-pub fn echo(x: usize) -> usize
-    ensures { result ≡ echo_of x }
-{
-    x
-}
+pub use law::a_text_spells_one_statement;
+pub use read::read_statement;
+
+#[cfg(test)]
+mod tests;

@@ -1,0 +1,154 @@
+//! Replies as text.
+
+ghost use Rattle.std.specs.Prelude.{◌≡◌, ◌++◌, [], ◌∷◌, ◌==◌, codes, decimal, OnOk, replicate, if◌then◌else◌};
+ghost use Rattle.std.specs.Fmt.{signed_decimal};
+ghost use Rattle.std.specs.List.{flat_map};
+ghost use Rattle.cube_journal.specs.Replies.{quoted, sign_text, four_digits, field_text, fields_text, table_text, reply_text, numbered};
+ghost use Rattle.cubrick_top.specs.Session.{end_text};
+
+use cube_journal::Reply;
+use cube_values::{Field, Line};
+use itoa::Buffer;
+use std::alloc::AllocError;
+
+fn push_number(out: &mut Vec<u8>, n: u64) -> Result<(), AllocError>
+    ensures { OnOk result (out.new.items ≡ out.old.items ++ decimal n) }
+{
+    out.extend_from_slice(Buffer::new().format(n).as_bytes())
+}
+
+fn push_whole(out: &mut Vec<u8>, n: i128) -> Result<(), AllocError>
+    ensures { OnOk result (out.new.items ≡ out.old.items ++ signed_decimal n) }
+{
+    out.extend_from_slice(Buffer::new().format(n).as_bytes())
+}
+
+fn push_digits(out: &mut Vec<u8>, n: u128) -> Result<(), AllocError>
+    ensures { OnOk result (out.new.items ≡ out.old.items ++ decimal n) }
+{
+    out.extend_from_slice(Buffer::new().format(n).as_bytes())
+}
+
+fn push_zeros(out: &mut Vec<u8>, count: usize) -> Result<(), AllocError>
+    ensures { OnOk result (out.new.items ≡ out.old.items ++ replicate count 48) }
+{
+    for _ in 0..count {
+        out.push(b'0')?;
+    }
+    Ok(())
+}
+
+fn push_four(out: &mut Vec<u8>, n: u16) -> Result<(), AllocError>
+    ensures { OnOk result (out.new.items ≡ out.old.items ++ four_digits n) }
+{
+    let mut buffer = Buffer::new();
+    let digits = buffer.format(n).as_bytes();
+    push_zeros(out, 4usize.saturating_sub(digits.len()))?;
+    out.extend_from_slice(digits)
+}
+
+fn push_quoted(out: &mut Vec<u8>, text: &[u8]) -> Result<(), AllocError>
+    ensures { OnOk result (out.new.items ≡ out.old.items ++ quoted text.now) }
+{
+    out.push(b'\'')?;
+    for byte in text {
+        if *byte == b'\'' {
+            out.push(b'\'')?;
+        }
+        out.push(*byte)?;
+    }
+    out.push(b'\'')?;
+    Ok(())
+}
+
+fn push_decimal(out: &mut Vec<u8>, neg: bool, whole: u128, four: u16) -> Result<(), AllocError>
+    ensures { OnOk result (out.new.items ≡ out.old.items ++ (sign_text neg ++ (decimal whole ++ (codes "." ++ four_digits four)))) }
+{
+    if neg {
+        out.push(b'-')?;
+    }
+    push_digits(out, whole)?;
+    out.push(b'.')?;
+    push_four(out, four)
+}
+
+fn push_field(out: &mut Vec<u8>, field: &Field) -> Result<(), AllocError>
+    ensures { OnOk result (out.new.items ≡ out.old.items ++ field_text field.now) }
+{
+    match field {
+        Field::Text(text) => push_quoted(out, text.as_bytes()),
+        Field::Whole(n) => push_whole(out, *n),
+        Field::Decimal { neg, whole, four } => push_decimal(out, *neg, *whole, *four),
+        Field::Null => out.extend_from_slice(b"NULL"),
+    }
+}
+
+fn push_fields(out: &mut Vec<u8>, fields: &[Field]) -> Result<(), AllocError>
+    ensures { OnOk result (out.new.items ≡ out.old.items ++ fields_text fields.now) }
+{
+    let mut left = fields;
+    'fields: while let [field, rest @ ..] = left {
+        push_field(out, field)?;
+        if !rest.is_empty() {
+            out.push(b',')?;
+        }
+        left = rest;
+    }
+    Ok(())
+}
+
+fn push_table(out: &mut Vec<u8>, lines: &[Line]) -> Result<(), AllocError>
+    ensures { OnOk result (out.new.items ≡ out.old.items ++ table_text lines.now) }
+{
+    for line in lines {
+        push_fields(out, line.as_slice())?;
+        out.push(b'\n')?;
+    }
+    Ok(())
+}
+
+fn push_reply_text(out: &mut Vec<u8>, reply: &Reply) -> Result<(), AllocError>
+    ensures { OnOk result (out.new.items ≡ out.old.items ++ reply_text reply.now) }
+{
+    match reply {
+        Reply::Rows { epoch, table } => {
+            out.extend_from_slice(b"rows ")?;
+            push_number(out, table.len() as u64)?;
+            out.extend_from_slice(b" epoch ")?;
+            push_number(out, *epoch)?;
+            out.push(b'\n')?;
+            push_table(out, table.as_slice())
+        }
+        Reply::Stored { rows, epoch } => {
+            out.extend_from_slice(b"stored ")?;
+            push_number(out, *rows)?;
+            out.extend_from_slice(b" epoch ")?;
+            push_number(out, *epoch)?;
+            Ok(out.push(b'\n')?)
+        }
+    }
+}
+
+/// Appends the reply to a statement of a session, behind both numbers.
+pub fn push_reply(out: &mut Vec<u8>, session: u64, statement: u64, reply: &Reply) -> Result<(), AllocError>
+    ensures { OnOk result (out.new.items ≡ out.old.items ++ numbered session statement reply.now) }
+{
+    push_number(out, session)?;
+    out.push(b'.')?;
+    push_number(out, statement)?;
+    out.push(b' ')?;
+    push_reply_text(out, reply)
+}
+
+/// Appends the closing line.
+pub fn push_end(out: &mut Vec<u8>, ec: u64, lce: u64, lse: u64) -> Result<(), AllocError>
+    ensures { OnOk result (out.new.items ≡ out.old.items ++ end_text ec lce lse) }
+{
+    out.extend_from_slice(b"end ec ")?;
+    push_number(out, ec)?;
+    out.extend_from_slice(b" lce ")?;
+    push_number(out, lce)?;
+    out.extend_from_slice(b" lse ")?;
+    push_number(out, lse)?;
+    Ok(out.push(b'\n')?)
+}

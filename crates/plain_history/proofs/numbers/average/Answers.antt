@@ -1,0 +1,9 @@
+use Rattle.std.specs.Int.{w128}
+use Rattle.std.proofs.lemmas.Int.{to_z-of_z}
+use Rattle.plain_history.proofs.Quotients.{average_is}
+use Rattle.plain_history.proofs.numbers.average.Goals as goal
+
+pub returns : goal.returns
+returns c =
+    rw (c.is_below_zero-neg.ensures, c.unsigned_abs-size.ensures.value, to_z-of_z w128 c.args.sum c.ranges.sum)
+    (average_is c.args.sum c.args.count c.requires)
