@@ -1,12 +1,12 @@
 -- A key is looked for among the keys of rows, from the front.
-use Rattle.std.proofs.Common.{◌≡◌, ℕ, ◌+◌, ◌<◌, List, [], ◌∷◌, ◌++◌, map, fold, length, take, drop, get_or, refl, sym, ap, ◌∙◌, add-one, drop-cons, arith}
+use Rattle.std.proofs.Common.{◌≡◌, ℕ, ◌+◌, ◌<◌, List, [], ◌∷◌, ◌++◌, map, length, take, drop, get_or, refl, sym, ap, ◌∙◌, add-one, drop-cons, arith}
 use Rattle.std.proofs.lemmas.List.{map-append, take-append-drop, take_more}
 use Rattle.std.specs.declared.cmp.Ordering.TheVariants.{Equal}
 use Rattle.cube_values.specs.declared.query.BoundItem.{BoundItem}
 use Rattle.cube_values.specs.declared.row.Row.{Row}
 use Rattle.cube_values.specs.declared.value.Value.{Value}
 use Rattle.cube_values.specs.Values.{values_cmp}
-use Rattle.cube_values.specs.Answer.{key_of, with_key, keys_of, rows_of_key, item_of, table_of}
+use Rattle.cube_values.specs.Answer.{with_key, rows_of_key, item_of, table_of}
 
 -- the rest from place i begins with what stands there
 from_place : {X : Type 0} (xs : List X) (i : ℕ) (x : X) → i < length xs → x ≡ get_or xs i x → drop i xs ≡ x ∷ drop (i + 1) xs
@@ -19,11 +19,6 @@ stands_there f xs i x r h e equal =
     ap (map f) (sym (take-append-drop i xs))
     ∙ map-append f (take i xs) (drop i xs)
     ∙ ap (λ ks. map f (take i xs) ++ ks) (rw (from_place xs i x h e, equal) refl)
-
--- with a group the keys are gathered one by one
-pub keys_gathered : (group : List ℕ) (rows : List Row) → (group ≡ [] → ⊥) → keys_of group rows ≡ fold with_key [] (map (key_of group) rows)
-keys_gathered [] rows h = absurd (h refl)
-keys_gathered (place ∷ group) rows h = refl
 
 -- without a group all rows have the one key
 all_alike : (rows : List Row) → rows_of_key [] rows [] ≡ rows

@@ -1,0 +1,4 @@
+pub mod Addresses
+pub mod Covers
+pub mod Joined
+pub mod Shares

@@ -1,0 +1,2 @@
+pub mod NewCubes
+pub mod Places

@@ -1,0 +1,13 @@
+//! Dictionaries: the distinct texts of each text dimension, numbered in the order of first sight.
+#![tactic(auto)]
+
+mod code;
+mod cube_dicts;
+mod dict;
+mod dicts;
+#[cfg(test)]
+mod tests;
+
+pub use code::Code;
+pub use dict::Dict;
+pub use dicts::Dicts;
