@@ -56,13 +56,13 @@ pub reads_more : (one : (text : List ℕ) (a b : Statement) → Spells text a �
     → after ≡ statements ++ added → AreStatements d (piece_alone piece) added → Reads d script rest after
 reads_more one d script left piece rest statements added after so_far cut is of_piece = record {
   to = λ more h.
-    let whole = so_far.to (added ++ more) (subst (λ parts. AreStatements d parts (added ++ more)) (sym cut) (statements_append d (piece_alone piece) (pieces rest) added more of_piece h)) in
-    subst (λ all. AreStatements d (pieces script) all) (sym (append_assoc statements added more) ∙ ap (λ front. front ++ more) (sym is)) whole;
+      let whole = so_far.to (added ++ more) (subst (λ parts. AreStatements d parts (added ++ more)) (sym cut) (statements_append d (piece_alone piece) (pieces rest) added more of_piece h)) in
+      subst (λ all. AreStatements d (pieces script) all) (sym (append_assoc statements added more) ∙ ap (λ front. front ++ more) (sym is)) whole;
   from = λ all h.
-    let f = so_far.from all h in
-    let p = statements_parted d (piece_alone piece) (pieces rest) f.0 (subst (λ parts. AreStatements d parts f.0) cut f.2) in
-    let same : p.first ≡ added = statements_one one d (piece_alone piece) p.first added p.of_first of_piece in
-    (p.second, f.1 ∙ ap (λ m. statements ++ m) (p.whole ∙ ap (λ front. front ++ p.second) same) ∙ sym (append_assoc statements added p.second) ∙ ap (λ front. front ++ p.second) (sym is), p.of_second);
+      let f = so_far.from all h in
+      let p = statements_parted d (piece_alone piece) (pieces rest) f.0 (subst (λ parts. AreStatements d parts f.0) cut f.2) in
+      let same : p.first ≡ added = statements_one one d (piece_alone piece) p.first added p.of_first of_piece in
+      (p.second, f.1 ∙ ap (λ m. statements ++ m) (p.whole ∙ ap (λ front. front ++ p.second) same) ∙ sym (append_assoc statements added p.second) ∙ ap (λ front. front ++ p.second) (sym is), p.of_second);
 }
 
 pub reads_refused : (d : Decl) (script left piece rest : List ℕ) (statements : List Statement) → Reads d script left statements → pieces left ≡ piece_alone piece ++ pieces rest

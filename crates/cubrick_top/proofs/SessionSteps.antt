@@ -63,10 +63,10 @@ unseen n (t ∷ ts) h =
 pub visible_front : (n : ℕ) (a b : List Transaction) → AllByRecursion (λ t. n < t.epoch) b → visible (reader_at n) (a ++ b) ≡ visible (reader_at n) a
 visible_front n a b h =
     ap remaining (
-        ap (filter (λ step. sees (reader_at n) step.epoch)) (flat_map-append steps_of a b)
-        ∙ filter-append (λ step. sees (reader_at n) step.epoch) (flat_map steps_of a) (flat_map steps_of b)
-        ∙ ap (λ steps. filter (λ step. sees (reader_at n) step.epoch) (flat_map steps_of a) ++ steps) (unseen n b h)
-        ∙ append-nil (filter (λ step. sees (reader_at n) step.epoch) (flat_map steps_of a))
+    ap (filter (λ step. sees (reader_at n) step.epoch)) (flat_map-append steps_of a b)
+    ∙ filter-append (λ step. sees (reader_at n) step.epoch) (flat_map steps_of a) (flat_map steps_of b)
+    ∙ ap (λ steps. filter (λ step. sees (reader_at n) step.epoch) (flat_map steps_of a) ++ steps) (unseen n b h)
+    ∙ append-nil (filter (λ step. sees (reader_at n) step.epoch) (flat_map steps_of a))
     )
 
 -- ---- one statement more
@@ -102,18 +102,18 @@ progress_more d statements s rest done transactions after out more p a m =
     let n = length transactions in
     let later : length after ≡ n + inserts_of s = ap length a ∙ length-append transactions (transactions_from d n (s ∷ [])) ∙ ap (λ k. n + k) (length_first d n s) in
     let same_reply : reply_to d (transactions_from d 0 statements) n s ≡ reply_to d transactions n s =
-        ap (λ ts. reply_to d ts n s) (sym p.all) ∙ reply_front d n transactions (transactions_from d n (s ∷ rest)) s (transactions_above d n (s ∷ rest)) in
+    ap (λ ts. reply_to d ts n s) (sym p.all) ∙ reply_front d n transactions (transactions_from d n (s ∷ rest)) s (transactions_above d n (s ∷ rest)) in
     record {
       all =
-        (λ i. a i ++ transactions_from d (later i) rest)
-        ∙ append_assoc transactions (transactions_from d n (s ∷ [])) (transactions_from d (n + inserts_of s) rest)
-        ∙ ap (λ ts. transactions ++ ts) (sym (first_then d n s rest))
-        ∙ p.all;
+          (λ i. a i ++ transactions_from d (later i) rest)
+          ∙ append_assoc transactions (transactions_from d n (s ∷ [])) (transactions_from d (n + inserts_of s) rest)
+          ∙ ap (λ ts. transactions ++ ts) (sym (first_then d n s rest))
+          ∙ p.all;
       text =
-        (λ i. m i ++ replies_from d (transactions_from d 0 statements) (done + 1 + 1) (later i) rest)
-        ∙ append_assoc out (numbered 1 (done + 1) (reply_to d transactions n s)) (replies_from d (transactions_from d 0 statements) (done + 1 + 1) (n + inserts_of s) rest)
-        ∙ ap (λ r. out ++ (numbered 1 (done + 1) r ++ replies_from d (transactions_from d 0 statements) (done + 1 + 1) (n + inserts_of s) rest)) (sym same_reply)
-        ∙ p.text;
+          (λ i. m i ++ replies_from d (transactions_from d 0 statements) (done + 1 + 1) (later i) rest)
+          ∙ append_assoc out (numbered 1 (done + 1) (reply_to d transactions n s)) (replies_from d (transactions_from d 0 statements) (done + 1 + 1) (n + inserts_of s) rest)
+          ∙ ap (λ r. out ++ (numbered 1 (done + 1) r ++ replies_from d (transactions_from d 0 statements) (done + 1 + 1) (n + inserts_of s) rest)) (sym same_reply)
+          ∙ p.text;
       inserts = omega (arith, later, p.inserts);
       count = omega (arith, p.count);
       runs = p.runs.1;
@@ -125,14 +125,14 @@ pub progress_at : (d : Decl) (statements : List Statement) (s : Statement) (done
     → Progress d statements (drop (done + 1) statements) (done + 1) after more
 progress_at d statements s done transactions after out more lt is p a m =
     let cut : drop done statements ≡ s ∷ drop (done + 1) statements =
-        drop-cons statements done s lt ∙ (λ i. sym is i ∷ drop (sym (add-one done) i) statements) in
+    drop-cons statements done s lt ∙ (λ i. sym is i ∷ drop (sym (add-one done) i) statements) in
     let at : Progress d statements (s ∷ drop (done + 1) statements) done transactions out = subst (λ left. Progress d statements left done transactions out) cut p in
     progress_more d statements s (drop (done + 1) statements) done transactions after out more at a m
 
 pub runs_at : (d : Decl) (statements : List Statement) (s : Statement) (done : ℕ) (transactions : List Transaction) (out : List ℕ) → done < length statements → s ≡ get_or statements done s → Progress d statements (drop done statements) done transactions out → runs_on d s ≡ true
 runs_at d statements s done transactions out lt is p =
     let cut : drop done statements ≡ s ∷ drop (done + 1) statements =
-        drop-cons statements done s lt ∙ (λ i. sym is i ∷ drop (sym (add-one done) i) statements) in
+    drop-cons statements done s lt ∙ (λ i. sym is i ∷ drop (sym (add-one done) i) statements) in
     let at : AllByRecursion (λ s. runs_on d s ≡ true) (s ∷ drop (done + 1) statements) = subst (λ left. AllByRecursion (λ s. runs_on d s ≡ true) left) cut p.runs in
     at.0
 

@@ -48,7 +48,12 @@ pub fn read_cubes<H: Shelf>(alloc: Global, shelf: &mut H, name: &str) -> Result<
 
 /// The statements of the script of this name, which all run on the cube. A fault of the file is a
 /// fault of the run.
-pub fn read_script<H: Shelf>(alloc: Global, shelf: &mut H, decl: &Decl, name: &str) -> Result<Vec<Statement>, Fault>
+pub fn read_script<H: Shelf>(
+    alloc: Global,
+    shelf: &mut H,
+    decl: &Decl,
+    name: &str,
+) -> Result<Vec<Statement>, Fault>
     ensures same { H.told shelf.new ≡ H.told shelf.old }
     ensures absences { AbsenceCounted (fault_in result) (H.absence_count shelf.old) (H.absence_count shelf.new) }
     ensures faults { ReadFaultCounted (fault_in result) (H.fault_count shelf.old) (H.fault_count shelf.new) }

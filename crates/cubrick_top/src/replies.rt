@@ -130,7 +130,12 @@ fn push_reply_text(out: &mut Vec<u8>, reply: &Reply) -> Result<(), AllocError>
 }
 
 /// Appends the reply to a statement of a session, behind both numbers.
-pub fn push_reply(out: &mut Vec<u8>, session: u64, statement: u64, reply: &Reply) -> Result<(), AllocError>
+pub fn push_reply(
+    out: &mut Vec<u8>,
+    session: u64,
+    statement: u64,
+    reply: &Reply,
+) -> Result<(), AllocError>
     ensures { OnOk result (out.new.items ≡ out.old.items ++ numbered session statement reply.now) }
 {
     push_number(out, session)?;

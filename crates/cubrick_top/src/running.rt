@@ -37,7 +37,13 @@ pub fn finish(fault: Option<Fault>) -> Finish
 }
 
 // Runs the script of this name over the cubes file of that name, and writes the text.
-fn run_files<H: Shelf, K: Sink>(alloc: Global, cubes: &str, script: &str, shelf: &mut H, sink: &mut K) -> Option<Fault>
+fn run_files<H: Shelf, K: Sink>(
+    alloc: Global,
+    cubes: &str,
+    script: &str,
+    shelf: &mut H,
+    sink: &mut K,
+) -> Option<Fault>
     ensures same { H.told shelf.new ≡ H.told shelf.old }
     ensures absences { AbsenceCounted result (H.absence_count shelf.old) (H.absence_count shelf.new) }
     ensures faults { ReadFaultCounted result (H.fault_count shelf.old) (H.fault_count shelf.new) }
@@ -62,7 +68,13 @@ fn run_files<H: Shelf, K: Sink>(alloc: Global, cubes: &str, script: &str, shelf:
 }
 
 // The same, with the status.
-fn finish_files<H: Shelf, K: Sink>(alloc: Global, cubes: &str, script: &str, shelf: &mut H, sink: &mut K) -> Finish
+fn finish_files<H: Shelf, K: Sink>(
+    alloc: Global,
+    cubes: &str,
+    script: &str,
+    shelf: &mut H,
+    sink: &mut K,
+) -> Finish
     ensures status { result.status ≡ status_of result.fault }
     ensures not_words { result.fault ≢ Some Words }
     ensures same { H.told shelf.new ≡ H.told shelf.old }
@@ -85,7 +97,12 @@ fn finish_files<H: Shelf, K: Sink>(alloc: Global, cubes: &str, script: &str, she
 /// The status and the fault of the answer belong together ([`Fault`]). Without a fault the sink gained the
 /// whole text; after an output fault it gained a front of it, and after every other fault nothing. Want of
 /// memory may be answered at any time.
-pub fn run<H: Shelf, K: Sink>(alloc: Global, words: &[String], shelf: &mut H, sink: &mut K) -> Finish
+pub fn run<H: Shelf, K: Sink>(
+    alloc: Global,
+    words: &[String],
+    shelf: &mut H,
+    sink: &mut K,
+) -> Finish
     ensures status { result.status ≡ status_of result.fault }
     ensures words { result.fault ≡ Some Words ↔ length words.now ≢ 2 }
 

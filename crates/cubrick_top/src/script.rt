@@ -79,7 +79,12 @@ fn first_piece(script: &[u8]) -> (&[u8], &[u8])
 }
 
 // Adds the statement of a piece, or none for a blank piece, and answers whether that could be done.
-fn add_statement(alloc: Global, decl: &Decl, piece: &[u8], statements: &mut Vec<Statement>) -> Result<bool, AllocError>
+fn add_statement(
+    alloc: Global,
+    decl: &Decl,
+    piece: &[u8],
+    statements: &mut Vec<Statement>,
+) -> Result<bool, AllocError>
     ensures added { IfOk result (λ done. done ≡ true → (added : List Said) × (statements.new.items ≡ statements.old.items ++ added) × AreStatements decl.now (piece_alone piece.now) added) }
     ensures refused { IfOk result (λ done. done ≡ false → (all : List Said) → AreStatements decl.now (piece_alone piece.now) all → ⊥) }
 {
@@ -101,7 +106,11 @@ fn add_statement(alloc: Global, decl: &Decl, piece: &[u8], statements: &mut Vec<
 
 /// The statements of the pieces of a script, which all run on the cube, or None where there are none
 /// such.
-pub fn statements_of(alloc: Global, decl: &Decl, script: &[u8]) -> Result<Option<Vec<Statement>>, AllocError>
+pub fn statements_of(
+    alloc: Global,
+    decl: &Decl,
+    script: &[u8],
+) -> Result<Option<Vec<Statement>>, AllocError>
     ensures found { IfOk result (λ found. IfSome found (λ v. AreStatements decl.now (pieces script.now) v.items)) }
     ensures none { IfOk result (λ found. IfNone found ((all : List Said) → AreStatements decl.now (pieces script.now) all → ⊥)) }
 {

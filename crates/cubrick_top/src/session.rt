@@ -23,7 +23,12 @@ fn next_epoch(transactions: &[Transaction]) -> Result<u64, AllocError>
     Ok(count + 1)
 }
 
-fn sum_reply(alloc: Global, decl: &Decl, transactions: &[Transaction], metric: &Text) -> Result<Reply, AllocError>
+fn sum_reply(
+    alloc: Global,
+    decl: &Decl,
+    transactions: &[Transaction],
+    metric: &Text,
+) -> Result<Reply, AllocError>
     requires metrics { length decl.now.metrics ≤ 16 }
     requires rises { RisesByEpoch transactions.now }
     ensures { IfOk result (λ r. r ≡ sum_reply decl.now transactions.now (length transactions.now) metric.now) }

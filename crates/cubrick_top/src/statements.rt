@@ -55,9 +55,11 @@ pub fn runs_on(decl: &Decl, statement: &Statement) -> bool
 {
     match statement {
         Statement::Insert { cube, values } => {
-            *cube == decl.name && fits_row(decl.dims.as_slice(), decl.metrics.len(), values.as_slice())
+            *cube == decl.name
+                && fits_row(decl.dims.as_slice(), decl.metrics.len(), values.as_slice())
         }
-        Statement::SelectSum { metric, cube } => *cube == decl.name && is_metric(decl.metrics.as_slice(), metric),
+        Statement::SelectSum { metric, cube } => *cube == decl.name
+            && is_metric(decl.metrics.as_slice(), metric),
     }
 }
 
@@ -68,7 +70,12 @@ fn numbers(alloc: Global, values: &[i64]) -> Result<Vec<Value>, AllocError>
 }
 
 /// The transaction of an INSERT of values that fit the cube.
-pub fn insert_at(alloc: Global, decl: &Decl, epoch: u64, values: &[i64]) -> Result<Transaction, AllocError>
+pub fn insert_at(
+    alloc: Global,
+    decl: &Decl,
+    epoch: u64,
+    values: &[i64],
+) -> Result<Transaction, AllocError>
     requires { length decl.now.dims ≤ length values.now }
     ensures { IfOk result (λ t. t ≡ insert_at decl.now epoch values.now) }
 {

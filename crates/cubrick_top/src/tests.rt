@@ -7,7 +7,8 @@ use std::test::Fail;
 
 const CUBES: &str = "cube t\ndim x int 5 2\nmetric m\n";
 
-const SCRIPT: &str = "INSERT INTO t VALUES (4,7); INSERT INTO t VALUES (0,-2); SELECT SUM(m) FROM t;";
+const SCRIPT: &str =
+    "INSERT INTO t VALUES (4,7); INSERT INTO t VALUES (0,-2); SELECT SUM(m) FROM t;";
 
 fn strings(alloc: Global, texts: &[&str]) -> Result<Vec<String>, AllocError> {
     let mut strings = Vec::new(alloc);
@@ -22,15 +23,31 @@ fn numbers(alloc: Global, numbers: &[u64]) -> Result<Vec<u64>, AllocError> {
 }
 
 // A shelf with the cubes file c and the script s.
-fn shelf(alloc: Global, cubes: &str, script: &[u8], failing: &[u64]) -> Result<ShelfMemory, AllocError> {
+fn shelf(
+    alloc: Global,
+    cubes: &str,
+    script: &[u8],
+    failing: &[u64],
+) -> Result<ShelfMemory, AllocError> {
     let mut files = Vec::new(alloc);
-    files.push((String::from_str(alloc, "c")?, Vec::from_slice(alloc, cubes.as_bytes())?))?;
-    files.push((String::from_str(alloc, "s")?, Vec::from_slice(alloc, script)?))?;
+    files.push((
+        String::from_str(alloc, "c")?,
+        Vec::from_slice(alloc, cubes.as_bytes())?,
+    ))?;
+    files.push((
+        String::from_str(alloc, "s")?,
+        Vec::from_slice(alloc, script)?,
+    ))?;
     Ok(ShelfMemory::new(files, numbers(alloc, failing)?))
 }
 
 // What a run of these words writes, with its status and the text of its fault.
-fn outcome(alloc: Global, words: &[&str], shelf: &mut ShelfMemory, sink: &mut SinkMemory) -> Result<(u8, String), AllocError> {
+fn outcome(
+    alloc: Global,
+    words: &[&str],
+    shelf: &mut ShelfMemory,
+    sink: &mut SinkMemory,
+) -> Result<(u8, String), AllocError> {
     let words = strings(alloc, words)?;
     let finish = run(alloc, words.as_slice(), shelf, sink);
     let text = match &finish.fault {
@@ -46,8 +63,14 @@ fn scripts_are_answered(rt: HostRuntime) -> Result<(), Fail> {
     for (script, wanted) in [
         ("", "session 1\nend ec 1 lce 0 lse 0\n"),
         (" \t\r\n;;", "session 1\nend ec 1 lce 0 lse 0\n"),
-        (SCRIPT, "session 1\n1.1 stored 1 epoch 1\n1.2 stored 1 epoch 2\n1.3 rows 1 epoch 2\n5\nend ec 3 lce 2 lse 0\n"),
-        ("SELECT SUM(m) FROM t;", "session 1\n1.1 rows 1 epoch 0\nNULL\nend ec 1 lce 0 lse 0\n"),
+        (
+            SCRIPT,
+            "session 1\n1.1 stored 1 epoch 1\n1.2 stored 1 epoch 2\n1.3 rows 1 epoch 2\n5\nend ec 3 lce 2 lse 0\n",
+        ),
+        (
+            "SELECT SUM(m) FROM t;",
+            "session 1\n1.1 rows 1 epoch 0\nNULL\nend ec 1 lce 0 lse 0\n",
+        ),
         (
             "insert into t values(4,7);select sum(m)from t;insert into t values(4,-8);SELECT SUM(m) FROM t",
             "session 1\n1.1 stored 1 epoch 1\n1.2 rows 1 epoch 1\n7\n1.3 stored 1 epoch 2\n1.4 rows 1 epoch 2\n-1\nend ec 3 lce 2 lse 0\n",
@@ -71,8 +94,16 @@ fn what_is_not_built_is_said(rt: HostRuntime) -> Result<(), Fail> {
     let alloc = rt.alloc();
     for (cubes, script, wanted) in [
         ("", SCRIPT, "not built: cubes"),
-        ("cube t\ndim x int 5 6\nmetric m\n", SCRIPT, "not built: cubes"),
-        ("cube t\ndim x text 5 2\nmetric m\n", SCRIPT, "not built: cubes"),
+        (
+            "cube t\ndim x int 5 6\nmetric m\n",
+            SCRIPT,
+            "not built: cubes",
+        ),
+        (
+            "cube t\ndim x text 5 2\nmetric m\n",
+            SCRIPT,
+            "not built: cubes",
+        ),
         ("cube t\ndim x int 5 2\nmetric m", "#", "not built: cubes"),
         (CUBES, "#", "not built: script"),
         (CUBES, "INSERT INTO t VALUES (5,1)", "not built: script"),
@@ -103,11 +134,28 @@ fn faults_of_words_files_and_output(rt: HostRuntime) -> Result<(), Fail> {
     let none: &[u64] = &[];
     let first: &[u64] = &[0];
     let third: &[u64] = &[2];
-    let text = "session 1\n1.1 stored 1 epoch 1\n1.2 stored 1 epoch 2\n1.3 rows 1 epoch 2\n5\nend ec 3 lce 2 lse 0\n";
+    let text =
+        "session 1\n1.1 stored 1 epoch 1\n1.2 stored 1 epoch 2\n1.3 rows 1 epoch 2\n5\nend ec 3 lce 2 lse 0\n";
     let two: &[&str] = &["c", "s"];
     for (place, (words, failing, room, sink_failing, status, wanted, gained)) in [
-        (&["c"] as &[&str], none, 1000, none, 2, b"usage: cubrick CUBES SCRIPT" as &[u8], 0),
-        (&["c", "s", "s"], none, 1000, none, 2, b"usage: cubrick CUBES SCRIPT", 0),
+        (
+            &["c"] as &[&str],
+            none,
+            1000,
+            none,
+            2,
+            b"usage: cubrick CUBES SCRIPT" as &[u8],
+            0,
+        ),
+        (
+            &["c", "s", "s"],
+            none,
+            1000,
+            none,
+            2,
+            b"usage: cubrick CUBES SCRIPT",
+            0,
+        ),
         (&["d", "s"], none, 1000, none, 3, b"no file d", 0),
         (&["c", "d"], none, 1000, none, 3, b"no file d", 0),
         (&["s", "d"], none, 1000, none, 4, b"not built: cubes", 0),
