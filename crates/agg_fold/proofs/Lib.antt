@@ -1,0 +1,12 @@
+pub mod Kept
+pub mod Lists
+pub mod Places
+pub mod Chunks
+pub mod Standing
+pub mod Quotients
+pub mod Order
+pub mod Parted
+pub mod Lines
+pub mod Runs
+pub mod RunLines
+pub mod NamedGroups

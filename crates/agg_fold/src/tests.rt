@@ -1,0 +1,471 @@
+//! Worked rows, extreme numbers, and many rows made from a seed against a plain fold.
+
+ghost use Rattle.std.specs.Prelude.{◌≡◌, ◌<◌, ◌≤◌, ◌+◌, ◌^◌, IsTrue, List, All, length, IfOk};
+ghost use Rattle.cube_values.specs.Queries.{IsSoundItem, IsSoundQuery};
+ghost use Rattle.cube_values.specs.declared.row.CodedRow.{CodedRow};
+ghost use Rattle.agg_fold.specs.Partials.{StandsFor};
+
+use crate::Partial;
+use cube_values::{
+    BoundItem, BoundItems, BoundQuery, Coords, Field, Line, NameLists, Part, Parts, Span, Table,
+    Text, TextLists, Texts,
+};
+use std::alloc::{AllocError, Global};
+use std::test::Fail;
+
+/// A row of at most three coordinates and one metric.
+#[derive(Clone, Copy, Debug)]
+struct Made {
+    coords: [u32; 3],
+    metric: i64,
+}
+
+fn is_sound_item(group: &[u32], metrics: usize, item: BoundItem) -> bool
+    ensures { IsTrue result → IsSoundItem group.now metrics item }
+{
+    match item {
+        BoundItem::Group(dim) => group.contains(&dim),
+        BoundItem::Count => true,
+        BoundItem::Sum(metric) => (metric as usize) < metrics,
+        BoundItem::Min(metric) => (metric as usize) < metrics,
+        BoundItem::Max(metric) => (metric as usize) < metrics,
+        BoundItem::Avg(metric) => (metric as usize) < metrics,
+    }
+}
+
+fn all_below(group: &[u32], dims: usize) -> bool
+    ensures { IsTrue result → All (λ dim. dim < dims) group.now }
+{
+    'dims: for dim in group {
+        if *dim as usize >= dims {
+            return false;
+        }
+    }
+    true
+}
+
+fn all_sound(items: &[BoundItem], group: &[u32], metrics: usize) -> bool
+    ensures { IsTrue result → All (IsSoundItem group.now metrics) items.now }
+{
+    'items: for item in items {
+        if !is_sound_item(group, metrics, *item) {
+            return false;
+        }
+    }
+    true
+}
+
+fn is_sound(query: &BoundQuery, dims: usize, metrics: usize) -> bool
+    ensures { IsTrue result → IsSoundQuery query.now dims metrics }
+{
+    if query.span.parts.len() != dims {
+        return false;
+    }
+    if !all_below(query.group.as_slice(), dims) {
+        return false;
+    }
+    all_sound(query.items.as_slice(), query.group.as_slice(), metrics)
+}
+
+/// A partial of the rows from one place on, each `step` further.
+fn fold(
+    alloc: Global,
+    query: &BoundQuery,
+    rows: &[Made],
+    from: usize,
+    step: usize,
+) -> Result<Partial, AllocError>
+    requires { length rows.now < 2 ^ 40 }
+    ensures { IfOk result (λ p. (rs : List CodedRow) × StandsFor query.now rs p × (length rs ≤ length rows.now)) }
+{
+    let mut partial = Partial::new(alloc);
+    'rows: for i in 0..rows.len() {
+        let row = rows[i];
+        if step == 0 || i % step != from {
+            continue;
+        }
+        let coords = row.coords;
+        let metrics = [row.metric];
+        if !is_sound(query, coords.len(), metrics.len()) || !query.span.has(&coords) {
+            continue;
+        }
+        partial.add_row(query, &coords, &metrics)?;
+    }
+    Ok(partial)
+}
+
+/// Three partials, each of every third row, merged with the last first.
+fn fold_in_three(alloc: Global, query: &BoundQuery, rows: &[Made]) -> Result<Partial, AllocError>
+    requires { length rows.now < 2 ^ 40 }
+    ensures { IfOk result (λ p. (rs : List CodedRow) × StandsFor query.now rs p) }
+{
+    let mut total = fold(alloc, query, rows, 2, 3)?;
+    let first = fold(alloc, query, rows, 0, 3)?;
+    let second = fold(alloc, query, rows, 1, 3)?;
+    total.merge(query, &first)?;
+    total.merge(query, &second)?;
+    Ok(total)
+}
+
+fn query(alloc: Global, group: &[u32], items: &[BoundItem]) -> Result<BoundQuery, AllocError> {
+    Ok(BoundQuery {
+        cube: 0,
+        span: Span {
+            parts: Parts::from_vec(vec![in alloc; Part::All, Part::All, Part::All]?),
+        },
+        group: Coords::from_vec(Vec::from_slice(alloc, group)?),
+        items: BoundItems::from_vec(Vec::from_slice(alloc, items)?),
+    })
+}
+
+/// The texts of the first dimension; the others have numbers.
+fn names(alloc: Global, texts: &[&str]) -> Result<NameLists, AllocError> {
+    let mut list = Texts::new(alloc);
+    for text in texts {
+        list.push(Text::new(alloc, *text)?)?;
+    }
+    let mut lists = TextLists::new(alloc);
+    lists.push(list)?;
+    let mut all = NameLists::new(alloc);
+    all.push(lists)?;
+    Ok(all)
+}
+
+fn text(alloc: Global, text: &str) -> Result<Field, AllocError> {
+    Ok(Field::Text(Text::new(alloc, text)?))
+}
+
+/// The table of rows, folded in one partial, and in three that are merged.
+fn tables(
+    alloc: Global,
+    query: &BoundQuery,
+    names: &NameLists,
+    rows: &[Made],
+) -> Result<(Table, Table), AllocError>
+    requires { length rows.now < 2 ^ 40 }
+{
+    let one = fold(alloc, query, rows, 0, 1)?.finish(query, names)?;
+    let three = fold_in_three(alloc, query, rows)?.finish(query, names)?;
+    Ok((one, three))
+}
+
+fn table(alloc: Global, lines: Vec<Vec<Field>>) -> Result<Table, AllocError> {
+    let mut table = Table::new(alloc);
+    for line in lines {
+        table.push(Line::from_vec(line))?;
+    }
+    Ok(table)
+}
+
+const fn row(coord: u32, metric: i64) -> Made {
+    Made {
+        coords: [coord, 0, 0],
+        metric,
+    }
+}
+
+#[test]
+fn whole_sums(rt: HostRuntime) -> Result<(), Fail> {
+    let alloc = rt.alloc();
+    let names = names(alloc, &[])?;
+    let items = [
+        BoundItem::Sum(0),
+        BoundItem::Avg(0),
+        BoundItem::Min(0),
+        BoundItem::Max(0),
+        BoundItem::Count,
+    ];
+    let query = query(alloc, &[], &items)?;
+    let largest = [row(0, i64::MAX), row(1, i64::MAX), row(1, i64::MAX)];
+    let least = [row(0, i64::MIN), row(0, i64::MIN)];
+    let half = [row(0, -1), row(4, 0)];
+    let (one, three) = tables(alloc, &query, &names, &largest)?;
+    let wanted = table(
+        alloc,
+        vec![in alloc;
+            vec![in alloc;
+                Field::Whole(27670116110564327421),
+                Field::Decimal {
+                    neg: false,
+                    whole: 9223372036854775807,
+                    four: 0
+                },
+                Field::Whole(9223372036854775807),
+                Field::Whole(9223372036854775807),
+                Field::Whole(3)
+            ]?,
+        ]?,
+    )?;
+    assert!(rt; one == wanted && three == wanted, "three times the largest");
+    let (one, three) = tables(alloc, &query, &names, &least)?;
+    let wanted = table(
+        alloc,
+        vec![in alloc;
+            vec![in alloc;
+                Field::Whole(-18446744073709551616),
+                Field::Decimal {
+                    neg: true,
+                    whole: 9223372036854775808,
+                    four: 0
+                },
+                Field::Whole(-9223372036854775808),
+                Field::Whole(-9223372036854775808),
+                Field::Whole(2)
+            ]?,
+        ]?,
+    )?;
+    assert!(rt; one == wanted && three == wanted, "twice the least");
+    let (one, three) = tables(alloc, &query, &names, &half)?;
+    let wanted = table(
+        alloc,
+        vec![in alloc;
+            vec![in alloc;
+                Field::Whole(-1),
+                Field::Decimal {
+                    neg: true,
+                    whole: 0,
+                    four: 5000
+                },
+                Field::Whole(-1),
+                Field::Whole(0),
+                Field::Whole(2)
+            ]?,
+        ]?,
+    )?;
+    assert!(rt; one == wanted && three == wanted, "minus a half");
+    Ok(())
+}
+
+#[test]
+fn merged_partials(rt: HostRuntime) -> Result<(), Fail> {
+    let alloc = rt.alloc();
+    let names = names(alloc, &["NY", "CA", "CA"])?;
+    let items = [BoundItem::Group(0), BoundItem::Sum(0), BoundItem::Min(0)];
+    let rows = [row(1, 3), row(1, 5), row(0, 1)];
+    let wanted = table(
+        alloc,
+        vec![in alloc;
+            vec![in alloc; text(alloc, "CA")?, Field::Whole(8), Field::Whole(3)]?,
+            vec![in alloc; text(alloc, "NY")?, Field::Whole(1), Field::Whole(1)]?,
+        ]?,
+    )?;
+    let (one, three) = tables(alloc, &query(alloc, &[0], &items)?, &names, &rows)?;
+    assert!(rt; one == wanted && three == wanted, "by text");
+    // two coordinates with one text are one group
+    let rows = [row(1, 3), row(2, 5), row(0, 1)];
+    let (one, three) = tables(alloc, &query(alloc, &[0], &items)?, &names, &rows)?;
+    assert!(rt; one == wanted && three == wanted, "one text twice");
+    let counted = fold(alloc, &query(alloc, &[0], &items)?, &rows, 0, 1)?.rows();
+    assert_eq!(rt; counted, 3);
+    Ok(())
+}
+
+#[test]
+fn no_rows(rt: HostRuntime) -> Result<(), Fail> {
+    let alloc = rt.alloc();
+    let names = names(alloc, &[])?;
+    let items = [
+        BoundItem::Sum(0),
+        BoundItem::Min(0),
+        BoundItem::Max(0),
+        BoundItem::Avg(0),
+        BoundItem::Count,
+    ];
+    let wanted = table(
+        alloc,
+        vec![in alloc;
+            vec![in alloc;
+                Field::Null,
+                Field::Null,
+                Field::Null,
+                Field::Null,
+                Field::Whole(0)
+            ]?,
+        ]?,
+    )?;
+    let (one, three) = tables(alloc, &query(alloc, &[], &items)?, &names, &[])?;
+    assert!(rt; one == wanted && three == wanted, "one line");
+    let (one, three) = tables(alloc, &query(alloc, &[1], &items)?, &names, &[])?;
+    assert!(rt; one.is_empty() && three.is_empty(), "no line");
+    Ok(())
+}
+
+/// A group of the plain fold, by its key.
+#[derive(Clone, Copy, Debug)]
+struct Plain {
+    key: [u32; 3],
+    count: u64,
+    sum: i128,
+    least: i64,
+    greatest: i64,
+}
+
+/// The key of a row: its coordinates in the first `columns` dimensions, 0 in the others. The first one is
+/// turned round, since its texts fall as the coordinates rise.
+fn plain_key(row: Made, columns: usize) -> [u32; 3] {
+    let mut key = [0u32; 3];
+    for i in 0..3 {
+        if i < columns {
+            key[i] = if i == 0 {
+                4u32.wrapping_sub(row.coords[i])
+            } else {
+                row.coords[i]
+            };
+        }
+    }
+    key
+}
+
+fn plain_fold(alloc: Global, rows: &[Made], columns: usize) -> Result<Vec<Plain>, AllocError> {
+    let mut groups: Vec<Plain> = Vec::new(alloc);
+    for row in rows {
+        let key = plain_key(*row, columns);
+        let mut is_new = true;
+        for group in groups.iter_mut() {
+            if group.key == key {
+                is_new = false;
+                group.count = group.count.wrapping_add(1);
+                group.sum = group.sum.wrapping_add(i128::from(row.metric));
+                if row.metric < group.least {
+                    group.least = row.metric;
+                }
+                if row.metric > group.greatest {
+                    group.greatest = row.metric;
+                }
+            }
+        }
+        if is_new {
+            groups.push(Plain {
+                key,
+                count: 1,
+                sum: i128::from(row.metric),
+                least: row.metric,
+                greatest: row.metric,
+            })?;
+        }
+    }
+    groups.sort_by(|a, b| a.key.cmp(&b.key))?;
+    Ok(groups)
+}
+
+/// The average in ten-thousandths, cut toward zero.
+fn plain_average(group: &Plain) -> Field {
+    let count = i128::from(group.count);
+    let cut = if count > 0 {
+        group.sum.wrapping_mul(10_000).unsigned_abs() / count.unsigned_abs()
+    } else {
+        0
+    };
+    Field::Decimal {
+        neg: group.sum < 0 && cut > 0,
+        whole: cut / 10_000,
+        four: (cut % 10_000) as u16,
+    }
+}
+
+fn plain_table(alloc: Global, groups: &[Plain], columns: usize) -> Result<Table, AllocError> {
+    let texts = ["v", "w", "x", "y", "z"];
+    let mut lines = Vec::new(alloc);
+    for group in groups {
+        let mut line = Vec::new(alloc);
+        for i in 0..3 {
+            if i < columns && i == 0 {
+                let place = group.key[0] as usize;
+                line.push(text(alloc, if place < 5 { texts[place] } else { "" })?)?;
+            } else if i < columns {
+                line.push(Field::Whole(i128::from(group.key[i])))?;
+            }
+        }
+        line.push(Field::Whole(i128::from(group.count)))?;
+        line.push(Field::Whole(group.sum))?;
+        line.push(Field::Whole(i128::from(group.least)))?;
+        line.push(Field::Whole(i128::from(group.greatest)))?;
+        line.push(plain_average(group))?;
+        lines.push(line)?;
+    }
+    table(alloc, lines)
+}
+
+/// Rows from a seed: coordinates below 5, 4 and 3, and metrics of both signs.
+fn made_rows(alloc: Global, count: usize) -> Result<Vec<Made>, AllocError> {
+    let mut rows = Vec::new(alloc);
+    let mut seed: u64 = 20260727;
+    for _ in 0..count {
+        seed = seed
+            .wrapping_mul(6364136223846793005)
+            .wrapping_add(1442695040888963407);
+        let bits = seed >> 20;
+        rows.push(Made {
+            coords: [
+                (bits % 5) as u32,
+                (bits / 5 % 4) as u32,
+                (bits / 20 % 3) as u32,
+            ],
+            metric: (bits / 60 % 2001) as i64 - 1000,
+        })?;
+    }
+    Ok(rows)
+}
+
+#[test]
+fn many_rows_as_by_the_plain_fold(rt: HostRuntime) -> Result<(), Fail> {
+    let alloc = rt.alloc();
+    let names = names(alloc, &["z", "y", "x", "w", "v"])?;
+    let items = [
+        BoundItem::Group(0),
+        BoundItem::Group(1),
+        BoundItem::Group(2),
+        BoundItem::Count,
+        BoundItem::Sum(0),
+        BoundItem::Min(0),
+        BoundItem::Max(0),
+        BoundItem::Avg(0),
+    ];
+    let rows = made_rows(alloc, 5000)?;
+    assert_eq!(rt; rows.len(), 5000);
+    for columns in 0..4usize {
+        let mut chosen = Vec::new(alloc);
+        for (i, item) in items.iter().enumerate() {
+            if i < columns || i >= 3 {
+                chosen.push(*item)?;
+            }
+        }
+        let mut group = Vec::new(alloc);
+        for dim in 0..3u32 {
+            if (dim as usize) < columns {
+                group.push(dim)?;
+            }
+        }
+        let query = query(alloc, group.as_slice(), chosen.as_slice())?;
+        let groups = plain_fold(alloc, rows.as_slice(), columns)?;
+        let wanted = plain_table(alloc, groups.as_slice(), columns)?;
+        let (one, three) = tables(alloc, &query, &names, rows.as_slice())?;
+        assert!(rt; one == wanted, "one partial by {columns} columns");
+        assert!(rt; three == wanted, "three partials by {columns} columns");
+    }
+    let mut minus = Vec::new(alloc);
+    for i in 0..100_000usize {
+        minus.push(row(0, if i == 7 { -1 } else { 0 }))?;
+    }
+    assert_eq!(rt; minus.len(), 100_000);
+    let query = query(alloc, &[], &[BoundItem::Sum(0), BoundItem::Avg(0)])?;
+    let (one, three) = tables(alloc, &query, &names, minus.as_slice())?;
+    let wanted = table(
+        alloc,
+        vec![in alloc;
+            vec![in alloc;
+                Field::Whole(-1),
+                Field::Decimal {
+                    neg: false,
+                    whole: 0,
+                    four: 0
+                }
+            ]?,
+        ]?,
+    )?;
+    assert!(rt;
+        one == wanted && three == wanted,
+        "a sum of -1 over 100,000 rows"
+    );
+    Ok(())
+}

@@ -1,0 +1,4 @@
+pub mod Ends
+pub mod SameRows
+pub mod VisibleRows
+pub mod WhatStays

@@ -1,0 +1,4 @@
+pub mod Changed
+pub mod Entries
+pub mod Seen
+pub mod Without
