@@ -4,3 +4,4 @@ pub mod Files
 pub mod Ending
 pub mod Reading
 pub mod Runs
+pub mod Parts

@@ -14,6 +14,11 @@ pub enum BuiltPart {
 }
 
 impl fmt::Display for BuiltPart {
+    ghost use Rattle.std.specs.Prelude.{Some};
+    ghost use Rattle.cubrick_top.specs.Parts.{part_text};
+
+    ghost output = { λ part. Some (part_text part) };
+
     fn fmt<W: fmt::Write>(&self, f: &mut fmt::Formatter<W>) -> fmt::Result {
         f.write_str(match self {
             BuiltPart::Cubes => "cubes",
