@@ -1,0 +1,3 @@
+pub mod Purged
+pub mod Cleared
+pub mod Sight

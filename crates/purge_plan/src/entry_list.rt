@@ -1,0 +1,113 @@
+//! Single entries, and entries put at the front of a list in place.
+
+ghost use Rattle.std.specs.Prelude.{◌≡◌, ℕ, ◌+◌, ◌<◌, ◌≤◌, ◌||◌, length, take, drop};
+ghost use Rattle.epochs_vector.specs.Entries.{rows_of, joins};
+ghost use Rattle.epochs_vector.specs.Without.{epoch_of, rows_at, at_rows};
+ghost use Rattle.purge_plan.specs.Purged.{is_old_mark, are_old_runs, joined, with_joined, with_counted};
+
+use cube_values::Entry;
+
+/// Puts an entry after the first `len`, which lead to `rows` rows, as a purge at `epoch` does: a run
+/// that adds no row is left out, and what joins the last of them takes its place. Answers how many they
+/// then are.
+pub fn put(entries: &mut [Entry], len: usize, rows: u64, new: Entry, epoch: u64) -> usize
+    requires room { len < length entries.old }
+    requires rows { rows_of (take len entries.old) ≡ rows }
+    ensures front { take result entries.new ≡ with_counted epoch (take len entries.old) new }
+    ensures rest { (n : ℕ) → len < n → drop n entries.new ≡ drop n entries.old }
+    ensures within { result ≤ len + 1 }
+    ensures long { length entries.new ≡ length entries.old }
+{
+    match new {
+        Entry::Run { end, .. } if end == rows => len,
+        _ => put_joined(entries, len, new, epoch),
+    }
+}
+
+// The same for an entry that is no empty run.
+fn put_joined(entries: &mut [Entry], len: usize, new: Entry, epoch: u64) -> usize
+    requires { len < length entries.old }
+    ensures front { take result entries.new ≡ with_joined epoch (take len entries.old) new }
+    ensures rest { (n : ℕ) → len < n → drop n entries.new ≡ drop n entries.old }
+    ensures within { result ≤ len + 1 }
+    ensures long { length entries.new ≡ length entries.old }
+{
+    if len > 0 && are_one(entries[len - 1], new, epoch) {
+        entries[len - 1] = one_of(entries[len - 1], new);
+        len
+    } else {
+        entries[len] = new;
+        len + 1
+    }
+}
+
+// Whether two neighbours become one in a purge at `most`.
+fn are_one(a: Entry, b: Entry, most: u64) -> bool
+    ensures { result ≡ (joins a b || are_old_runs most a b) }
+{
+    match a {
+        Entry::Run { epoch, .. } => match b {
+            Entry::Run { epoch: next, .. } => epoch == next || (epoch <= most && next <= most),
+            Entry::Mark { .. } => false,
+        },
+        Entry::Mark { epoch, at } => match b {
+            Entry::Run { .. } => false,
+            Entry::Mark {
+                epoch: next,
+                at: more,
+            } => epoch == next && at == more,
+        },
+    }
+}
+
+// What two neighbours become that are joined.
+fn one_of(a: Entry, b: Entry) -> Entry
+    ensures { result ≡ joined a b }
+{
+    match (a, b) {
+        (Entry::Run { epoch, .. }, Entry::Run { epoch: next, end }) => Entry::Run {
+            epoch: epoch.max(next),
+            end,
+        },
+        _ => b,
+    }
+}
+
+/// Whether the entry is a mark at or below `most`.
+pub fn is_old(entry: Entry, most: u64) -> bool
+    ensures { result ≡ is_old_mark most entry }
+{
+    match entry {
+        Entry::Run { .. } => false,
+        Entry::Mark { epoch, .. } => epoch <= most,
+    }
+}
+
+/// The epoch that made an entry.
+pub fn maker(entry: Entry) -> u64
+    ensures { result ≡ epoch_of entry }
+{
+    match entry {
+        Entry::Run { epoch, .. } | Entry::Mark { epoch, .. } => epoch,
+    }
+}
+
+/// How many rows there are after an entry.
+pub fn rows_after(entry: Entry) -> u64
+    ensures { result ≡ rows_at entry }
+{
+    match entry {
+        Entry::Run { end, .. } => end,
+        Entry::Mark { at, .. } => at,
+    }
+}
+
+/// The entry with so many rows after it.
+pub fn numbered(entry: Entry, rows: u64) -> Entry
+    ensures { result ≡ at_rows entry rows }
+{
+    match entry {
+        Entry::Run { epoch, .. } => Entry::Run { epoch, end: rows },
+        Entry::Mark { epoch, .. } => Entry::Mark { epoch, at: rows },
+    }
+}
