@@ -1,0 +1,5 @@
+pub mod EachColumn
+pub mod InPlace
+pub mod KeptItems
+pub mod RowLists
+pub mod WholeRows

@@ -1,0 +1,42 @@
+-- The rows of a brick, as contracts see its columns.
+-- Source: Cubrick (VLDB 2016), a brick's dimension columns as offsets in its ranges, beside its metric columns.
+use Rattle.std.specs.Prelude.{◌≡◌, ℕ, ◌<◌, ℤ, List, [], length, map, slice_index_or, slice_index, pos}
+use Rattle.std.specs.List.{AllZip}
+use Rattle.cube_values.specs.declared.shape.Shape.{Shape}
+
+-- A row: for each dimension the offset in the brick's range, and the metrics.
+pub record BrickRow : Type 0 where
+  pub offsets : List ℕ
+  pub metrics : List ℤ
+
+-- What the rows are of: the range size of each dimension, and the number of metrics.
+pub record Layout : Type 0 where
+  pub ranges : List ℕ
+  pub metrics : ℕ
+
+-- The rows of a brick, and how many more there is memory for.
+pub record BrickRows : Type 0 where
+  pub layout : Layout
+  pub rows : List BrickRow
+  pub spare : ℕ
+
+-- The layout of a shape's rows with so many metrics.
+abbrev pub layout_of : Shape → ℕ → Layout
+layout_of shape metrics = record { ranges = map (λ size. size.range) shape.sizes; metrics = metrics }
+
+-- A row of a layout: for each dimension an offset below its range size, and so many metrics.
+pub record IsRowOf (layout : Layout) (row : BrickRow) : Type 0 where
+  pub offsets : AllZip ◌<◌ row.offsets layout.ranges
+  pub metrics : length row.metrics ≡ layout.metrics
+
+-- Row i, and past the last one a row without items.
+abbrev pub row_at : List BrickRow → ℕ → BrickRow
+row_at rows i = slice_index_or rows i (record { offsets = []; metrics = [] })
+
+-- The offset of a row in a dimension.
+abbrev pub offset_at : ℕ → BrickRow → ℕ
+offset_at dim row = slice_index row.offsets dim
+
+-- A metric of a row.
+abbrev pub metric_at : ℕ → BrickRow → ℤ
+metric_at m row = slice_index_or row.metrics m (pos 0)
