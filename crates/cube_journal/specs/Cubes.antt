@@ -1,10 +1,13 @@
 -- The canonical text of cubes, and which declarations can be stored.
-use Rattle.std.specs.Prelude.{ℕ, ◌<◌, ◌≤◌, Bool, true, false, not, ◌&&◌, List, [], ◌∷◌, ◌++◌, length, map, codes, decimal, IsTrue, All, if◌then◌else◌, ◌≡◌}
-use Rattle.std.specs.List.{list_any, list_all, flat_map}
+-- Source: Cubrick (VLDB 2016) for ranges and bricks; the limits are this project's own.
+use Rattle.std.specs.Prelude.{◌≡◌, ℕ, ◌^◌, Bool, ◌==◌, ◌||◌, nat_lt, List, [], ◌∷◌, ◌++◌, length, map, codes, decimal, find, Option, Some, None, if◌then◌else◌}
+use Rattle.std.specs.List.{list_any, flat_map}
+use Rattle.std.specs.Option.{option_map}
 use Rattle.std.specs.Str.{bytes_eq}
 use Rattle.cube_values.specs.declared.shape.Shape.{Shape}
-use Rattle.cube_values.specs.Names.{is_name}
-use Rattle.cube_values.specs.Shapes.{IsSoundShape}
+use Rattle.cube_values.specs.Shapes.{bricks_of}
+use Rattle.cube_journal.specs.declared.cubes_fault.SchemaFault.{SchemaFault}
+use Rattle.cube_journal.specs.declared.cubes_fault.SchemaFault.TheVariants.{DuplicateName, ZeroCardinality, RangeTooLarge, TooManyBricks, TooManyColumns, NoMetric}
 use Rattle.cube_journal.specs.declared.decl.DimDecl.{DimDecl}
 use Rattle.cube_journal.specs.declared.decl.Decl.{Decl}
 
@@ -25,29 +28,62 @@ metric_text name = codes "metric " ++ (name ++ codes "\n")
 abbrev pub cube_text : Decl → List ℕ
 cube_text d = codes "cube " ++ (d.name ++ (codes "\n" ++ (flat_map dim_text d.dims ++ flat_map metric_text d.metrics)))
 
--- The names of its columns, dimensions first.
+-- The canonical text of cubes.
+abbrev pub cubes_text : List Decl → List ℕ
+cubes_text cubes = flat_map cube_text cubes
+
+-- The names of a cube's columns, dimensions first.
 abbrev pub column_names : Decl → List (List ℕ)
 column_names d = map (λ dim. dim.name) d.dims ++ d.metrics
 
--- No name stands twice.
-abbrev pub are_distinct : List (List ℕ) → Bool
-are_distinct [] = true
-are_distinct (name ∷ names) = not (list_any (bytes_eq name) names) && are_distinct names
+-- The first of names that stands among these or before it already.
+abbrev pub repeated_after : List (List ℕ) → List (List ℕ) → Option (List ℕ)
+repeated_after before [] = None
+repeated_after before (name ∷ names) = if list_any (bytes_eq name) before then Some name else repeated_after (name ∷ before) names
 
--- The shape of its dimensions.
+-- The first name that stands before already.
+abbrev pub first_repeated : List (List ℕ) → Option (List ℕ)
+first_repeated names = repeated_after [] names
+
+-- The shape of a cube's dimensions.
 abbrev pub shape_of : Decl → Shape
 shape_of d = record { sizes = map (λ dim. record { cardinality = dim.cardinality; range = dim.range }) d.dims }
 
--- What is declared can be stored: its names are names, no column stands twice, its shape is sound, and it
--- has one to sixteen metrics.
-pub record IsAccepted (d : Decl) : Type 0 where
-  pub name : IsTrue (is_name d.name)
-  pub columns : IsTrue (list_all is_name (column_names d))
-  pub distinct : IsTrue (are_distinct (column_names d))
-  pub shape : IsSoundShape (shape_of d)
-  pub some : 0 < length d.metrics
-  pub most : length d.metrics ≤ 16
+abbrev pub duplicate_in : Decl → Option SchemaFault
+duplicate_in d = option_map DuplicateName (first_repeated (column_names d))
 
--- All its dimensions are of numbers.
-abbrev pub HasNumbersAlone : Decl → Type 0
-HasNumbersAlone d = All (λ dim. dim.text ≡ false) d.dims
+abbrev pub has_zero : DimDecl → Bool
+has_zero dim = dim.cardinality == 0 || dim.range == 0
+
+abbrev pub zero_in : Decl → Option SchemaFault
+zero_in d = option_map (λ dim. ZeroCardinality dim.name) (find has_zero d.dims)
+
+abbrev pub has_large_range : DimDecl → Bool
+has_large_range dim = nat_lt dim.cardinality dim.range
+
+abbrev pub large_range_in : Decl → Option SchemaFault
+large_range_in d = option_map (λ dim. RangeTooLarge dim.name) (find has_large_range d.dims)
+
+abbrev pub many_bricks_in : Decl → Option SchemaFault
+many_bricks_in d = if nat_lt (2 ^ 62) (bricks_of (shape_of d).sizes) then Some TooManyBricks else None
+
+abbrev pub many_columns_in : Decl → Option SchemaFault
+many_columns_in d = if nat_lt 16 (length d.dims) || nat_lt 16 (length d.metrics) then Some TooManyColumns else None
+
+abbrev pub no_metric_in : Decl → Option SchemaFault
+no_metric_in d = if length d.metrics == 0 then Some NoMetric else None
+
+-- The first of them that there is.
+abbrev pub first_some : {A : Type 0} → List (Option A) → Option A
+first_some [] = None
+first_some (Some x ∷ others) = Some x
+first_some (None ∷ others) = first_some others
+
+-- Why a declaration cannot be stored, or None where it can.
+abbrev pub schema_fault : Decl → Option SchemaFault
+schema_fault d =
+    first_some (duplicate_in d ∷ zero_in d ∷ large_range_in d ∷ many_bricks_in d ∷ many_columns_in d ∷ no_metric_in d ∷ [])
+
+-- The declaration can be stored.
+abbrev pub IsStorable : Decl → Type 0
+IsStorable d = schema_fault d ≡ None

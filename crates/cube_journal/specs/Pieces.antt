@@ -1,21 +1,61 @@
--- The pieces of a script. This script has no quote and no comment in it.
-use Rattle.std.specs.Prelude.{ℕ, Bool, false, not, ◌&&◌, ◌||◌, ◌==◌, nat_eq, List, [], ◌∷◌, filter, codes}
-use Rattle.std.specs.List.{list_any, list_all, slice_split, starts_with}
-use Rattle.cube_journal.specs.Tokens.{is_space}
+-- The statements of a script by their places, and when a script is refused whole.
+-- Source: this project's own.
+use Rattle.std.specs.Prelude.{◌≡◌, ℕ, ◌+◌, ◌<◌, ◌≤◌, Bool, false, ◌==◌, nat_lt, List, [], ◌∷◌, ◌++◌, length, take_while, sum_by, Some, IsUtf8, All, if◌then◌else◌}
+use Rattle.std.specs.List.{list_all, slice_split, position_from}
+use Rattle.std.specs.Str.{IsValidUpTo}
+use Rattle.cube_journal.specs.declared.piece.Piece.{Piece}
+use Rattle.cube_journal.specs.declared.piece.ScriptFault.{ScriptFault}
+use Rattle.cube_journal.specs.declared.piece.ScriptFault.TheVariants.{NotUtf8, TooManyStatements, StatementTooLong}
+use Rattle.cube_journal.specs.Parts.{Part, Comment, Quoted, Other, part_bytes, AreParts, is_blank}
 
--- Two dashes stand somewhere, which begin a comment.
-abbrev pub has_dashes : List ℕ → Bool
-has_dashes [] = false
-has_dashes (byte ∷ bytes) = starts_with nat_eq (byte ∷ bytes) (codes "--") || has_dashes bytes
+-- A semicolon by itself ends a statement.
+abbrev pub is_end : Part → Bool
+is_end (Comment bytes) = false
+is_end (Quoted bytes) = false
+is_end (Other byte) = byte == 59
 
--- No quote and no comment stands in the script.
-abbrev pub is_plain : List ℕ → Bool
-is_plain script = not (list_any (λ byte. byte == 39) script) && not (has_dashes script)
+-- How many bytes parts have.
+abbrev pub bytes_in : List Part → ℕ
+bytes_in parts = sum_by (λ part. length (part_bytes part)) parts
 
--- A piece of white space alone is no statement.
-abbrev pub is_blank : List ℕ → Bool
-is_blank piece = list_all is_space piece
+-- The text of the statement that such parts are, the first of them at a place: what stands behind the white
+-- space and the comments in front.
+abbrev pub piece_at : ℕ → List Part → Piece
+piece_at place parts = record { start = place + bytes_in (take_while is_blank parts); end = place + bytes_in parts }
 
--- The texts between the semicolons, without those of white space alone.
-abbrev pub pieces : List ℕ → List (List ℕ)
-pieces script = filter (λ piece. not (is_blank piece)) (slice_split (λ byte. byte == 59) script)
+-- The texts of the statements that lie between the ends, the first of the lists of parts at a place. White
+-- space and comments alone are no statement.
+abbrev pub pieces_from : ℕ → List (List Part) → List Piece
+pieces_from place [] = []
+pieces_from place (parts ∷ others) =
+    (if list_all is_blank parts then [] else piece_at place parts ∷ []) ++ pieces_from (place + bytes_in parts + 1) others
+
+-- The script has its statements at these places.
+abbrev pub Splits : List ℕ → List Piece → Type 0
+Splits script pieces = (parts : List Part) × AreParts script parts [] × (pieces ≡ pieces_from 0 (slice_split is_end parts))
+
+-- The most statements of a script, and the most bytes of a statement.
+abbrev pub statements_limit : ℕ
+statements_limit = 65536
+
+abbrev pub statement_limit : ℕ
+statement_limit = 65536
+
+-- A statement of too many bytes.
+abbrev pub is_long : Piece → Bool
+is_long piece = nat_lt (piece.start + statement_limit) piece.end
+
+-- The script is in order and has its statements at these places.
+pub record IsScript (script : List ℕ) (pieces : List Piece) : Type 0 where
+  pub text : IsUtf8 script
+  pub splits : Splits script pieces
+  pub few : length pieces ≤ statements_limit
+  pub short : All (λ piece. piece.end ≤ piece.start + statement_limit) pieces
+
+-- The script has this fault: it is not UTF-8; or it has too many statements; or else the statement of this
+-- number is the first that is too long.
+abbrev pub HasScriptFault : List ℕ → ScriptFault → Type 0
+HasScriptFault script (NotUtf8 at) = IsValidUpTo script at
+HasScriptFault script TooManyStatements = IsUtf8 script × (pieces : List Piece) × Splits script pieces × (statements_limit < length pieces)
+HasScriptFault script (StatementTooLong statement) =
+    IsUtf8 script × (pieces : List Piece) × Splits script pieces × (length pieces ≤ statements_limit) × (position_from is_long 1 pieces ≡ Some statement)

@@ -1,15 +1,14 @@
 -- The text of replies.
-use Rattle.std.specs.Prelude.{ℕ, ◌==◌, List, [], ◌∷◌, ◌++◌, length, codes, decimal, replicate, ◌-◌, if◌then◌else◌, Bool}
+use Rattle.std.specs.Prelude.{ℕ, List, [], ◌∷◌, ◌++◌, length, codes, decimal, replicate, ◌-◌, if◌then◌else◌, Bool}
 use Rattle.std.specs.Fmt.{signed_decimal}
 use Rattle.std.specs.List.{flat_map}
 use Rattle.cube_values.specs.declared.table.Field.{Field}
 use Rattle.cube_values.specs.declared.table.Field.TheVariants.{Text, Whole, Decimal, Null}
+use Rattle.cube_journal.specs.declared.refusal.Refusal.{Refusal}
+use Rattle.cube_journal.specs.declared.refusal.Refusal.TheVariants.{Syntax}
 use Rattle.cube_journal.specs.declared.reply.Reply.{Reply}
-use Rattle.cube_journal.specs.declared.reply.Reply.TheVariants.{Rows, Stored}
-
--- A text stands in quotes, each quote in it twice.
-abbrev pub quoted : List ℕ → List ℕ
-quoted text = codes "'" ++ (flat_map (λ byte. if byte == 39 then codes "''" else byte ∷ []) text ++ codes "'")
+use Rattle.cube_journal.specs.declared.reply.Reply.TheVariants.{Rows, Stored, Refused}
+use Rattle.cube_journal.specs.Quotes.{quoted}
 
 -- Four digits.
 abbrev pub four_digits : ℕ → List ℕ
@@ -35,11 +34,16 @@ fields_text (f ∷ g ∷ fields) = field_text f ++ (codes "," ++ fields_text (g 
 abbrev pub table_text : List (List Field) → List ℕ
 table_text table = flat_map (λ line. fields_text line ++ codes "\n") table
 
+-- The number and the text of a refusal.
+abbrev pub refusal_text : Refusal → List ℕ
+refusal_text (Syntax fault) = codes "1 Syntax at " ++ decimal fault.at
+
 -- What a reply says.
 abbrev pub reply_text : Reply → List ℕ
 reply_text (Rows epoch table) =
     codes "rows " ++ (decimal (length table) ++ (codes " epoch " ++ (decimal epoch ++ (codes "\n" ++ table_text table))))
 reply_text (Stored rows epoch) = codes "stored " ++ (decimal rows ++ (codes " epoch " ++ (decimal epoch ++ codes "\n")))
+reply_text (Refused refusal) = codes "refused " ++ (refusal_text refusal ++ codes "\n")
 
 -- The reply to a statement of a session, behind both numbers.
 abbrev pub numbered : ℕ → ℕ → Reply → List ℕ

@@ -1,5 +1,6 @@
 //! What a session is answered.
 
+use crate::refusal::Refusal;
 use cube_values::Table;
 
 /// The reply to a statement.
@@ -9,4 +10,6 @@ pub enum Reply {
     Rows { epoch: u64, table: Table },
     /// How many rows were stored, and at which epoch.
     Stored { rows: u64, epoch: u64 },
+    /// Why the statement was not done.
+    Refused { refusal: Refusal },
 }

@@ -1,11 +1,8 @@
--- Names and sizes of dimensions.
-use Rattle.std.specs.Prelude.{ℕ, List, map}
+-- Sizes of dimensions.
+use Rattle.std.specs.Prelude.{◌≡◌, List, map, find, None}
 use Rattle.cube_values.specs.declared.shape.Size.{Size}
 use Rattle.cube_journal.specs.declared.decl.DimDecl.{DimDecl}
-
--- The names of dimensions.
-abbrev pub dim_names : List DimDecl → List (List ℕ)
-dim_names dims = map (λ dim. dim.name) dims
+use Rattle.cube_journal.specs.Cubes.{has_zero}
 
 -- The size of a dimension.
 abbrev pub size_of : DimDecl → Size
@@ -14,3 +11,7 @@ size_of dim = record { cardinality = dim.cardinality; range = dim.range }
 -- The sizes of dimensions.
 abbrev pub sizes_of : List DimDecl → List Size
 sizes_of dims = map size_of dims
+
+-- No cardinality and no range is 0.
+abbrev pub AreNotZero : List DimDecl → Type 0
+AreNotZero dims = find has_zero dims ≡ None

@@ -1,9 +1,23 @@
 //! What follows from the definitions, for whoever reasons with them.
 
-ghost use Rattle.cube_schema.specs.Texts.{EachTextIsOfOneCube};
+ghost use Rattle.cube_schema.specs.Schemas.{StorableShapesAreSound};
+ghost use Rattle.cube_schema.specs.Texts.{TextsDeclareOrHaveFault, TextsDeclareOneList, DeclaringTextsHaveNoFault, TextsHaveOneFault, CanonicalTextsDeclare};
 
-/// A text is the canonical text of one cube that can be stored at most, whatever the kinds of its
-/// dimensions.
-pub fn each_text_is_of_one_cube()
-    ensures { EachTextIsOfOneCube }
+/// A text either declares one list of cubes, or has one fault.
+pub fn a_text_declares_or_has_one_fault()
+    ensures either { TextsDeclareOrHaveFault }
+    ensures one_list { TextsDeclareOneList }
+    ensures no_fault { DeclaringTextsHaveNoFault }
+    ensures one_fault { TextsHaveOneFault }
+{}
+
+/// The canonical text of cubes that a text declares declares these cubes too.
+pub fn what_is_printed_declares_its_cubes()
+    ensures { CanonicalTextsDeclare }
+{}
+
+/// The shape of a declaration that can be stored is sound.
+#[tactic(auto, using(crate::proofs::Sound::sound_shape))]
+pub fn storable_declarations_have_sound_shapes()
+    ensures { StorableShapesAreSound }
 {}

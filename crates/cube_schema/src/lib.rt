@@ -1,16 +1,23 @@
-//! The canonical text of cubes, and the test of which cubes can be stored.
+//! Which declarations can be stored, and the cubes text both ways.
 #![tactic(auto)]
 
-mod accepting;
+mod fault;
+mod gather;
 mod law;
-mod printing;
-mod read_error;
-mod reading;
+mod line;
+mod print;
+mod read;
+mod repeat;
+mod schema;
+mod words;
 
-pub use accepting::is_accepted;
-pub use law::each_text_is_of_one_cube;
-pub use printing::print_cube;
-pub use reading::read_cube;
+pub use law::{
+    a_text_declares_or_has_one_fault, storable_declarations_have_sound_shapes,
+    what_is_printed_declares_its_cubes,
+};
+pub use print::print_cubes;
+pub use read::read_cubes;
+pub use schema::{Schema, Schemas, check, copy_cubes};
 
 #[cfg(test)]
 mod tests;

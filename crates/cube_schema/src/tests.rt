@@ -1,249 +1,278 @@
 //! Texts that are read, and texts that are not.
 
-use super::*;
-use cube_journal::{Decl, DimDecl};
-use cube_values::{Sequence, Text};
-use std::test::*;
+mod faults;
+mod texts;
 
-/// What a text shows, the text, and whether it is read.
-const TEXTS: [(&str, &[u8], bool); 47] = [
+use super::*;
+use cube_journal::{CubesFault, Decl, DimDecl};
+use cube_values::{CallError, Sequence, Text};
+use faults::{CUBES, DECLARATIONS, FORMS, TWO_FAULTS, WORDS};
+use std::alloc::{AllocError, Global};
+use std::test::*;
+use texts::DECLARING;
+
+/// The text of the fault of a text, which is empty where there is none.
+fn fault_text(alloc: Global, text: &[u8]) -> Result<String, AllocError> {
+    match read_cubes(alloc, text) {
+        Ok(_) => Ok(String::new(alloc)),
+        Err(CallError::Fault(fault)) => format!(in alloc; "{fault}"),
+        Err(CallError::NoMemory) => Err(AllocError),
+    }
+}
+
+/// What the first text shows whose fault is another.
+fn first_other_fault<'a>(
+    alloc: Global,
+    rows: &[(&'a str, &str, &str)],
+) -> Result<Option<&'a str>, AllocError> {
+    for (shows, text, fault) in rows {
+        let found = fault_text(alloc, text.as_bytes())?;
+        if found.as_str() != *fault {
+            return Ok(Some(*shows));
+        }
+    }
+    Ok(None)
+}
+
+/// The canonical text of the cubes that a text declares.
+fn printed(alloc: Global, text: &[u8]) -> Result<Vec<u8>, CallError<CubesFault>> {
+    let cubes = read_cubes(alloc, text)?;
+    Ok(print_cubes(alloc, cubes.as_slice())?)
+}
+
+/// Whether a text declares cubes of this canonical text, and so does that.
+fn is_printed(alloc: Global, text: &str, canonical: &str) -> bool {
+    let Ok(found) = printed(alloc, text.as_bytes()) else {
+        return false;
+    };
+    let Ok(again) = printed(alloc, found.as_slice()) else {
+        return false;
+    };
+    found.as_slice() == canonical.as_bytes() && again.as_slice() == canonical.as_bytes()
+}
+
+/// What the first text shows whose cubes have another canonical text.
+fn first_other_text<'a>(alloc: Global, rows: &[(&'a str, &str, &str)]) -> Option<&'a str> {
+    for (shows, text, canonical) in rows {
+        if !is_printed(alloc, text, canonical) {
+            return Some(*shows);
+        }
+    }
+    None
+}
+
+#[test]
+fn declaring(rt: HostRuntime) -> Result<(), Fail> {
+    let other = first_other_text(rt.alloc(), &DECLARING);
+    assert_eq!(rt; other.unwrap_or("none"), "none");
+    Ok(())
+}
+
+#[test]
+fn forms(rt: HostRuntime) -> Result<(), Fail> {
+    let other = first_other_fault(rt.alloc(), &FORMS)?;
+    assert_eq!(rt; other.unwrap_or("none"), "none");
+    Ok(())
+}
+
+#[test]
+fn words(rt: HostRuntime) -> Result<(), Fail> {
+    let other = first_other_fault(rt.alloc(), &WORDS)?;
+    assert_eq!(rt; other.unwrap_or("none"), "none");
+    Ok(())
+}
+
+#[test]
+fn cubes(rt: HostRuntime) -> Result<(), Fail> {
+    let other = first_other_fault(rt.alloc(), &CUBES)?;
+    assert_eq!(rt; other.unwrap_or("none"), "none");
+    Ok(())
+}
+
+#[test]
+fn declarations(rt: HostRuntime) -> Result<(), Fail> {
+    let other = first_other_fault(rt.alloc(), &DECLARATIONS)?;
+    assert_eq!(rt; other.unwrap_or("none"), "none");
+    Ok(())
+}
+
+#[test]
+fn two_faults(rt: HostRuntime) -> Result<(), Fail> {
+    let other = first_other_fault(rt.alloc(), &TWO_FAULTS)?;
+    assert_eq!(rt; other.unwrap_or("none"), "none");
+    Ok(())
+}
+
+#[test]
+fn no_text(rt: HostRuntime) -> Result<(), Fail> {
+    let third = fault_text(rt.alloc(), b"cube t\nmetric m\nmetric \xff\n")?;
+    assert_eq!(rt; third.as_str(), "NotUtf8 23");
+    let behind_a_bad_line = fault_text(rt.alloc(), b"cubes\n\xc3")?;
+    assert_eq!(rt; behind_a_bad_line.as_str(), "NotUtf8 6");
+    Ok(())
+}
+
+/// Lines with the numbers below `n` between what stands in front and behind.
+fn numbered(alloc: Global, front: &str, behind: &str, n: u32) -> Result<String, AllocError> {
+    let mut text = String::new(alloc);
+    for k in 0..n {
+        let line = format!(in alloc; "{front}{k}{behind}")?;
+        text.push_str(line.as_str())?;
+    }
+    Ok(text)
+}
+
+/// The text of the fault of a text in three parts.
+fn fault_in(alloc: Global, a: &str, b: &str, c: &str) -> Result<String, AllocError> {
+    let text = format!(in alloc; "{a}{b}{c}")?;
+    fault_text(alloc, text.as_bytes())
+}
+
+/// Lines of columns, and the fault where they stand beside seventeen dimensions.
+const BESIDE_MANY: [(&str, &str); 5] = [
+    ("metric m\n", "Schema t TooManyColumns"),
+    ("dim x int 5 2\nmetric x\n", "Schema t DuplicateName x"),
+    ("dim z int 0 1\nmetric m\n", "Schema t ZeroCardinality z"),
+    ("dim r int 5 6\nmetric m\n", "Schema t RangeTooLarge r"),
     (
-        "the worked cube",
-        b"cube t\ndim x int 5 2\nmetric m\n",
-        true,
-    ),
-    ("no dimension", b"cube t\nmetric m\n", true),
-    (
-        "two dimensions and metrics",
-        b"cube t\ndim x int 5 2\ndim y int 7 7\nmetric m\nmetric n\n",
-        true,
-    ),
-    (
-        "the largest numbers",
-        b"cube t\ndim x int 4294967295 1\nmetric m\n",
-        true,
-    ),
-    ("one coordinate", b"cube t\ndim x int 1 1\nmetric m\n", true),
-    (
-        "2 ^ 62 bricks",
-        b"cube t\ndim x int 2147483648 1\ndim y int 2147483648 1\nmetric m\n",
-        true,
-    ),
-    (
-        "one range more",
-        b"cube t\ndim x int 2147483648 1\ndim y int 2147483649 1\nmetric m\n",
-        false,
-    ),
-    (
-        "three large dimensions",
-        b"cube t\ndim x int 4294967295 1\ndim y int 4294967295 1\ndim z int 4294967295 1\nmetric m\n",
-        false,
-    ),
-    (
-        "sixteen dimensions",
-        b"cube t\ndim d0 int 5 2\ndim d1 int 5 2\ndim d2 int 5 2\ndim d3 int 5 2\ndim d4 int 5 2\ndim d5 int 5 2\ndim d6 int 5 2\ndim d7 int 5 2\ndim d8 int 5 2\ndim d9 int 5 2\ndim d10 int 5 2\ndim d11 int 5 2\ndim d12 int 5 2\ndim d13 int 5 2\ndim d14 int 5 2\ndim d15 int 5 2\nmetric m\n",
-        true,
-    ),
-    (
-        "seventeen dimensions",
-        b"cube t\ndim d0 int 5 2\ndim d1 int 5 2\ndim d2 int 5 2\ndim d3 int 5 2\ndim d4 int 5 2\ndim d5 int 5 2\ndim d6 int 5 2\ndim d7 int 5 2\ndim d8 int 5 2\ndim d9 int 5 2\ndim d10 int 5 2\ndim d11 int 5 2\ndim d12 int 5 2\ndim d13 int 5 2\ndim d14 int 5 2\ndim d15 int 5 2\ndim d16 int 5 2\nmetric m\n",
-        false,
-    ),
-    (
-        "sixteen metrics",
-        b"cube t\ndim x int 5 2\nmetric m0\nmetric m1\nmetric m2\nmetric m3\nmetric m4\nmetric m5\nmetric m6\nmetric m7\nmetric m8\nmetric m9\nmetric m10\nmetric m11\nmetric m12\nmetric m13\nmetric m14\nmetric m15\n",
-        true,
-    ),
-    (
-        "seventeen metrics",
-        b"cube t\ndim x int 5 2\nmetric m0\nmetric m1\nmetric m2\nmetric m3\nmetric m4\nmetric m5\nmetric m6\nmetric m7\nmetric m8\nmetric m9\nmetric m10\nmetric m11\nmetric m12\nmetric m13\nmetric m14\nmetric m15\nmetric m16\n",
-        false,
-    ),
-    ("no metric", b"cube t\ndim x int 5 2\n", false),
-    ("cardinality 0", b"cube t\ndim x int 0 0\nmetric m\n", false),
-    ("range 0", b"cube t\ndim x int 5 0\nmetric m\n", false),
-    (
-        "a range above the cardinality",
-        b"cube t\ndim x int 5 6\nmetric m\n",
-        false,
-    ),
-    (
-        "a dimension twice",
-        b"cube t\ndim x int 5 2\ndim x int 5 2\nmetric m\n",
-        false,
-    ),
-    (
-        "a metric twice",
-        b"cube t\ndim x int 5 2\nmetric m\nmetric m\n",
-        false,
-    ),
-    (
-        "a dimension as a metric",
-        b"cube t\ndim x int 5 2\nmetric x\n",
-        false,
-    ),
-    (
-        "the cube as a column",
-        b"cube t\ndim t int 5 2\nmetric m\n",
-        true,
-    ),
-    ("another case", b"cube t\ndim x int 5 2\nmetric X\n", true),
-    (
-        "a keyword as a cube",
-        b"cube select\ndim x int 5 2\nmetric m\n",
-        false,
-    ),
-    (
-        "a keyword as a dimension",
-        b"cube t\ndim from int 5 2\nmetric m\n",
-        false,
-    ),
-    (
-        "a keyword in another case",
-        b"cube t\ndim x int 5 2\nmetric SuM\n",
-        false,
-    ),
-    (
-        "a digit first",
-        b"cube t\ndim x int 5 2\nmetric 1m\n",
-        false,
-    ),
-    ("no name", b"cube t\ndim x int 5 2\nmetric \n", false),
-    (
-        "another byte in a name",
-        b"cube t\ndim x int 5 2\nmetric m-n\n",
-        false,
-    ),
-    (
-        "64 bytes",
-        b"cube t\ndim x int 5 2\nmetric nnnnnnnnnnnnnnnnnnnnnnnnnnnnnnnnnnnnnnnnnnnnnnnnnnnnnnnnnnnnnnnn\n",
-        true,
-    ),
-    (
-        "65 bytes",
-        b"cube t\ndim x int 5 2\nmetric nnnnnnnnnnnnnnnnnnnnnnnnnnnnnnnnnnnnnnnnnnnnnnnnnnnnnnnnnnnnnnnnn\n",
-        false,
-    ),
-    (
-        "leading zeros",
-        b"cube t\ndim x int 0005 2\nmetric m\n",
-        false,
-    ),
-    ("a plus sign", b"cube t\ndim x int +5 2\nmetric m\n", false),
-    (
-        "33 bits",
-        b"cube t\ndim x int 4294967296 1\nmetric m\n",
-        false,
-    ),
-    (
-        "twenty digits",
-        b"cube t\ndim x int 18446744073709551621 1\nmetric m\n",
-        false,
-    ),
-    ("no number", b"cube t\ndim x int  2\nmetric m\n", false),
-    ("two spaces", b"cube  t\ndim x int 5 2\nmetric m\n", false),
-    (
-        "a space at the end",
-        b"cube t\ndim x int 5 2\nmetric m \n",
-        false,
-    ),
-    (
-        "no last line end",
-        b"cube t\ndim x int 5 2\nmetric m",
-        false,
-    ),
-    ("CR LF", b"cube t\r\ndim x int 5 2\nmetric m\n", false),
-    (
-        "an empty line",
-        b"cube t\n\ndim x int 5 2\nmetric m\n",
-        false,
-    ),
-    ("nothing", b"", false),
-    (
-        "two cubes",
-        b"cube t\ndim x int 5 2\nmetric m\ncube t\ndim x int 5 2\nmetric m\n",
-        false,
-    ),
-    (
-        "a text dimension",
-        b"cube t\ndim x text 5 2\nmetric m\n",
-        false,
-    ),
-    ("another kind", b"cube t\ndim x real 5 2\nmetric m\n", false),
-    (
-        "a comment",
-        b"# t\ncube t\ndim x int 5 2\nmetric m\n",
-        false,
-    ),
-    ("upper case", b"CUBE t\ndim x int 5 2\nmetric m\n", false),
-    (
-        "a dimension behind a metric",
-        b"cube t\nmetric m\ndim x int 5 2\n",
-        false,
-    ),
-    (
-        "a byte above 127",
-        b"cube t\ndim x int 5 2\nmetric \xff\n",
-        false,
+        "dim a int 4294967295 1\ndim b int 4294967295 1\n",
+        "Schema t TooManyBricks",
     ),
 ];
 
 #[test]
-fn texts(rt: HostRuntime) -> Result<(), Fail> {
-    for (name, text, is_read) in TEXTS {
-        let found = read_cube(rt.alloc(), text)?;
-        assert_eq!(rt; found.is_some(), is_read, "{name}");
-        if let Some(decl) = found {
-            let printed = print_cube(rt.alloc(), &decl)?;
-            assert_eq!(rt; printed.as_slice(), text, "{name}");
-        }
-    }
-    Ok(())
-}
-
-#[test]
-fn worked_cube(rt: HostRuntime) -> Result<(), Fail> {
-    let text: &[u8; 30] = b"cube t\ndim x int 5 2\nmetric m\n";
-    let decl = read_cube(rt.alloc(), text)?.ok_or("the text is of a cube")?;
-    assert_eq!(rt; decl.name.as_str(), "t");
-    assert_eq!(rt; decl.dims.len(), 1);
-    for dim in decl.dims.as_slice() {
-        assert_eq!(rt; dim.name.as_str(), "x");
-        assert!(rt; !dim.text);
-        assert_eq!(rt; dim.cardinality, 5);
-        assert_eq!(rt; dim.range, 2);
-    }
-    assert_eq!(rt; decl.metrics.len(), 1);
-    for metric in decl.metrics.as_slice() {
-        assert_eq!(rt; metric.as_str(), "m");
-    }
-    Ok(())
-}
-
-#[test]
-fn text_dimension(rt: HostRuntime) -> Result<(), Fail> {
+fn many_columns(rt: HostRuntime) -> Result<(), Fail> {
     let alloc = rt.alloc();
-    let mut dims = Sequence::new(alloc);
-    let dim = DimDecl {
-        name: Text::new(alloc, "x")?,
-        text: true,
-        cardinality: 5,
-        range: 2,
+    let dims = numbered(alloc, "dim d", " int 1 1\n", 17)?;
+    for (lines, fault) in BESIDE_MANY {
+        let before = fault_in(alloc, "cube t\n", lines, dims.as_str())?;
+        assert_eq!(rt; before.as_str(), fault);
+        let behind = fault_in(alloc, "cube t\n", dims.as_str(), lines)?;
+        assert_eq!(rt; behind.as_str(), fault);
+    }
+    Ok(())
+}
+
+#[test]
+fn sixteen_columns(rt: HostRuntime) -> Result<(), Fail> {
+    let alloc = rt.alloc();
+    let dims = numbered(alloc, "dim d", " int 1 1\n", 16)?;
+    let metrics = numbered(alloc, "metric m", "\n", 16)?;
+    let none = fault_in(alloc, "cube t\n", dims.as_str(), metrics.as_str())?;
+    assert_eq!(rt; none.as_str(), "");
+    let metric = fault_in(alloc, "cube t\n", metrics.as_str(), "metric n\n")?;
+    assert_eq!(rt; metric.as_str(), "Schema t TooManyColumns");
+    let no_metric = fault_in(alloc, "cube t\n", dims.as_str(), "dim e int 1 1\n")?;
+    assert_eq!(rt; no_metric.as_str(), "Schema t TooManyColumns");
+    Ok(())
+}
+
+/// Lines behind sixteen cubes on 32 lines, and the fault.
+const BEHIND_SIXTEEN: [(&str, &str); 6] = [
+    ("", ""),
+    ("cube d\n", "TooManyCubes 33"),
+    ("# one more\ncube d\ncube e\n", "TooManyCubes 34"),
+    ("cube d\nmetric m\ncube c3\n", "DuplicateCube 35"),
+    ("cube d\nmetric\n", "BadLine 34"),
+    ("metric m\n", "Schema c15 DuplicateName m"),
+];
+
+#[test]
+fn sixteen_cubes(rt: HostRuntime) -> Result<(), Fail> {
+    let alloc = rt.alloc();
+    let cubes = numbered(alloc, "cube c", "\nmetric m\n", 16)?;
+    for (lines, fault) in BEHIND_SIXTEEN {
+        let found = fault_in(alloc, cubes.as_str(), lines, "")?;
+        assert_eq!(rt; found.as_str(), fault);
+    }
+    let first = fault_in(alloc, "cube d\n", cubes.as_str(), "")?;
+    assert_eq!(rt; first.as_str(), "TooManyCubes 32");
+    Ok(())
+}
+
+/// A name of 64 bytes.
+const LONG_NAME: &str = "abcdefghabcdefghabcdefghabcdefghabcdefghabcdefghabcdefghabcdefgh";
+
+#[test]
+fn long_names(rt: HostRuntime) -> Result<(), Fail> {
+    let none = fault_in(rt.alloc(), "cube t\nmetric ", LONG_NAME, "\n")?;
+    assert_eq!(rt; none.as_str(), "");
+    let longer = fault_in(rt.alloc(), "cube t\nmetric ", LONG_NAME, "n\n")?;
+    assert_eq!(rt; longer.as_str(), "BadLine 2");
+    Ok(())
+}
+
+#[test]
+fn many_names(rt: HostRuntime) -> Result<(), Fail> {
+    let alloc = rt.alloc();
+    let cubes = numbered(alloc, "cube n", "\n", 2000)?;
+    let too_many = fault_in(alloc, cubes.as_str(), "", "")?;
+    assert_eq!(rt; too_many.as_str(), "TooManyCubes 17");
+    let twice = fault_in(alloc, cubes.as_str(), "cube n1999\n", "")?;
+    assert_eq!(rt; twice.as_str(), "DuplicateCube 2001");
+    let metrics = numbered(alloc, "metric n", "\n", 2000)?;
+    let metric_twice = fault_in(alloc, "cube t\n", metrics.as_str(), "metric n1999\n")?;
+    assert_eq!(rt; metric_twice.as_str(), "Schema t DuplicateName n1999");
+    Ok(())
+}
+
+#[test]
+fn copies_are_the_same(rt: HostRuntime) -> Result<(), Fail> {
+    let alloc = rt.alloc();
+    let text: &[u8; 30] = b"cube t\ndim x int 5 2\nmetric m\n";
+    let cubes = read_cubes(alloc, text)
+        .ok()
+        .ok_or("the text declares a cube")?;
+    let copied = copy_cubes(alloc, cubes.as_slice())?;
+    let [cube] = copied.as_slice() else {
+        return Err("the text declares one cube".into());
     };
-    dims.push(dim)?;
+    let [dim] = cube.decl().dims.as_slice() else {
+        return Err("the cube has one dimension".into());
+    };
+    assert_eq!(rt; dim.name.as_str(), "x");
+    assert!(rt; !dim.text && dim.cardinality == 5 && dim.range == 2);
+    Ok(())
+}
+
+/// A cube with a dimension of texts and a metric of this name.
+fn sales(alloc: Global, metric: &str) -> Result<Decl, AllocError> {
+    let mut dims = Sequence::new(alloc);
+    dims.push(DimDecl {
+        name: Text::new(alloc, "country")?,
+        text: true,
+        cardinality: 200,
+        range: 30,
+    })?;
     let mut metrics = Sequence::new(alloc);
-    metrics.push(Text::new(alloc, "m")?)?;
-    let decl = Decl {
-        name: Text::new(alloc, "t")?,
+    metrics.push(Text::new(alloc, metric)?)?;
+    Ok(Decl {
+        name: Text::new(alloc, "sales")?,
         dims,
         metrics,
+    })
+}
+
+#[test]
+fn checked_declarations(rt: HostRuntime) -> Result<(), Fail> {
+    let alloc = rt.alloc();
+    let decl = sales(alloc, "tax")?;
+    let schema = check(alloc, &decl).ok().ok_or("it can be stored")?;
+    assert!(rt; *schema.decl() == decl);
+    let cube = schema.cube_shape()?;
+    assert!(rt; cube.shape == *schema.shape());
+    assert_eq!(rt; cube.metrics, 1);
+    Ok(())
+}
+
+#[test]
+fn declarations_with_a_fault(rt: HostRuntime) -> Result<(), Fail> {
+    let alloc = rt.alloc();
+    let twice = sales(alloc, "country")?;
+    let Err(CallError::Fault(fault)) = check(alloc, &twice) else {
+        return Err("the name stands twice".into());
     };
-    assert!(rt; is_accepted(&decl));
-    let text = print_cube(alloc, &decl)?;
-    assert_eq!(rt;
-        text.as_slice(),
-        b"cube t\ndim x text 5 2\nmetric m\n".as_slice()
-    );
-    assert!(rt; read_cube(alloc, text.as_slice())?.is_none());
+    let text = format!(in alloc; "{fault}")?;
+    assert_eq!(rt; text.as_str(), "DuplicateName country");
     Ok(())
 }

@@ -1,5 +1,7 @@
 pub mod SessionSteps
-pub mod ScriptPieces
 pub mod FilesRead
+pub mod ScriptActions
 pub mod RunEnds
+pub mod Rows
 pub mod Served
+pub mod OneEnd

@@ -1,5 +1,6 @@
-pub mod Statements
+pub mod Actions
 pub mod Session
+pub mod Scripts
 pub mod Files
 pub mod Ending
 pub mod Reading

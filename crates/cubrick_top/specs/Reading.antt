@@ -1,16 +1,18 @@
 -- What reading the two files of a run comes to, and which counts rise with which fault.
-use Rattle.std.specs.Prelude.{◌≡◌, ◌≢◌, ℕ, ◌≤◌, List, Option, Some, None, Result, Ok, Err}
+use Rattle.std.specs.Prelude.{◌≡◌, ℕ, ◌≤◌, List, Option, Some, None, Result, Ok, Err}
 use Rattle.std.specs.Global.{Vec}
 use Rattle.cube_journal.specs.declared.decl.Decl.{Decl}
-use Rattle.cube_journal.specs.declared.statement.Statement.{Statement}
+use Rattle.cube_journal.specs.CubesText.{HasCubesFault}
+use Rattle.cube_journal.specs.Pieces.{HasScriptFault}
 use Rattle.outside.specs.Counts.{Rose}
 use Rattle.outside.specs.Files.{content_of}
-use Rattle.outside.specs.Given.{Given, given_by, missing, whole}
-use Rattle.cubrick_top.specs.declared.fault.BuiltPart.TheVariants.{Cubes, Script}
+use Rattle.outside.specs.Given.{Given, given_by, missing, too_long, whole}
+use Rattle.cubrick_top.specs.declared.action.Action.{Action}
+use Rattle.cubrick_top.specs.declared.fault.BuiltPart.TheVariants.{Script as Scripts}
 use Rattle.cubrick_top.specs.declared.fault.Fault.{Fault}
-use Rattle.cubrick_top.specs.declared.fault.Fault.TheVariants.{Words, Absent, ReadFailed, NotBuilt, OutputFault, NoMemory}
-use Rattle.cubrick_top.specs.Ending.{IsDeclared}
-use Rattle.cubrick_top.specs.Files.{Declares, Scripts}
+use Rattle.cubrick_top.specs.declared.fault.Fault.TheVariants.{Words, Absent, ReadFailed, CubesTooLong, Cubes, ScriptTooLong, Script, NotBuilt, OutputFault, NoMemory}
+use Rattle.cubrick_top.specs.Files.{FileDeclares, FilePerforms}
+use Rattle.cubrick_top.specs.Scripts.{Performs, IsNotBuilt}
 
 -- The shelf's count of absences rises exactly with the fault that a file is absent.
 abbrev pub AbsenceCounted : Option Fault → ℕ → ℕ → Type 0
@@ -36,38 +38,49 @@ abbrev pub fault_in : {T : Type 0} → Result T Fault → Option Fault
 fault_in (Ok value) = None
 fault_in (Err fault) = Some fault
 
+-- What came of the text of a cubes file.
+abbrev pub ShowsCubesText : List ℕ → Result (Vec Decl) Fault → Type 0
+ShowsCubesText text (Ok cubes) = FileDeclares (whole text) cubes.items
+ShowsCubesText text (Err (Cubes fault)) = HasCubesFault text fault
+ShowsCubesText text (Err NoMemory) = Unit {0}
+ShowsCubesText text (Err fault) = ⊥
+
 -- What came of the cubes file.
-abbrev pub ShowsCubes : List ℕ → Given → Result Decl Fault → Type 0
-ShowsCubes name given (Ok d) = Declares given d
+abbrev pub ShowsCubes : List ℕ → Given → Result (Vec Decl) Fault → Type 0
+ShowsCubes name given (Ok cubes) = FileDeclares given cubes.items
 ShowsCubes name given (Err (Absent absent)) = (absent ≡ name) × (given ≡ missing)
 ShowsCubes name given (Err (ReadFailed failed)) = failed ≡ name
-ShowsCubes name given (Err (NotBuilt Cubes)) = (given ≢ missing) × (IsDeclared given → ⊥)
+ShowsCubes name given (Err (CubesTooLong size)) = given ≡ too_long size
+ShowsCubes name given (Err (Cubes fault)) = (text : List ℕ) × (given ≡ whole text) × HasCubesFault text fault
 ShowsCubes name given (Err NoMemory) = Unit {0}
 ShowsCubes name given (Err fault) = ⊥
 
--- What came of the script of a cube.
-abbrev pub ShowsScript : Decl → List ℕ → Given → Result (Vec Statement) Fault → Type 0
-ShowsScript d name given (Ok statements) = Scripts d given statements.items
-ShowsScript d name given (Err (Absent absent)) = (absent ≡ name) × (given ≡ missing)
-ShowsScript d name given (Err (ReadFailed failed)) = failed ≡ name
-ShowsScript d name given (Err (NotBuilt Script)) = (given ≢ missing) × ((statements : List Statement) → Scripts d given statements → ⊥)
-ShowsScript d name given (Err NoMemory) = Unit {0}
-ShowsScript d name given (Err fault) = ⊥
+-- What came of the text of the first script.
+abbrev pub ShowsScriptText : List Decl → List ℕ → Result (Vec Action) Fault → Type 0
+ShowsScriptText cubes text (Ok actions) = Performs cubes text actions.items
+ShowsScriptText cubes text (Err (Script number fault)) = (number ≡ 1) × HasScriptFault text fault
+ShowsScriptText cubes text (Err (NotBuilt Scripts)) = IsNotBuilt cubes text
+ShowsScriptText cubes text (Err NoMemory) = Unit {0}
+ShowsScriptText cubes text (Err fault) = ⊥
 
--- What came of the bytes of a script.
-abbrev pub ShowsBytes : Decl → List ℕ → Result (Vec Statement) Fault → Type 0
-ShowsBytes d bytes (Ok statements) = Scripts d (whole bytes) statements.items
-ShowsBytes d bytes (Err (NotBuilt Script)) = (statements : List Statement) → Scripts d (whole bytes) statements → ⊥
-ShowsBytes d bytes (Err NoMemory) = Unit {0}
-ShowsBytes d bytes (Err fault) = ⊥
+-- What came of the first script.
+abbrev pub ShowsScript : List Decl → List ℕ → Given → Result (Vec Action) Fault → Type 0
+ShowsScript cubes name given (Ok actions) = FilePerforms cubes given actions.items
+ShowsScript cubes name given (Err (Absent absent)) = (absent ≡ name) × (given ≡ missing)
+ShowsScript cubes name given (Err (ReadFailed failed)) = failed ≡ name
+ShowsScript cubes name given (Err (ScriptTooLong number size)) = (number ≡ 1) × (given ≡ too_long size)
+ShowsScript cubes name given (Err (Script number fault)) = (number ≡ 1) × (text : List ℕ) × (given ≡ whole text) × HasScriptFault text fault
+ShowsScript cubes name given (Err (NotBuilt Scripts)) = (text : List ℕ) × (given ≡ whole text) × IsNotBuilt cubes text
+ShowsScript cubes name given (Err NoMemory) = Unit {0}
+ShowsScript cubes name given (Err fault) = ⊥
 
 -- Something was given, as told, and it shows in the result.
-pub record ReadsCubes (told : Option (List (List ℕ × List ℕ))) (name : List ℕ) (limit : ℕ) (result : Result Decl Fault) : Type 0 where
+pub record ReadsCubes (told : Option (List (List ℕ × List ℕ))) (name : List ℕ) (limit : ℕ) (result : Result (Vec Decl) Fault) : Type 0 where
   pub given : Given
   pub told_so : GivenAsTold told limit name given
   pub shown : ShowsCubes name given result
 
-pub record ReadsScript (told : Option (List (List ℕ × List ℕ))) (d : Decl) (name : List ℕ) (limit : ℕ) (result : Result (Vec Statement) Fault) : Type 0 where
+pub record ReadsScript (told : Option (List (List ℕ × List ℕ))) (cubes : List Decl) (name : List ℕ) (limit : ℕ) (result : Result (Vec Action) Fault) : Type 0 where
   pub given : Given
   pub told_so : GivenAsTold told limit name given
-  pub shown : ShowsScript d name given result
+  pub shown : ShowsScript cubes name given result

@@ -1,52 +1,61 @@
--- What a session of statements leaves and is answered. The k-th INSERT has epoch k, and a SELECT reads at the
--- number of INSERTs before it.
+-- What the actions of a session leave and are answered. The k-th row that is stored has epoch k, and a query reads at
+-- the number of rows stored before it.
 use Rattle.std.specs.Prelude.{ℕ, ◌+◌, List, [], ◌∷◌, ◌++◌, codes, decimal, false}
+use Rattle.cube_values.specs.declared.operation.Operation.TheVariants.{Put}
 use Rattle.cube_values.specs.declared.operation.Transaction.{Transaction}
+use Rattle.cube_values.specs.declared.query.Query.{Query}
+use Rattle.cube_values.specs.declared.row.StoredRow.{StoredRow}
 use Rattle.cube_values.specs.declared.snapshot.Snapshot.{Snapshot}
 use Rattle.cube_values.specs.Answer.{answer}
 use Rattle.cube_values.specs.Visible.{visible}
-use Rattle.cube_journal.specs.declared.decl.Decl.{Decl}
+use Rattle.cube_journal.specs.declared.refusal.Refusal.TheVariants.{Syntax as NoStatement}
 use Rattle.cube_journal.specs.declared.reply.Reply.{Reply}
-use Rattle.cube_journal.specs.declared.reply.Reply.TheVariants.{Rows, Stored}
-use Rattle.cube_journal.specs.declared.statement.Statement.{Statement}
-use Rattle.cube_journal.specs.declared.statement.Statement.TheVariants.{Insert, SelectSum}
+use Rattle.cube_journal.specs.declared.reply.Reply.TheVariants.{Rows, Stored, Refused}
 use Rattle.cube_journal.specs.Replies.{numbered}
-use Rattle.cubrick_top.specs.Statements.{insert_at, sum_query}
+use Rattle.cubrick_top.specs.declared.action.Action.{Action}
+use Rattle.cubrick_top.specs.declared.action.Action.TheVariants.{Store, Ask, Refuse}
 
--- The transactions of statements before which so many INSERTs stand.
-abbrev pub transactions_from : Decl → ℕ → List Statement → List Transaction
-transactions_from d before [] = []
-transactions_from d before (Insert cube values ∷ statements) = insert_at d (before + 1) values ∷ transactions_from d (before + 1) statements
-transactions_from d before (SelectSum metric cube ∷ statements) = transactions_from d before statements
+-- A row is stored by a transaction that puts it.
+abbrev pub put_at : ℕ → StoredRow → Transaction
+put_at epoch row = record { epoch = epoch; operations = Put (row ∷ []) ∷ [] }
+
+-- The transactions of actions before which so many rows were stored.
+abbrev pub transactions_from : ℕ → List Action → List Transaction
+transactions_from before [] = []
+transactions_from before (Store row ∷ actions) = put_at (before + 1) row ∷ transactions_from (before + 1) actions
+transactions_from before (Ask query ∷ actions) = transactions_from before actions
+transactions_from before (Refuse fault ∷ actions) = transactions_from before actions
 
 -- The snapshot of a reader.
 abbrev pub reader_at : ℕ → Snapshot
 reader_at epoch = record { epoch = epoch; deps = []; own = false }
 
--- The sum of a metric over what a reader at an epoch sees.
-abbrev pub sum_reply : Decl → List Transaction → ℕ → List ℕ → Reply
-sum_reply d transactions epoch metric = Rows epoch (answer (sum_query d metric) (visible (reader_at epoch) transactions))
+-- The answer to a query over what a reader at an epoch sees.
+abbrev pub rows_reply : List Transaction → ℕ → Query → Reply
+rows_reply transactions epoch query = Rows epoch (answer query (visible (reader_at epoch) transactions))
 
--- The reply to a statement before which so many INSERTs stand, where these are all transactions of the session.
-abbrev pub reply_to : Decl → List Transaction → ℕ → Statement → Reply
-reply_to d transactions before (Insert cube values) = Stored 1 (before + 1)
-reply_to d transactions before (SelectSum metric cube) = sum_reply d transactions before metric
+-- The reply to an action before which so many rows were stored, where these are all transactions of the session.
+abbrev pub reply_to : List Transaction → ℕ → Action → Reply
+reply_to transactions before (Store row) = Stored 1 (before + 1)
+reply_to transactions before (Ask query) = rows_reply transactions before query
+reply_to transactions before (Refuse fault) = Refused (NoStatement fault)
 
--- How many INSERTs a statement is.
-abbrev pub inserts_of : Statement → ℕ
-inserts_of (Insert cube values) = 1
-inserts_of (SelectSum metric cube) = 0
+-- How many rows an action stores.
+abbrev pub stored_by : Action → ℕ
+stored_by (Store row) = 1
+stored_by (Ask query) = 0
+stored_by (Refuse fault) = 0
 
--- The replies to statements, of which the first has this number.
-abbrev pub replies_from : Decl → List Transaction → ℕ → ℕ → List Statement → List ℕ
-replies_from d transactions number before [] = []
-replies_from d transactions number before (s ∷ statements) =
-    numbered 1 number (reply_to d transactions before s) ++ replies_from d transactions (number + 1) (before + inserts_of s) statements
+-- The replies to actions, of which the first has this number.
+abbrev pub replies_from : List Transaction → ℕ → ℕ → List Action → List ℕ
+replies_from transactions number before [] = []
+replies_from transactions number before (a ∷ actions) =
+    numbered 1 number (reply_to transactions before a) ++ replies_from transactions (number + 1) (before + stored_by a) actions
 
--- How many INSERTs statements are.
-abbrev pub inserts_in : List Statement → ℕ
-inserts_in [] = 0
-inserts_in (s ∷ statements) = inserts_of s + inserts_in statements
+-- How many rows actions store.
+abbrev pub stored_in : List Action → ℕ
+stored_in [] = 0
+stored_in (a ∷ actions) = stored_by a + stored_in actions
 
 -- The closing line: the next epoch, the latest committed epoch and the latest safe epoch.
 abbrev pub end_text : ℕ → ℕ → ℕ → List ℕ
@@ -54,6 +63,6 @@ end_text ec lce lse =
     codes "end ec " ++ (decimal ec ++ (codes " lce " ++ (decimal lce ++ (codes " lse " ++ (decimal lse ++ codes "\n")))))
 
 -- The whole text of a run: the head, the replies and the closing line.
-abbrev pub run_text : Decl → List Statement → List ℕ
-run_text d statements =
-    codes "session 1\n" ++ (replies_from d (transactions_from d 0 statements) 1 0 statements ++ end_text (inserts_in statements + 1) (inserts_in statements) 0)
+abbrev pub run_text : List Action → List ℕ
+run_text actions =
+    codes "session 1\n" ++ (replies_from (transactions_from 0 actions) 1 0 actions ++ end_text (stored_in actions + 1) (stored_in actions) 0)

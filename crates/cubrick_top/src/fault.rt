@@ -1,5 +1,6 @@
 //! How a run ends.
 
+use cube_journal::{CubesFault, ScriptFault};
 use cube_values::Text;
 use std::fmt;
 use thiserror::Error;
@@ -7,9 +8,7 @@ use thiserror::Error;
 /// What a run cannot do yet.
 #[derive(Clone, Copy, Debug, PartialEq, Eq)]
 pub enum BuiltPart {
-    /// Cubes other than one cube of numbers in its canonical text.
-    Cubes,
-    /// Statements other than an INSERT of one row and the SUM of a metric.
+    /// Statements other than an INSERT of one row of numbers and the SUM of a metric over a cube of numbers.
     Script,
 }
 
@@ -21,7 +20,6 @@ impl fmt::Display for BuiltPart {
 
     fn fmt<W: fmt::Write>(&self, f: &mut fmt::Formatter<W>) -> fmt::Result {
         f.write_str(match self {
-            BuiltPart::Cubes => "cubes",
             BuiltPart::Script => "script",
         })
     }
@@ -39,7 +37,19 @@ pub enum Fault {
     /// Status 3: the file of this name could not be read.
     #[error("cannot read {name}")]
     ReadFailed { name: Text },
-    /// Status 4: the file asks for what is not built.
+    /// Status 4: the cubes file has this many bytes, which are more than 1,048,576.
+    #[error("cubes: CubesTooLong {size}")]
+    CubesTooLong { size: u64 },
+    /// Status 4: the cubes file declares no cubes.
+    #[error("cubes: {fault}")]
+    Cubes { fault: CubesFault },
+    /// Status 4: the script of this number has this many bytes, which are more than 4,194,304.
+    #[error("script {script}: ScriptTooLong {size}")]
+    ScriptTooLong { script: u64, size: u64 },
+    /// Status 4: the script of this number is refused whole.
+    #[error("script {script}: {fault}")]
+    Script { script: u64, fault: ScriptFault },
+    /// Status 4: a statement asks for what is not built.
     #[error("not built: {part}")]
     NotBuilt { part: BuiltPart },
     /// Status 7: the text could not be written whole.

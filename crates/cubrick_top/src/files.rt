@@ -1,13 +1,14 @@
 //! Reading the two files of a run.
 
-ghost use Rattle.std.specs.Prelude.{◌≡◌, ◌≤◌};
-ghost use Rattle.cubrick_top.specs.Files.{cubes_limit, script_limit};
-ghost use Rattle.cubrick_top.specs.Reading.{AbsenceCounted, ReadFaultCounted, fault_in, ShowsBytes, ReadsCubes, ReadsScript};
+ghost use Rattle.std.specs.Prelude.{◌≡◌, ◌≤◌, All, IfOk};
+ghost use Rattle.cube_journal.specs.Cubes.{IsStorable};
+ghost use Rattle.cubrick_top.specs.Files.{cubes_bytes, script_bytes};
+ghost use Rattle.cubrick_top.specs.Reading.{AbsenceCounted, ReadFaultCounted, fault_in, ShowsCubesText, ReadsCubes, ReadsScript};
 
-use crate::fault::{BuiltPart, Fault};
-use crate::script::{is_plain, statements_of};
-use cube_journal::{Decl, Statement};
-use cube_schema::read_cube;
+use crate::action::Action;
+use crate::fault::Fault;
+use crate::script::script_actions;
+use cube_schema::Schema;
 use cube_values::{CallError, Text};
 use outside::{FileFault, Shelf, read_whole};
 use std::alloc::Global;
@@ -18,75 +19,60 @@ pub const CUBES_BYTES: u64 = 1_048_576;
 /// The most bytes of a script.
 pub const SCRIPT_BYTES: u64 = 4_194_304;
 
-/// The cube that the cubes file of this name declares. A fault of the file is a fault of the run.
-pub fn read_cubes<H: Shelf>(alloc: Global, shelf: &mut H, name: &str) -> Result<Decl, Fault>
+// The cubes that a text declares.
+fn declared_cubes(alloc: Global, text: &[u8]) -> Result<Vec<Schema>, Fault>
+    ensures { ShowsCubesText text.now result }
+{
+    match cube_schema::read_cubes(alloc, text) {
+        Ok(cubes) => Ok(cubes),
+        Err(CallError::Fault(fault)) => Err(Fault::Cubes { fault }),
+        Err(CallError::NoMemory) => Err(Fault::NoMemory),
+    }
+}
+
+/// The cubes that the cubes file of this name declares. A fault of the file is a fault of the run.
+pub fn read_cubes<H: Shelf>(alloc: Global, shelf: &mut H, name: &str) -> Result<Vec<Schema>, Fault>
     ensures same { H.told shelf.new ≡ H.told shelf.old }
     ensures absences { AbsenceCounted (fault_in result) (H.absence_count shelf.old) (H.absence_count shelf.new) }
     ensures faults { ReadFaultCounted (fault_in result) (H.fault_count shelf.old) (H.fault_count shelf.new) }
-    ensures reads { ReadsCubes (H.told shelf.old) name.now cubes_limit result }
+    ensures reads { ReadsCubes (H.told shelf.old) name.now cubes_bytes result }
 {
     // The name is copied first, so that an absent file is never answered as want of memory.
     let Ok(own) = Text::new(alloc, name) else {
         return Err(Fault::NoMemory);
     };
     match read_whole(alloc, shelf, name, CUBES_BYTES) {
-        Ok(bytes) => match read_cube(alloc, bytes.as_slice()) {
-            Ok(Some(decl)) => Ok(decl),
-            Ok(None) => Err(Fault::NotBuilt {
-                part: BuiltPart::Cubes,
-            }),
-            Err(_) => Err(Fault::NoMemory),
-        },
+        Ok(bytes) => declared_cubes(alloc, bytes.as_slice()),
         Err(CallError::Fault(FileFault::Absent)) => Err(Fault::Absent { name: own }),
         Err(CallError::Fault(FileFault::Failed)) => Err(Fault::ReadFailed { name: own }),
-        Err(CallError::Fault(FileFault::TooLong { size: _ })) => Err(Fault::NotBuilt {
-            part: BuiltPart::Cubes,
-        }),
+        Err(CallError::Fault(FileFault::TooLong { size })) => Err(Fault::CubesTooLong { size }),
         Err(CallError::NoMemory) => Err(Fault::NoMemory),
     }
 }
 
-/// The statements of the script of this name, which all run on the cube. A fault of the file is a
-/// fault of the run.
+/// What the statements of the script of this name do. A fault of the file is a fault of the run.
 pub fn read_script<H: Shelf>(
     alloc: Global,
     shelf: &mut H,
-    decl: &Decl,
+    cubes: &[Schema],
     name: &str,
-) -> Result<Vec<Statement>, Fault>
+) -> Result<Vec<Action>, Fault>
+    requires { All IsStorable cubes.now }
     ensures same { H.told shelf.new ≡ H.told shelf.old }
     ensures absences { AbsenceCounted (fault_in result) (H.absence_count shelf.old) (H.absence_count shelf.new) }
     ensures faults { ReadFaultCounted (fault_in result) (H.fault_count shelf.old) (H.fault_count shelf.new) }
-    ensures reads { ReadsScript (H.told shelf.old) decl.now name.now script_limit result }
+    ensures reads { ReadsScript (H.told shelf.old) cubes.now name.now script_bytes result }
 {
     let Ok(own) = Text::new(alloc, name) else {
         return Err(Fault::NoMemory);
     };
     match read_whole(alloc, shelf, name, SCRIPT_BYTES) {
-        Ok(bytes) => script_statements(alloc, decl, bytes.as_slice()),
+        Ok(bytes) => script_actions(alloc, cubes, bytes.as_slice()),
         Err(CallError::Fault(FileFault::Absent)) => Err(Fault::Absent { name: own }),
         Err(CallError::Fault(FileFault::Failed)) => Err(Fault::ReadFailed { name: own }),
-        Err(CallError::Fault(FileFault::TooLong { size: _ })) => Err(Fault::NotBuilt {
-            part: BuiltPart::Script,
-        }),
+        Err(CallError::Fault(FileFault::TooLong { size })) => {
+            Err(Fault::ScriptTooLong { script: 1, size })
+        }
         Err(CallError::NoMemory) => Err(Fault::NoMemory),
-    }
-}
-
-// The statements of the bytes of a script.
-fn script_statements(alloc: Global, decl: &Decl, bytes: &[u8]) -> Result<Vec<Statement>, Fault>
-    ensures { ShowsBytes decl.now bytes.now result }
-{
-    if !is_plain(bytes) {
-        return Err(Fault::NotBuilt {
-            part: BuiltPart::Script,
-        });
-    }
-    match statements_of(alloc, decl, bytes) {
-        Ok(Some(statements)) => Ok(statements),
-        Ok(None) => Err(Fault::NotBuilt {
-            part: BuiltPart::Script,
-        }),
-        Err(_) => Err(Fault::NoMemory),
     }
 }

@@ -3,10 +3,11 @@
 ghost use Rattle.std.specs.Prelude.{◌≡◌, ◌++◌, [], ◌∷◌, ◌==◌, codes, decimal, OnOk, replicate, if◌then◌else◌};
 ghost use Rattle.std.specs.Fmt.{signed_decimal};
 ghost use Rattle.std.specs.List.{flat_map};
-ghost use Rattle.cube_journal.specs.Replies.{quoted, sign_text, four_digits, field_text, fields_text, table_text, reply_text, numbered};
+ghost use Rattle.cube_journal.specs.Replies.{sign_text, four_digits, field_text, fields_text, table_text, refusal_text, reply_text, numbered};
+ghost use Rattle.cube_journal.specs.Quotes.{quoted};
 ghost use Rattle.cubrick_top.specs.Session.{end_text};
 
-use cube_journal::Reply;
+use cube_journal::{Refusal, Reply, Syntax};
 use cube_values::{Field, Line};
 use itoa::Buffer;
 use std::alloc::AllocError;
@@ -107,6 +108,21 @@ fn push_table(out: &mut Vec<u8>, lines: &[Line]) -> Result<(), AllocError>
     Ok(())
 }
 
+fn push_syntax(out: &mut Vec<u8>, fault: &Syntax) -> Result<(), AllocError>
+    ensures { OnOk result (out.new.items ≡ out.old.items ++ (codes "1 Syntax at " ++ decimal fault.now.at)) }
+{
+    out.extend_from_slice(b"1 Syntax at ")?;
+    push_number(out, fault.at)
+}
+
+fn push_refusal(out: &mut Vec<u8>, refusal: &Refusal) -> Result<(), AllocError>
+    ensures { OnOk result (out.new.items ≡ out.old.items ++ refusal_text refusal.now) }
+{
+    match refusal {
+        Refusal::Syntax(fault) => push_syntax(out, fault),
+    }
+}
+
 fn push_reply_text(out: &mut Vec<u8>, reply: &Reply) -> Result<(), AllocError>
     ensures { OnOk result (out.new.items ≡ out.old.items ++ reply_text reply.now) }
 {
@@ -124,6 +140,11 @@ fn push_reply_text(out: &mut Vec<u8>, reply: &Reply) -> Result<(), AllocError>
             push_number(out, *rows)?;
             out.extend_from_slice(b" epoch ")?;
             push_number(out, *epoch)?;
+            Ok(out.push(b'\n')?)
+        }
+        Reply::Refused { refusal } => {
+            out.extend_from_slice(b"refused ")?;
+            push_refusal(out, refusal)?;
             Ok(out.push(b'\n')?)
         }
     }

@@ -10,8 +10,10 @@ ghost use Rattle.cubrick_top.specs.Runs.{Runs, IsReady, IsServed};
 use crate::fault::{Fault, Finish};
 use crate::files::{read_cubes, read_script};
 use crate::session::run_text;
-use cube_schema::each_text_is_of_one_cube;
+use cube_schema::a_text_declares_or_has_one_fault;
 use outside::{Shelf, Sink, put_whole};
+use sql_tree::{a_text_spells_one_statement, a_text_spells_or_has_one_fault};
+use sql_words::a_script_has_one_outcome;
 use std::alloc::Global;
 
 fn status_of(fault: &Option<Fault>) -> u8
@@ -21,7 +23,16 @@ fn status_of(fault: &Option<Fault>) -> u8
         None => 0,
         Some(Fault::Words) => 2,
         Some(Fault::Absent { name: _ }) | Some(Fault::ReadFailed { name: _ }) => 3,
-        Some(Fault::NotBuilt { part: _ }) => 4,
+        Some(Fault::CubesTooLong { size: _ })
+        | Some(Fault::Cubes { fault: _ })
+        | Some(Fault::ScriptTooLong { script: _, size: _ })
+        | Some(
+            Fault::Script {
+                script: _,
+                fault: _,
+            },
+        )
+        | Some(Fault::NotBuilt { part: _ }) => 4,
         Some(Fault::OutputFault) => 7,
         Some(Fault::NoMemory) => 8,
     }
@@ -50,15 +61,15 @@ fn run_files<H: Shelf, K: Sink>(
     ensures output { OutputFaultCounted result (K.fault_count sink.old) (K.fault_count sink.new) }
     ensures run { Runs (H.told shelf.old) (K.taken sink.old) (K.taken sink.new) cubes.now script.now result }
 {
-    let decl = match read_cubes(alloc, shelf, cubes) {
-        Ok(decl) => decl,
+    let declared = match read_cubes(alloc, shelf, cubes) {
+        Ok(declared) => declared,
         Err(fault) => return Some(fault),
     };
-    let statements = match read_script(alloc, shelf, &decl, script) {
-        Ok(statements) => statements,
+    let actions = match read_script(alloc, shelf, declared.as_slice(), script) {
+        Ok(actions) => actions,
         Err(fault) => return Some(fault),
     };
-    let Ok(text) = run_text(alloc, &decl, statements.as_slice()) else {
+    let Ok(text) = run_text(alloc, actions) else {
         return Some(Fault::NoMemory);
     };
     match put_whole(sink, text.as_slice()) {
@@ -86,7 +97,10 @@ fn finish_files<H: Shelf, K: Sink>(
         (Rose (H.fault_count shelf.old) (H.fault_count shelf.new) → ⊥) →
         (Rose (K.fault_count sink.old) (K.fault_count sink.new) → ⊥) → IsServed result.status }
 {
-    each_text_is_of_one_cube();
+    a_text_declares_or_has_one_fault();
+    a_script_has_one_outcome();
+    a_text_spells_one_statement();
+    a_text_spells_or_has_one_fault();
     finish(run_files(alloc, cubes, script, shelf, sink))
 }
 

@@ -1,128 +1,72 @@
-//! The statements of a script.
+//! What the statements of a script do.
 
-ghost use Rattle.std.specs.Prelude.{◌≡◌, ◌<◌, ◌++◌, ◌==◌, true, false, length, IfOk, IfSome, IfNone, List};
-ghost use Rattle.std.specs.List.{list_any, position_or_len};
-ghost use Rattle.cube_journal.specs.Pieces.{has_dashes, is_plain, is_blank, pieces};
-ghost use Rattle.cube_journal.specs.Tokens.{is_space};
-ghost use Rattle.cube_journal.specs.declared.statement.Statement.{Statement as Said};
-ghost use Rattle.cubrick_top.specs.Files.{AreStatements, piece_alone};
+ghost use Rattle.std.specs.Prelude.{◌≡◌, All};
+ghost use Rattle.cube_journal.specs.Cubes.{IsStorable};
+ghost use Rattle.cubrick_top.specs.Reading.{ShowsScriptText};
+ghost use Rattle.cubrick_top.specs.Scripts.{ShowsText, ShowsPieces};
+ghost use Rattle.sql_words.specs.Texts.{IsTextAt};
 
-use crate::statements::runs_on;
-use cube_journal::{Decl, Statement};
-use sql_tree::{a_text_spells_one_statement, read_statement};
-use std::alloc::{AllocError, Global};
+use crate::action::Action;
+use crate::fault::{BuiltPart, Fault};
+use crate::statements::statement_action;
+use cube_journal::Piece;
+use cube_schema::Schema;
+use cube_values::CallError;
+use sql_tree::parse;
+use sql_words::{piece_text, split};
+use std::alloc::Global;
 
-fn has_quote(script: &[u8]) -> bool
-    ensures { result ≡ list_any (λ byte. byte == 39) script.now }
+// What a text does.
+fn text_action(alloc: Global, cubes: &[Schema], text: &str) -> Result<Action, Fault>
+    requires { All IsStorable cubes.now }
+    ensures { ShowsText cubes.now text.now result }
 {
-    script.contains(&b'\'')
-}
-
-fn has_dashes(script: &[u8]) -> bool
-    ensures { result ≡ has_dashes script.now }
-{
-    let mut left = script;
-    'bytes: while let [_, rest @ ..] = left {
-        if left.starts_with(b"--") {
-            return true;
-        }
-        left = rest;
-    }
-    false
-}
-
-/// Whether the script has no quote and no comment.
-pub fn is_plain(script: &[u8]) -> bool
-    ensures { result ≡ is_plain script.now }
-{
-    !has_quote(script) && !has_dashes(script)
-}
-
-fn is_space(byte: u8) -> bool
-    ensures { result ≡ is_space byte }
-{
-    matches!(byte, b' ' | b'\t' | b'\r' | b'\n')
-}
-
-fn is_blank(piece: &[u8]) -> bool
-    ensures { result ≡ is_blank piece.now }
-{
-    piece.iter().all(|byte| is_space(*byte))
-}
-
-// How many bytes stand before the first semicolon, or at all.
-fn piece_len(script: &[u8]) -> usize
-    ensures { result ≡ position_or_len (λ byte. byte == 59) script.now }
-{
-    let mut len = 0;
-    let mut left = script;
-    'bytes: while let [byte, rest @ ..] = left {
-        if *byte == b';' {
-            return len;
-        }
-        len += 1;
-        left = rest;
-    }
-    len
-}
-
-// The bytes before the first semicolon, and those behind it.
-fn first_piece(script: &[u8]) -> (&[u8], &[u8])
-    ensures pieces { pieces script.now ≡ piece_alone result.0.now ++ pieces result.1.now }
-    ensures shorter { 0 < length script.now → length result.1.now < length script.now }
-{
-    let (piece, behind) = script.split_at(piece_len(script));
-    match behind {
-        [] => (piece, behind),
-        [_, rest @ ..] => (piece, rest),
+    match parse(alloc, text) {
+        Ok(statement) => match statement_action(alloc, cubes, &statement) {
+            Ok(Some(action)) => Ok(action),
+            Ok(None) => Err(Fault::NotBuilt {
+                part: BuiltPart::Script,
+            }),
+            Err(_) => Err(Fault::NoMemory),
+        },
+        Err(CallError::Fault(fault)) => Ok(Action::Refuse(fault)),
+        Err(CallError::NoMemory) => Err(Fault::NoMemory),
     }
 }
 
-// Adds the statement of a piece, or none for a blank piece, and answers whether that could be done.
-fn add_statement(
+// What the statements of a script do, up to the first that does not run.
+fn pieces_actions(
     alloc: Global,
-    decl: &Decl,
-    piece: &[u8],
-    statements: &mut Vec<Statement>,
-) -> Result<bool, AllocError>
-    ensures added { IfOk result (λ done. done ≡ true → (added : List Said) × (statements.new.items ≡ statements.old.items ++ added) × AreStatements decl.now (piece_alone piece.now) added) }
-    ensures refused { IfOk result (λ done. done ≡ false → (all : List Said) → AreStatements decl.now (piece_alone piece.now) all → ⊥) }
-{
-    a_text_spells_one_statement();
-    if is_blank(piece) {
-        return Ok(true);
-    }
-    match read_statement(alloc, piece)? {
-        None => Ok(false),
-        Some(statement) => {
-            if !runs_on(decl, &statement) {
-                return Ok(false);
-            }
-            statements.push(statement)?;
-            Ok(true)
-        }
-    }
-}
-
-/// The statements of the pieces of a script, which all run on the cube, or None where there are none
-/// such.
-pub fn statements_of(
-    alloc: Global,
-    decl: &Decl,
+    cubes: &[Schema],
     script: &[u8],
-) -> Result<Option<Vec<Statement>>, AllocError>
-    ensures found { IfOk result (λ found. IfSome found (λ v. AreStatements decl.now (pieces script.now) v.items)) }
-    ensures none { IfOk result (λ found. IfNone found ((all : List Said) → AreStatements decl.now (pieces script.now) all → ⊥)) }
+    pieces: &[Piece],
+) -> Result<Vec<Action>, Fault>
+    requires storable { All IsStorable cubes.now }
+    requires texts { All (IsTextAt script.now) pieces.now }
+    ensures { ShowsPieces cubes.now script.now pieces.now result }
 {
-    a_text_spells_one_statement();
-    let mut statements = Vec::new(alloc);
-    let mut left = script;
-    'pieces: while !left.is_empty() {
-        let (piece, rest) = first_piece(left);
-        if !add_statement(alloc, decl, piece, &mut statements)? {
-            return Ok(None);
-        }
-        left = rest;
+    let mut actions = Vec::new(alloc);
+    'pieces: for piece in pieces {
+        let action = match text_action(alloc, cubes, piece_text(script, piece)) {
+            Ok(action) => action,
+            Err(fault) => return Err(fault),
+        };
+        let Ok(()) = actions.push(action) else {
+            return Err(Fault::NoMemory);
+        };
     }
-    Ok(Some(statements))
+    Ok(actions)
+}
+
+/// What the statements of the first script do. A script that is refused whole, and a statement that
+/// does not run, are faults of the run.
+pub fn script_actions(alloc: Global, cubes: &[Schema], script: &[u8]) -> Result<Vec<Action>, Fault>
+    requires { All IsStorable cubes.now }
+    ensures { ShowsScriptText cubes.now script.now result }
+{
+    match split(alloc, script) {
+        Ok(pieces) => pieces_actions(alloc, cubes, script, pieces.as_slice()),
+        Err(CallError::Fault(fault)) => Err(Fault::Script { script: 1, fault }),
+        Err(CallError::NoMemory) => Err(Fault::NoMemory),
+    }
 }

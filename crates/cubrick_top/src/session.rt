@@ -1,15 +1,13 @@
-//! Running the statements of a session over a list of transactions.
+//! Running the actions of a session over a list of transactions.
 
-ghost use Rattle.std.specs.Prelude.{◌≡◌, ◌+◌, ◌≤◌, ◌++◌, [], ◌∷◌, true, length, IfOk, OnOk};
-ghost use Rattle.std.specs.List.{AllByRecursion};
+ghost use Rattle.std.specs.Prelude.{◌≡◌, ◌+◌, ◌++◌, [], ◌∷◌, length, IfOk, OnOk};
 ghost use Rattle.cube_values.specs.Visible.{RisesByEpoch};
-ghost use Rattle.cubrick_top.specs.Statements.{runs_on};
-ghost use Rattle.cubrick_top.specs.Session.{sum_reply, reply_to, transactions_from, run_text};
+ghost use Rattle.cubrick_top.specs.Session.{put_at, rows_reply, reply_to, transactions_from, run_text};
 
+use crate::action::Action;
 use crate::replies::{push_end, push_reply};
-use crate::statements::{insert_at, sum_query};
-use cube_journal::{Decl, Reply, Statement};
-use cube_values::{EpochList, Snapshot, Text, Transaction};
+use cube_journal::{Refusal, Reply};
+use cube_values::{EpochList, Operation, Query, Sequence, Snapshot, StoredRow, Transaction};
 use std::alloc::{AllocError, Global};
 
 /// The epoch of the next transaction. So many that it does not fit are want of memory.
@@ -23,15 +21,31 @@ fn next_epoch(transactions: &[Transaction]) -> Result<u64, AllocError>
     Ok(count + 1)
 }
 
-fn sum_reply(
+fn one<T: Drop>(alloc: Global, item: T) -> Result<Sequence<T>, AllocError>
+    ensures { IfOk result (λ s. s ≡ item ∷ []) }
+{
+    let mut items = Sequence::new(alloc);
+    items.push(item)?;
+    Ok(items)
+}
+
+/// The transaction that stores a row.
+fn put_at(alloc: Global, epoch: u64, row: StoredRow) -> Result<Transaction, AllocError>
+    ensures { IfOk result (λ t. t ≡ put_at epoch row) }
+{
+    Ok(Transaction {
+        epoch,
+        operations: one(alloc, Operation::Put(one(alloc, row)?))?,
+    })
+}
+
+fn rows_reply(
     alloc: Global,
-    decl: &Decl,
     transactions: &[Transaction],
-    metric: &Text,
+    query: &Query,
 ) -> Result<Reply, AllocError>
-    requires metrics { length decl.now.metrics ≤ 16 }
-    requires rises { RisesByEpoch transactions.now }
-    ensures { IfOk result (λ r. r ≡ sum_reply decl.now transactions.now (length transactions.now) metric.now) }
+    requires { RisesByEpoch transactions.now }
+    ensures { IfOk result (λ r. r ≡ rows_reply transactions.now (length transactions.now) query.now) }
 {
     let epoch = transactions.len() as u64;
     let snapshot = Snapshot {
@@ -39,47 +53,46 @@ fn sum_reply(
         deps: EpochList::new(),
         own: false,
     };
-    let query = sum_query(alloc, decl, metric)?;
     let rows = plain_history::visible(alloc, &snapshot, transactions)?;
-    let table = plain_history::answer(alloc, &query, rows.as_slice())?;
+    let table = plain_history::answer(alloc, query, rows.as_slice())?;
     Ok(Reply::Rows { epoch, table })
 }
 
-/// Runs one statement over the transactions so far. An INSERT adds one.
-fn run_statement(
+/// Does one action over the transactions so far. A row that is stored adds one.
+fn perform(
     alloc: Global,
-    decl: &Decl,
     transactions: &mut Vec<Transaction>,
-    statement: &Statement,
+    action: Action,
 ) -> Result<Reply, AllocError>
-    requires metrics { length decl.now.metrics ≤ 16 }
-    requires runs { runs_on decl.now statement.now ≡ true }
-    requires rises { RisesByEpoch transactions.old.items }
-    ensures reply { IfOk result (λ r. r ≡ reply_to decl.now transactions.old.items (length transactions.old.items) statement.now) }
-    ensures after { OnOk result (transactions.new.items ≡ transactions.old.items ++ transactions_from decl.now (length transactions.old.items) (statement.now ∷ [])) }
+    requires { RisesByEpoch transactions.old.items }
+    ensures reply { IfOk result (λ r. r ≡ reply_to transactions.old.items (length transactions.old.items) action) }
+    ensures after { OnOk result (transactions.new.items ≡ transactions.old.items ++ transactions_from (length transactions.old.items) (action ∷ [])) }
 {
-    match statement {
-        Statement::Insert { cube: _, values } => {
+    match action {
+        Action::Store(row) => {
             let epoch = next_epoch(transactions)?;
-            let transaction = insert_at(alloc, decl, epoch, values.as_slice())?;
+            let transaction = put_at(alloc, epoch, row)?;
             transactions.push(transaction)?;
             Ok(Reply::Stored { rows: 1, epoch })
         }
-        Statement::SelectSum { metric, cube: _ } => sum_reply(alloc, decl, transactions, metric),
+        Action::Ask(query) => rows_reply(alloc, transactions, &query),
+        Action::Refuse(fault) => Ok(Reply::Refused {
+            refusal: Refusal::Syntax(fault),
+        }),
     }
 }
 
-/// The whole text of a run of statements that run on the cube.
-pub fn run_text(alloc: Global, decl: &Decl, statements: &[Statement]) -> Result<Vec<u8>, AllocError>
-    requires metrics { length decl.now.metrics ≤ 16 }
-    requires runs { AllByRecursion (λ s. runs_on decl.now s ≡ true) statements.now }
-    ensures { IfOk result (λ text. text.items ≡ run_text decl.now statements.now) }
+/// The whole text of a run of these actions.
+pub fn run_text(alloc: Global, actions: Vec<Action>) -> Result<Vec<u8>, AllocError>
+    ensures { IfOk result (λ text. text.items ≡ run_text actions.items) }
 {
     let mut out = Vec::from_slice(alloc, b"session 1\n")?;
     let mut transactions = Vec::new(alloc);
-    for (done, statement) in statements.iter().enumerate() {
-        let reply = run_statement(alloc, decl, &mut transactions, statement)?;
-        push_reply(&mut out, 1, done as u64 + 1, &reply)?;
+    let mut done: u64 = 0;
+    'actions: for action in actions {
+        done += 1;
+        let reply = perform(alloc, &mut transactions, action)?;
+        push_reply(&mut out, 1, done, &reply)?;
     }
     let ec = next_epoch(&transactions)?;
     push_end(&mut out, ec, ec - 1, 0)?;

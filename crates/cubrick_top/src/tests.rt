@@ -5,10 +5,10 @@ use outside::{ShelfMemory, SinkMemory};
 use std::alloc::{AllocError, Global};
 use std::test::Fail;
 
-const CUBES: &str = "cube t\ndim x int 5 2\nmetric m\n";
+const CUBES: &[u8] = b"cube t\ndim x int 5 2\nmetric m\n";
 
-const SCRIPT: &str =
-    "INSERT INTO t VALUES (4,7); INSERT INTO t VALUES (0,-2); SELECT SUM(m) FROM t;";
+const SCRIPT: &[u8] =
+    b"INSERT INTO t VALUES (4,7); INSERT INTO t VALUES (0,-2); SELECT SUM(m) FROM t;";
 
 fn strings(alloc: Global, texts: &[&str]) -> Result<Vec<String>, AllocError> {
     let mut strings = Vec::new(alloc);
@@ -18,30 +18,26 @@ fn strings(alloc: Global, texts: &[&str]) -> Result<Vec<String>, AllocError> {
     Ok(strings)
 }
 
-fn numbers(alloc: Global, numbers: &[u64]) -> Result<Vec<u64>, AllocError> {
-    Vec::from_slice(alloc, numbers)
-}
-
 // A shelf with the cubes file c and the script s.
 fn shelf(
     alloc: Global,
-    cubes: &str,
+    cubes: &[u8],
     script: &[u8],
     failing: &[u64],
 ) -> Result<ShelfMemory, AllocError> {
     let mut files = Vec::new(alloc);
     files.push((
         String::from_str(alloc, "c")?,
-        Vec::from_slice(alloc, cubes.as_bytes())?,
+        Vec::from_slice(alloc, cubes)?,
     ))?;
     files.push((
         String::from_str(alloc, "s")?,
         Vec::from_slice(alloc, script)?,
     ))?;
-    Ok(ShelfMemory::new(files, numbers(alloc, failing)?))
+    Ok(ShelfMemory::new(files, Vec::from_slice(alloc, failing)?))
 }
 
-// What a run of these words writes, with its status and the text of its fault.
+// The status of a run of these words and the text of its fault.
 fn outcome(
     alloc: Global,
     words: &[&str],
@@ -60,31 +56,54 @@ fn outcome(
 #[test]
 fn scripts_are_answered(rt: HostRuntime) -> Result<(), Fail> {
     let alloc = rt.alloc();
-    for (script, wanted) in [
-        ("", "session 1\nend ec 1 lce 0 lse 0\n"),
-        (" \t\r\n;;", "session 1\nend ec 1 lce 0 lse 0\n"),
+    let two: &[u8] =
+        b"# two cubes\r\ncube t\r\nmetric m\r\ndim x int 05 2\r\n\ncube u\nmetric m\nmetric n\ncube v\ndim name text 4 1\nmetric m";
+    let none: &[u8] = b"";
+    for (cubes, script, wanted) in [
+        (CUBES, none, "session 1\nend ec 1 lce 0 lse 0\n"),
         (
+            none,
+            b" \t\r\n;; -- ;\n;",
+            "session 1\nend ec 1 lce 0 lse 0\n",
+        ),
+        (
+            CUBES,
             SCRIPT,
             "session 1\n1.1 stored 1 epoch 1\n1.2 stored 1 epoch 2\n1.3 rows 1 epoch 2\n5\nend ec 3 lce 2 lse 0\n",
         ),
         (
-            "SELECT SUM(m) FROM t;",
+            CUBES,
+            b"SELECT SUM(m) FROM t;",
             "session 1\n1.1 rows 1 epoch 0\nNULL\nend ec 1 lce 0 lse 0\n",
         ),
         (
-            "insert into t values(4,7);select sum(m)from t;insert into t values(4,-8);SELECT SUM(m) FROM t",
+            CUBES,
+            b"insert into t values(4,7);select sum(m)from t;insert into t values(4,-8);SELECT SUM(m) FROM t -- all",
             "session 1\n1.1 stored 1 epoch 1\n1.2 rows 1 epoch 1\n7\n1.3 stored 1 epoch 2\n1.4 rows 1 epoch 2\n-1\nend ec 3 lce 2 lse 0\n",
         ),
         (
-            "INSERT INTO t VALUES (0,9223372036854775807);INSERT INTO t VALUES (1,9223372036854775807);INSERT INTO t VALUES (2,9223372036854775807);SELECT SUM(m) FROM t;",
+            CUBES,
+            b"INSERT INTO t VALUES (0,9223372036854775807);INSERT INTO t VALUES (1,9223372036854775807);INSERT INTO t VALUES (2,9223372036854775807);SELECT SUM(m) FROM t;",
             "session 1\n1.1 stored 1 epoch 1\n1.2 stored 1 epoch 2\n1.3 stored 1 epoch 3\n1.4 rows 1 epoch 3\n27670116110564327421\nend ec 4 lce 3 lse 0\n",
         ),
+        // Refused statements take no epoch, and the session goes on.
+        (
+            CUBES,
+            b"INSERT INTO t VALUES (4,7); SELECT FROM t; 'a;b'; x; INSERT INTO t VALUES (1,1) #; SELECT SUM(m) FROM t; 'c;",
+            "session 1\n1.1 stored 1 epoch 1\n1.2 refused 1 Syntax at 7\n1.3 refused 1 Syntax at 0\n1.4 refused 1 Syntax at 0\n1.5 refused 1 Syntax at 27\n1.6 rows 1 epoch 1\n7\n1.7 refused 1 Syntax at 0\nend ec 2 lce 1 lse 0\n",
+        ),
+        // Several cubes, each with its own rows.
+        (
+            two,
+            b"INSERT INTO u VALUES (1,10); INSERT INTO t VALUES (4,3); SELECT SUM(n) FROM u; SELECT SUM(m) FROM t; SELECT SUM(m) FROM u",
+            "session 1\n1.1 stored 1 epoch 1\n1.2 stored 1 epoch 2\n1.3 rows 1 epoch 2\n10\n1.4 rows 1 epoch 2\n3\n1.5 rows 1 epoch 2\n1\nend ec 3 lce 2 lse 0\n",
+        ),
     ] {
-        let mut shelf = shelf(alloc, CUBES, script.as_bytes(), &[])?;
+        let mut shelf = shelf(alloc, cubes, script, &[])?;
         let mut sink = SinkMemory::new(alloc, 1000, Vec::new(alloc))?;
         let (status, fault) = outcome(alloc, &["c", "s"], &mut shelf, &mut sink)?;
-        assert_eq!(rt; status, 0, "{script}: {fault}");
-        assert_eq!(rt; sink.taken(), wanted.as_bytes(), "{script}");
+        assert_eq!(rt; status, 0, "{wanted}{fault}");
+        assert_eq!(rt; sink.taken(), wanted.as_bytes(), "{wanted}");
     }
     Ok(())
 }
@@ -92,39 +111,147 @@ fn scripts_are_answered(rt: HostRuntime) -> Result<(), Fail> {
 #[test]
 fn what_is_not_built_is_said(rt: HostRuntime) -> Result<(), Fail> {
     let alloc = rt.alloc();
-    for (cubes, script, wanted) in [
-        ("", SCRIPT, "not built: cubes"),
-        (
-            "cube t\ndim x int 5 6\nmetric m\n",
-            SCRIPT,
-            "not built: cubes",
-        ),
-        (
-            "cube t\ndim x text 5 2\nmetric m\n",
-            SCRIPT,
-            "not built: cubes",
-        ),
-        ("cube t\ndim x int 5 2\nmetric m", "#", "not built: cubes"),
-        (CUBES, "#", "not built: script"),
-        (CUBES, "INSERT INTO t VALUES (5,1)", "not built: script"),
-        (CUBES, "INSERT INTO t VALUES (-1,1)", "not built: script"),
-        (CUBES, "INSERT INTO t VALUES (1)", "not built: script"),
-        (CUBES, "INSERT INTO t VALUES (1,1,1)", "not built: script"),
-        (CUBES, "INSERT INTO u VALUES (1,1)", "not built: script"),
-        (CUBES, "SELECT SUM(x) FROM t", "not built: script"),
-        (CUBES, "SELECT SUM(m) FROM u", "not built: script"),
-        (CUBES, "SELECT COUNT(*) FROM t", "not built: script"),
-        (CUBES, "SELECT SUM(m) FROM t -- all", "not built: script"),
-        (CUBES, "'", "not built: script"),
-        (CUBES, "SELECT SUM(m) FROM t; BEGIN", "not built: script"),
+    let named: &[u8] = b"cube v\ndim name text 4 1\nmetric m\n";
+    let one: &[u8] = b"INSERT INTO t VALUES (5,1)";
+    for (cubes, script) in [
+        (CUBES, one),
+        (CUBES, b"INSERT INTO t VALUES (-1,1)"),
+        (CUBES, b"INSERT INTO t VALUES (1)"),
+        (CUBES, b"INSERT INTO t VALUES (1,1,1)"),
+        (CUBES, b"INSERT INTO t VALUES (1,'1')"),
+        (CUBES, b"INSERT INTO t VALUES (1,1), (2,2)"),
+        (CUBES, b"INSERT INTO u VALUES (1,1)"),
+        (CUBES, b"SELECT SUM(x) FROM t"),
+        (CUBES, b"SELECT SUM(m) FROM u"),
+        (CUBES, b"SELECT COUNT(*) FROM t"),
+        (CUBES, b"SELECT SUM(m), SUM(m) FROM t"),
+        (CUBES, b"SELECT SUM(m) FROM t WHERE x = 1"),
+        (CUBES, b"SELECT SUM(m) FROM t GROUP BY x"),
+        (CUBES, b"LOAD t FROM 'f' REJECT 0"),
+        (CUBES, b"DELETE FROM t"),
+        (CUBES, b"SELECT SUM(m) FROM t; BEGIN"),
+        (CUBES, b"COMMIT"),
+        (CUBES, b"ROLLBACK"),
+        (CUBES, b"FLUSH"),
+        (CUBES, b"PURGE"),
+        (CUBES, b"SHOW EPOCHS; x"),
+        (named, b"INSERT INTO v VALUES ('a',1)"),
+        (named, b"SELECT SUM(m) FROM v"),
     ] {
-        let mut shelf = shelf(alloc, cubes, script.as_bytes(), &[])?;
+        let mut shelf = shelf(alloc, cubes, script, &[])?;
         let mut sink = SinkMemory::new(alloc, 1000, Vec::new(alloc))?;
         let (status, fault) = outcome(alloc, &["c", "s"], &mut shelf, &mut sink)?;
-        assert_eq!(rt; status, 4, "{cubes}{script}");
-        assert_eq!(rt; fault.as_str(), wanted, "{cubes}{script}");
+        assert_eq!(rt; status, 4, "{fault}");
+        assert_eq!(rt; fault.as_str(), "not built: script");
         assert!(rt; sink.taken().is_empty());
     }
+    Ok(())
+}
+
+#[test]
+fn texts_that_are_refused(rt: HostRuntime) -> Result<(), Fail> {
+    let alloc = rt.alloc();
+    let none: &[u8] = b"";
+    let broken: &[u8] = b"a\xff";
+    for (cubes, script, wanted) in [
+        (broken, broken, "cubes: NotUtf8 1"),
+        (b"cube t\nmetric m\ncube t\nx", broken, "cubes: BadLine 4"),
+        (
+            b"cube t\nmetric m\n\ncube t",
+            broken,
+            "cubes: DuplicateCube 4",
+        ),
+        (
+            b"cube a\ncube b\ncube c\ncube d\ncube e\ncube f\ncube g\ncube h\ncube i\ncube j\ncube k\ncube l\ncube m\ncube n\ncube o\ncube p\ncube q",
+            broken,
+            "cubes: TooManyCubes 17",
+        ),
+        (
+            b"cube t\ndim x int 5 2\nmetric x\n",
+            broken,
+            "cubes: Schema t DuplicateName x",
+        ),
+        (
+            b"cube t\ndim x int 5 0\nmetric m\n",
+            broken,
+            "cubes: Schema t ZeroCardinality x",
+        ),
+        (
+            b"cube t\ndim x int 5 6\nmetric m\n",
+            broken,
+            "cubes: Schema t RangeTooLarge x",
+        ),
+        (
+            b"cube t\ndim x int 4294967295 1\ndim y int 4294967295 1\ndim z int 4294967295 1\nmetric m\n",
+            broken,
+            "cubes: Schema t TooManyBricks",
+        ),
+        (
+            b"cube t\nmetric a\nmetric b\nmetric c\nmetric d\nmetric e\nmetric f\nmetric g\nmetric h\nmetric i\nmetric j\nmetric k\nmetric l\nmetric m\nmetric n\nmetric o\nmetric p\nmetric q",
+            broken,
+            "cubes: Schema t TooManyColumns",
+        ),
+        (
+            b"cube t\ndim x int 5 5\n",
+            broken,
+            "cubes: Schema t NoMetric",
+        ),
+        (CUBES, broken, "script 1: NotUtf8 1"),
+        (CUBES, b"FLUSH; \xc3", "script 1: NotUtf8 7"),
+        (none, b"FLUSH", "not built: script"),
+    ] {
+        let mut shelf = shelf(alloc, cubes, script, &[])?;
+        let mut sink = SinkMemory::new(alloc, 1000, Vec::new(alloc))?;
+        let (status, fault) = outcome(alloc, &["c", "s"], &mut shelf, &mut sink)?;
+        assert_eq!(rt; status, 4, "{wanted}");
+        assert_eq!(rt; fault.as_str(), wanted);
+        assert!(rt; sink.taken().is_empty());
+    }
+    Ok(())
+}
+
+// How a run with a cubes file and a script of so many of a byte each ends.
+fn outcome_of_sizes(
+    alloc: Global,
+    cubes: usize,
+    script: usize,
+    byte: u8,
+) -> Result<(u8, String), AllocError> {
+    let cubes = vec![in alloc; b'#'; cubes]?;
+    let script = vec![in alloc; byte; script]?;
+    let mut shelf = shelf(alloc, cubes.as_slice(), script.as_slice(), &[])?;
+    let mut sink = SinkMemory::new(alloc, 100, Vec::new(alloc))?;
+    outcome(alloc, &["c", "s"], &mut shelf, &mut sink)
+}
+
+#[test]
+fn sizes_at_their_limits(rt: HostRuntime) -> Result<(), Fail> {
+    let alloc = rt.alloc();
+    for (cubes, script, byte, status, wanted) in [
+        (1_048_576, 4_194_304, b' ', 0, ""),
+        (1_048_577, 4_194_305, b' ', 4, "cubes: CubesTooLong 1048577"),
+        (0, 4_194_305, b' ', 4, "script 1: ScriptTooLong 4194305"),
+        (0, 65_537, b'x', 4, "script 1: StatementTooLong 1"),
+    ] {
+        let (found, fault) = outcome_of_sizes(alloc, cubes, script, byte)?;
+        assert_eq!(rt; found, status, "{wanted}");
+        assert_eq!(rt; fault.as_str(), wanted);
+    }
+    Ok(())
+}
+
+#[test]
+fn more_statements_than_are_allowed(rt: HostRuntime) -> Result<(), Fail> {
+    let alloc = rt.alloc();
+    let mut script = Vec::new(alloc);
+    for _ in 0..65_537 {
+        script.extend_from_slice(b"x;")?;
+    }
+    let mut shelf = shelf(alloc, CUBES, script.as_slice(), &[])?;
+    let mut sink = SinkMemory::new(alloc, 100, Vec::new(alloc))?;
+    let (status, fault) = outcome(alloc, &["c", "s"], &mut shelf, &mut sink)?;
+    assert_eq!(rt; status, 4);
+    assert_eq!(rt; fault.as_str(), "script 1: TooManyStatements");
     Ok(())
 }
 
@@ -157,8 +284,9 @@ fn faults_of_words_files_and_output(rt: HostRuntime) -> Result<(), Fail> {
             0,
         ),
         (&["d", "s"], none, 1000, none, 3, b"no file d", 0),
+        (&["d", "e"], none, 1000, none, 3, b"no file d", 0),
         (&["c", "d"], none, 1000, none, 3, b"no file d", 0),
-        (&["s", "d"], none, 1000, none, 4, b"not built: cubes", 0),
+        (&["s", "d"], none, 1000, none, 4, b"cubes: BadLine 1", 0),
         (two, first, 1000, none, 3, b"cannot read c", 0),
         (two, third, 1000, none, 3, b"cannot read s", 0),
         (two, none, 1000, first, 7, b"output fault", 0),
@@ -168,26 +296,13 @@ fn faults_of_words_files_and_output(rt: HostRuntime) -> Result<(), Fail> {
     .into_iter()
     .enumerate()
     {
-        let mut shelf = shelf(alloc, CUBES, SCRIPT.as_bytes(), failing)?;
-        let mut sink = SinkMemory::new(alloc, room, numbers(alloc, sink_failing)?)?;
+        let mut shelf = shelf(alloc, CUBES, SCRIPT, failing)?;
+        let mut sink = SinkMemory::new(alloc, room, Vec::from_slice(alloc, sink_failing)?)?;
         let (found, fault) = outcome(alloc, words, &mut shelf, &mut sink)?;
         assert_eq!(rt; found, status, "case {place}");
         assert_eq!(rt; fault.as_bytes(), wanted, "case {place}");
         assert!(rt; text.as_bytes().starts_with(sink.taken()), "case {place}");
         assert_eq!(rt; sink.taken().len(), gained, "case {place}");
-    }
-    Ok(())
-}
-
-#[test]
-fn a_script_that_is_too_long_is_not_read(rt: HostRuntime) -> Result<(), Fail> {
-    let alloc = rt.alloc();
-    for (size, status) in [(4_194_304, 0), (4_194_305, 4)] {
-        let script = vec![in alloc; b' '; size]?;
-        let mut shelf = shelf(alloc, CUBES, script.as_slice(), &[])?;
-        let mut sink = SinkMemory::new(alloc, 100, Vec::new(alloc))?;
-        let (found, _fault) = outcome(alloc, &["c", "s"], &mut shelf, &mut sink)?;
-        assert_eq!(rt; found, status);
     }
     Ok(())
 }

@@ -1,2 +1,4 @@
-pub mod Fronts
-pub mod Forms
+pub mod Reading
+pub mod Places
+pub mod Laws
+pub mod Texts

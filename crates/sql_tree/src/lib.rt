@@ -1,14 +1,26 @@
-//! Reading of one statement from a piece of a script.
+//! Statements both ways: from their text, and to their printed form.
 #![tactic(auto)]
 
-mod form;
-mod front;
-mod kind;
+mod condition;
+mod head;
+mod item;
+mod keyword;
 mod law;
+mod parsing;
+mod part;
+mod printing;
+mod put;
+mod quote;
 mod read;
+mod statement;
+mod symbol;
 
-pub use law::a_text_spells_one_statement;
-pub use read::read_statement;
+pub use law::{
+    a_text_spells_one_statement, a_text_spells_or_has_one_fault,
+    what_is_printed_spells_its_statement,
+};
+pub use parsing::parse;
+pub use printing::print;
 
 #[cfg(test)]
 mod tests;

@@ -1,44 +1,117 @@
-//! The statement that a piece of a script spells.
+//! The parts of a statement that are one symbol, read from its tokens.
 
-ghost use Rattle.std.specs.Prelude.{◌≡◌, List, IfOk, IfSome, IfNone};
-ghost use Rattle.cube_journal.specs.declared.statement.Statement.{Statement};
-ghost use Rattle.cube_journal.specs.declared.token.Token.{Token};
-ghost use Rattle.cube_journal.specs.Grammar.{Spells};
-ghost use Rattle.cube_journal.specs.Tokens.{AreTokens};
+ghost use Rattle.std.specs.Prelude.{◌≡◌, false, IfOk, IfSome, IfNone};
+ghost use Rattle.cube_journal.specs.Symbols.{symbols_of};
+ghost use Rattle.sql_tree.specs.Places.{AreIn, BeginsWith, IsRest};
+ghost use Rattle.sql_tree.specs.Reading.{Gives, expect, goes_on, read_count, read_name, read_text, read_value};
 
-use crate::form::statement_of;
-use crate::front::{after_space, token_len};
-use crate::kind::token_of;
-use cube_journal::{Statement, Token};
-use std::alloc::{AllocError, Global};
+use crate::head::Sign;
+use crate::symbol::{count_in, is_sign, name_in, text_in, value_in};
+use cube_journal::Token;
+use cube_values::{CallError, Text, Value};
+use std::alloc::Global;
 
-/// The tokens of a piece, or None where some byte of it belongs to none.
-fn tokens_of(alloc: Global, piece: &[u8]) -> Result<Option<Vec<Token>>, AllocError>
-    ensures some { IfOk result (λ read. IfSome read (λ ts. AreTokens piece.now ts.items)) }
-    ensures none { IfOk result (λ read. IfNone read ((ts : List Token) → AreTokens piece.now ts → ⊥)) }
+/// Why tokens are not read: how many are left from the first that does not fit, 0 where they end too
+/// early; or want of memory.
+pub(crate) type Miss = CallError<usize>;
+
+/// The tokens behind a sign, where it stands first.
+pub(crate) fn after<'a>(text: &str, tokens: &'a [Token], wanted: Sign) -> Option<&'a [Token]>
+    requires { AreIn text.now tokens.now }
+    ensures some { IfSome result (λ rest. BeginsWith wanted text.now tokens.now rest.now) }
+    ensures none { IfNone result (goes_on wanted (symbols_of text.now tokens.now) ≡ false) }
 {
-    let mut tokens = Vec::new(alloc);
-    let mut rest = after_space(piece);
-    'tokens: while !rest.is_empty() {
-        let (front, behind) = rest.split_at(token_len(rest));
-        let Some(token) = token_of(alloc, front)? else {
-            return Ok(None);
-        };
-        tokens.push(token)?;
-        rest = after_space(behind);
+    match tokens {
+        [first, rest @ ..] if is_sign(text, first, wanted) => Some(rest),
+        _ => None,
     }
-    Ok(Some(tokens))
 }
 
-/// The statement that a piece spells, or None where it spells none. Keywords stand in any case. Both the
-/// time and the memory taken are linear in the bytes of the piece.
-#[tactic(auto, using(crate::proofs::Statements::none_spelled))]
-pub fn read_statement(alloc: Global, piece: &[u8]) -> Result<Option<Statement>, AllocError>
-    ensures spelled { IfOk result (λ read. IfSome read (λ s. Spells piece.now s)) }
-    ensures none { IfOk result (λ read. IfNone read ((s : Statement) → Spells piece.now s → ⊥)) }
+/// The tokens behind a sign that is wanted first.
+#[tactic(auto, unfolding(crate::specs::Reading::expect))]
+pub(crate) fn sign<'a>(text: &str, tokens: &'a [Token], wanted: Sign) -> Result<&'a [Token], Miss>
+    requires { AreIn text.now tokens.now }
+    ensures read { Gives (λ rest. (tt, symbols_of text.now rest.now)) result (expect wanted (symbols_of text.now tokens.now)) }
+    ensures rest { IfOk result (λ rest. IsRest text.now tokens.now rest.now) }
 {
-    let Some(tokens) = tokens_of(alloc, piece)? else {
-        return Ok(None);
+    match tokens {
+        [first, rest @ ..] if is_sign(text, first, wanted) => Ok(rest),
+        _ => Err(CallError::Fault(tokens.len())),
+    }
+}
+
+/// The name that stands first, and the tokens behind it.
+#[tactic(auto, unfolding(crate::specs::Reading::read_name))]
+pub(crate) fn name<'a>(
+    alloc: Global,
+    text: &str,
+    tokens: &'a [Token],
+) -> Result<(Text, &'a [Token]), Miss>
+    requires { AreIn text.now tokens.now }
+    ensures read { Gives (λ x. (x.0, symbols_of text.now x.1.now)) result (read_name (symbols_of text.now tokens.now)) }
+    ensures rest { IfOk result (λ x. IsRest text.now tokens.now x.1.now) }
+{
+    let [first, rest @ ..] = tokens else {
+        return Err(CallError::Fault(0));
     };
-    statement_of(alloc, tokens.as_slice())
+    match name_in(text, first) {
+        Some(name) => Ok((Text::new(alloc, name)?, rest)),
+        None => Err(CallError::Fault(tokens.len())),
+    }
+}
+
+/// The value that stands first, and the tokens behind it.
+#[tactic(auto, unfolding(crate::specs::Reading::read_value))]
+pub(crate) fn value<'a>(
+    alloc: Global,
+    text: &str,
+    tokens: &'a [Token],
+) -> Result<(Value, &'a [Token]), Miss>
+    requires { AreIn text.now tokens.now }
+    ensures read { Gives (λ x. (x.0, symbols_of text.now x.1.now)) result (read_value (symbols_of text.now tokens.now)) }
+    ensures rest { IfOk result (λ x. IsRest text.now tokens.now x.1.now) }
+{
+    let [first, rest @ ..] = tokens else {
+        return Err(CallError::Fault(0));
+    };
+    match value_in(alloc, text, first)? {
+        Some(value) => Ok((value, rest)),
+        None => Err(CallError::Fault(tokens.len())),
+    }
+}
+
+/// The text in quotes that stands first, and the tokens behind it.
+#[tactic(auto, unfolding(crate::specs::Reading::read_text))]
+pub(crate) fn path<'a>(
+    alloc: Global,
+    text: &str,
+    tokens: &'a [Token],
+) -> Result<(Text, &'a [Token]), Miss>
+    requires { AreIn text.now tokens.now }
+    ensures read { Gives (λ x. (x.0, symbols_of text.now x.1.now)) result (read_text (symbols_of text.now tokens.now)) }
+    ensures rest { IfOk result (λ x. IsRest text.now tokens.now x.1.now) }
+{
+    let [first, rest @ ..] = tokens else {
+        return Err(CallError::Fault(0));
+    };
+    match text_in(alloc, text, first)? {
+        Some(text) => Ok((text, rest)),
+        None => Err(CallError::Fault(tokens.len())),
+    }
+}
+
+/// The number without a minus sign that stands first, and the tokens behind it.
+#[tactic(auto, unfolding(crate::specs::Reading::read_count))]
+pub(crate) fn count<'a>(text: &str, tokens: &'a [Token]) -> Result<(u64, &'a [Token]), Miss>
+    requires { AreIn text.now tokens.now }
+    ensures read { Gives (λ x. (x.0, symbols_of text.now x.1.now)) result (read_count (symbols_of text.now tokens.now)) }
+    ensures rest { IfOk result (λ x. IsRest text.now tokens.now x.1.now) }
+{
+    let [first, rest @ ..] = tokens else {
+        return Err(CallError::Fault(0));
+    };
+    match count_in(text, first) {
+        Some(n) => Ok((n, rest)),
+        None => Err(CallError::Fault(tokens.len())),
+    }
 }

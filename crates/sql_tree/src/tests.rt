@@ -1,142 +1,219 @@
-//! Texts with the statement that each spells, and texts that spell none.
+//! Texts with the printed form of the statement that each spells, or with the place where each goes wrong,
+//! worked out by hand.
 
-use crate::{a_text_spells_one_statement, read_statement};
+use crate::{
+    a_text_spells_one_statement, a_text_spells_or_has_one_fault, parse, print,
+    what_is_printed_spells_its_statement,
+};
 use cube_journal::Statement;
+use cube_values::CallError;
+use std::alloc::{AllocError, Global};
+use std::str;
 use std::test::Fail;
 
-#[derive(Drop)]
-enum Wanted<'a> {
-    Insert(&'a str, &'a [i64]),
-    Sum(&'a str, &'a str),
+/// A text, and what is printed of its statement or says where it goes wrong.
+const TEXTS: [(&str, &str); 42] = [
+    (
+        "select  sum ( likes ) from visits where region in ('CA')",
+        "SELECT SUM(likes) FROM visits WHERE region IN ('CA')",
+    ),
+    (
+        "select a,min(b),max(c),avg(d),count(*),Sum(e) from t where a='it''s' and b in(1,2) and c between -1 and 'x' group by a,b",
+        "SELECT a, MIN(b), MAX(c), AVG(d), COUNT(*), SUM(e) FROM t WHERE a = 'it''s' AND b IN (1, 2) AND c BETWEEN -1 AND 'x' GROUP BY a, b",
+    ),
+    ("SELECT a FROM t GROUP BY a", "SELECT a FROM t GROUP BY a"),
+    (
+        "sElEcT\tcount\n(\r* )fRoM selected",
+        "SELECT COUNT(*) FROM selected",
+    ),
+    (
+        "SELECT -- the sum\n SUM(m)-- of\nFROM t --",
+        "SELECT SUM(m) FROM t",
+    ),
+    (
+        "SELECT aaaaaaaaaaaaaaaaaaaaaaaaaaaaaa_BBBBBBBBBBBBBBBBBBBBBBBBBBBBBB123 FROM t",
+        "SELECT aaaaaaaaaaaaaaaaaaaaaaaaaaaaaa_BBBBBBBBBBBBBBBBBBBBBBBBBBBBBB123 FROM t",
+    ),
+    (
+        "insert into t values(1,'x'),( -2 , '' )",
+        "INSERT INTO t VALUES (1, 'x'), (-2, '')",
+    ),
+    (
+        "INSERT INTO t VALUES (-9223372036854775808, 9223372036854775807, -00, 007)",
+        "INSERT INTO t VALUES (-9223372036854775808, 9223372036854775807, 0, 7)",
+    ),
+    (
+        "INSERT INTO t VALUES ('''', '''''', 'a -- b', 'é日')",
+        "INSERT INTO t VALUES ('''', '''''', 'a -- b', 'é日')",
+    ),
+    (
+        "load t from 'a b.csv' reject 0010",
+        "LOAD t FROM 'a b.csv' REJECT 10",
+    ),
+    (
+        "LOAD t FROM '' REJECT 9223372036854775807",
+        "LOAD t FROM '' REJECT 9223372036854775807",
+    ),
+    ("LOAD t FROM 'p' REJECT -0", "LOAD t FROM 'p' REJECT 0"),
+    ("delete from t", "DELETE FROM t"),
+    (
+        "DELETE FROM t where a = 1 and b='y'",
+        "DELETE FROM t WHERE a = 1 AND b = 'y'",
+    ),
+    ("begin", "BEGIN"),
+    ("Commit", "COMMIT"),
+    (" ROLLBACK ", "ROLLBACK"),
+    ("flusH", "FLUSH"),
+    ("pUrGe", "PURGE"),
+    ("show\nepochs", "SHOW EPOCHS"),
+    ("SELECT FROM visits", "Syntax at 7"),
+    ("SELECT FROM #", "Syntax at 12"),
+    ("SELECT  ", "Syntax at 8"),
+    ("", "Syntax at 0"),
+    (" -- a\n", "Syntax at 6"),
+    ("FROM SELECT #", "Syntax at 12"),
+    ("LOAD t FROM 'p' REJECT -1", "Syntax at 23"),
+    ("INSERT INTO t VALUES ()", "Syntax at 22"),
+    ("INSERT INTO t VALUES (9223372036854775808)", "Syntax at 22"),
+    ("INSERT INTO t VALUES ('a", "Syntax at 22"),
+    ("INSERT INTO t VALUES (1), 2", "Syntax at 26"),
+    ("INSERT INTO t VALUES (1, (2)", "Syntax at 25"),
+    (
+        "SELECT a FROM aaaaaaaaaaaaaaaaaaaaaaaaaaaaaa_BBBBBBBBBBBBBBBBBBBBBBBBBBBBBB1234",
+        "Syntax at 14",
+    ),
+    ("SELECT a FROM watch", "Syntax at 14"),
+    ("SELECT select FROM t", "Syntax at 7"),
+    ("SELECT count FROM t", "Syntax at 13"),
+    ("SELECT SUM(*) FROM t", "Syntax at 11"),
+    ("SELECT COUNT(m) FROM t", "Syntax at 13"),
+    ("SELECT a FROM t;", "Syntax at 15"),
+    ("SELECT a FROM t WHERE a", "Syntax at 23"),
+    ("SELECT a FROM t WHERE a BETWEEN 1 OR 2", "Syntax at 34"),
+    ("SELECT a FROM t GROUP BY a WHERE a = 1", "Syntax at 27"),
+];
+
+/// A text of each form, with a space between each two tokens.
+const FORMS: [&str; 11] = [
+    "SELECT a , SUM ( m ) , COUNT ( * ) , MIN ( m ) , MAX ( m ) , AVG ( m ) FROM t WHERE a = 'x' AND b IN ( 1 , 2 ) AND c BETWEEN 1 AND 2 GROUP BY a , b",
+    "SELECT a FROM t GROUP BY a",
+    "INSERT INTO t VALUES ( 1 , 'x' )",
+    "LOAD t FROM 'p' REJECT 7",
+    "DELETE FROM t WHERE a = 1",
+    "BEGIN",
+    "COMMIT",
+    "ROLLBACK",
+    "FLUSH",
+    "PURGE",
+    "SHOW EPOCHS",
+];
+
+/// What is printed of a text's statement, or says where it goes wrong.
+fn shown(alloc: Global, text: &str) -> Result<Vec<u8>, AllocError> {
+    match parse(alloc, text) {
+        Ok(statement) => print(alloc, &statement),
+        Err(CallError::Fault(fault)) => {
+            let said = format!(in alloc; "{fault}")?;
+            Vec::from_slice(alloc, said.as_bytes())
+        }
+        Err(CallError::NoMemory) => Err(AllocError),
+    }
 }
 
-fn is_wanted(read: &Option<Statement>, wanted: &Wanted) -> bool {
-    match (read, wanted) {
-        (Some(Statement::Insert { cube, values }), Wanted::Insert(name, numbers)) => {
-            cube.as_str() == *name && values.as_slice() == *numbers
-        }
-        (Some(Statement::SelectSum { metric, cube }), Wanted::Sum(column, name)) => {
-            metric.as_str() == *column && cube.as_str() == *name
-        }
-        _ => false,
+/// The place where a text goes wrong, if it does.
+fn wrong_at(alloc: Global, text: &str) -> Result<Option<u64>, AllocError> {
+    match parse(alloc, text) {
+        Ok(_) => Ok(None),
+        Err(CallError::Fault(fault)) => Ok(Some(fault.at)),
+        Err(CallError::NoMemory) => Err(AllocError),
+    }
+}
+
+/// Whether bytes are a text that spells the statement.
+fn is_spelled_by(alloc: Global, bytes: &[u8], statement: &Statement) -> Result<bool, AllocError> {
+    let Ok(text) = str::from_utf8(bytes) else {
+        return Ok(false);
+    };
+    match parse(alloc, text) {
+        Ok(read) => Ok(read == *statement),
+        Err(CallError::Fault(_)) => Ok(false),
+        Err(CallError::NoMemory) => Err(AllocError),
     }
 }
 
 #[test]
-fn statements_are_read(rt: HostRuntime) -> Result<(), Fail> {
+fn texts_are_read_and_printed(rt: HostRuntime) -> Result<(), Fail> {
     a_text_spells_one_statement();
-    let table: [(&str, Wanted); 13] = [
-        ("INSERT INTO t VALUES (4, 7)", Wanted::Insert("t", &[4, 7])),
-        ("INSERT INTO t VALUES(4,7)", Wanted::Insert("t", &[4, 7])),
-        (
-            "insert\tinto t values ( 4 , -7 )",
-            Wanted::Insert("t", &[4, -7]),
-        ),
-        (
-            "\r\n iNsErT\nInTo\r_t9\tVaLuEs\n(\r0005\t)\n ",
-            Wanted::Insert("_t9", &[5]),
-        ),
-        (
-            "INSERT INTO Select1 VALUES(-9223372036854775808,9223372036854775807)",
-            Wanted::Insert("Select1", &[i64::MIN, i64::MAX]),
-        ),
-        (
-            "INSERT INTO t VALUES (-0, 00, -00012)",
-            Wanted::Insert("t", &[0, 0, -12]),
-        ),
-        (
-            "INSERT INTO t VALUES (1,2,3,4,5,6,7,8,9)",
-            Wanted::Insert("t", &[1, 2, 3, 4, 5, 6, 7, 8, 9]),
-        ),
-        ("SELECT SUM(m) FROM t", Wanted::Sum("m", "t")),
-        (" select sum ( m ) from t ", Wanted::Sum("m", "t")),
-        (
-            "SELECT\nSUM\n(\nLikes\n)\nFROM\nT\n",
-            Wanted::Sum("Likes", "T"),
-        ),
-        ("Select Sum(_)From __", Wanted::Sum("_", "__")),
-        (
-            "SELECT SUM(sums) FROM selected",
-            Wanted::Sum("sums", "selected"),
-        ),
-        (
-            "SELECT SUM(aaaaaaaaaaaaaaaaaaaaaaaaaaaaaa_BBBBBBBBBBBBBBBBBBBBBBBBBBBBBB123) FROM t",
-            Wanted::Sum(
-                "aaaaaaaaaaaaaaaaaaaaaaaaaaaaaa_BBBBBBBBBBBBBBBBBBBBBBBBBBBBBB123",
-                "t",
-            ),
-        ),
-    ];
-    for (piece, wanted) in &table {
-        let read = read_statement(rt.alloc(), piece.as_bytes())?;
-        assert!(rt; is_wanted(&read, wanted), "at {piece}");
+    a_text_spells_or_has_one_fault();
+    what_is_printed_spells_its_statement();
+    for (text, wanted) in TEXTS {
+        let printed = shown(rt.alloc(), text)?;
+        assert!(rt; printed.as_slice() == wanted.as_bytes(), "at {text}");
     }
     Ok(())
 }
 
 #[test]
-fn other_texts_spell_nothing(rt: HostRuntime) -> Result<(), Fail> {
-    let table: [&[u8]; 56] = [
-        b"SELECT SUM(aaaaaaaaaaaaaaaaaaaaaaaaaaaaaa_BBBBBBBBBBBBBBBBBBBBBBBBBBBBBB1234) FROM t",
-        b"INSERT INTO aaaaaaaaaaaaaaaaaaaaaaaaaaaaaa_BBBBBBBBBBBBBBBBBBBBBBBBBBBBBB1234 VALUES (1)",
-        b"",
-        b" \t\r\n",
-        b"INSERT INTO t VALUES (9223372036854775808)",
-        b"INSERT INTO t VALUES (-9223372036854775809)",
-        b"INSERT INTO t VALUES (99999999999999999999999999)",
-        b"INSERT INTO t VALUES (5 -3)",
-        b"INSERT INTO t VALUES (5-3)",
-        b"INSERT INTO t VALUES (--5)",
-        b"INSERT INTO t VALUES (- 5)",
-        b"INSERT INTO t VALUES (-)",
-        b"INSERT INTO t VALUES (+5)",
-        b"INSERT INTO t VALUES (5.0)",
-        b"INSERT INTO t VALUES (5x)",
-        b"INSERT INTO t VALUES ()",
-        b"INSERT INTO t VALUES (1,)",
-        b"INSERT INTO t VALUES (,1)",
-        b"INSERT INTO t VALUES (1 2)",
-        b"INSERT INTO t VALUES (1,,2)",
-        b"INSERT INTO t VALUES (1",
-        b"INSERT INTO t VALUES 1)",
-        b"INSERT INTO t VALUES (1))",
-        b"INSERT INTO t VALUES (1) 2",
-        b"INSERT INTO t VALUES (1);",
-        b"INSERT INTO t VALUES (m)",
-        b"INSERT INTO t VALUES",
-        b"INSERTINTO t VALUES (1)",
-        b"INSERT INTO values VALUES (1)",
-        b"INSERT INTO watch VALUES (1)",
-        b"INSERT INTO 5 VALUES (1)",
-        b"INSERT INTO 5t VALUES (1)",
-        b"INSERT t VALUES (1)",
-        b"SELECT SUM(m) FROM t x",
-        b"SELECT SUM(m) FROM t,",
-        b"SELECT SUM(m) FROM",
-        b"SELECT SUM(m FROM t",
-        b"SELECT SUM() FROM t",
-        b"SELECT SUM(5) FROM t",
-        b"SELECT SUM(count) FROM t",
-        b"SELECT SUM(Group) FROM t",
-        b"SELECT SUM(m) FROM SELECT",
-        b"SELECT COUNT(m) FROM t",
-        b"SELECT m FROM t",
-        b"SELECT SUM(m) INTO t",
-        b"-",
-        b"5",
-        b"select",
-        b"SELECT SUM(m) FROM \xc3\xa9",
-        b"\xff",
-        b"INSERT INTO t\xff VALUES (1)",
-        b"SELECT SUM(m) FROM t\x00",
-        b"SELECT\x0bSUM(m) FROM t",
-        b"SELECT\x0cSUM(m) FROM t",
-        b"SELECT\xc2\xa0SUM(m) FROM t",
-        b"INSERT INTO t VALUES ('1')",
-    ];
-    for piece in table {
-        let read = read_statement(rt.alloc(), piece)?;
-        assert!(rt; read.is_none(), "at {piece:?}");
+fn what_is_printed_is_read_again(rt: HostRuntime) -> Result<(), Fail> {
+    for (text, _) in TEXTS {
+        if let Ok(statement) = parse(rt.alloc(), text) {
+            let printed = print(rt.alloc(), &statement)?;
+            let same = is_spelled_by(rt.alloc(), printed.as_slice(), &statement)?;
+            assert!(rt; same, "at {text}");
+        }
+    }
+    Ok(())
+}
+
+/// How a token is changed.
+#[derive(Clone, Copy)]
+enum Change {
+    LeftOut,
+    Doubled,
+    Replaced,
+}
+
+/// The text of a form with one token changed, and the place where it goes wrong: where the token was that is
+/// left out or replaced, and where it stands the second time.
+fn changed(
+    alloc: Global,
+    form: &str,
+    at: usize,
+    change: Change,
+) -> Result<(String, usize), AllocError> {
+    let mut text = String::new(alloc);
+    let mut place = 0;
+    for (i, token) in form.split(' ').enumerate() {
+        let mut token = token;
+        if i == at {
+            if let Change::Doubled = change {
+                text.push_str(token)?;
+                text.push(' ')?;
+            }
+            if let Change::Replaced = change {
+                token = if token == "*" { "=" } else { "*" };
+            }
+            place = text.len();
+            if let Change::LeftOut = change {
+                continue;
+            }
+        }
+        text.push_str(token)?;
+        text.push(' ')?;
+    }
+    Ok((text, place))
+}
+
+#[test]
+fn changed_texts_go_wrong_at_the_change(rt: HostRuntime) -> Result<(), Fail> {
+    for form in FORMS {
+        for change in [Change::LeftOut, Change::Doubled, Change::Replaced] {
+            for at in 0..form.split(' ').count() {
+                let (text, place) = changed(rt.alloc(), form, at, change)?;
+                let wrong = wrong_at(rt.alloc(), text.as_str())?;
+                assert!(rt; wrong == Some(place as u64), "at {text}");
+            }
+        }
     }
     Ok(())
 }

@@ -1,7 +1,14 @@
-use Rattle.std.proofs.Common.{ap, ◌∙◌, sym}
-use Rattle.cubrick_top.proofs.Served.{served}
+use Rattle.cubrick_top.proofs.Served.{TextsHaveOneOutcome, served}
 use Rattle.cubrick_top.proofs.running.finish_files.Goals as goal
 
 pub returns-clause-served : goal.returns-clause-served
 returns-clause-served g c = λ ready quiet silent.
-    rw c.finish.ensures.status (served c.each_text_is_of_one_cube.ensures (g.H.Shelf.told c.args.shelf.now) (g.K.Sink.taken c.args.sink.now) (g.K.Sink.taken c.run_files.new.sink) c.args.cubes.now c.args.script.now c.run_files.result _ _ _ _ ready c.run_files.ensures.run c.run_files.ensures.faults quiet c.run_files.ensures.output silent)
+    let one : TextsHaveOneOutcome = record {
+      cubes = c.a_text_declares_or_has_one_fault.ensures.one_list;
+      no_cubes_fault = c.a_text_declares_or_has_one_fault.ensures.no_fault;
+      script = c.a_script_has_one_outcome.ensures.pieces;
+      no_script_fault = c.a_script_has_one_outcome.ensures.either;
+      statement = c.a_text_spells_one_statement.ensures;
+      no_syntax_fault = c.a_text_spells_or_has_one_fault.ensures.either;
+    } in
+    rw c.finish.ensures.status (served one (g.H.Shelf.told c.args.shelf.now) (g.K.Sink.taken c.args.sink.now) (g.K.Sink.taken c.run_files.new.sink) c.args.cubes.now c.args.script.now c.run_files.result _ _ _ _ ready c.run_files.ensures.run c.run_files.ensures.faults quiet c.run_files.ensures.output silent)

@@ -1,13 +1,18 @@
-use Rattle.std.proofs.Common.{◌++◌, ap, ◌∙◌, ◌+◌}
+use Rattle.std.proofs.Common.{◌++◌, ap, subst, ◌∙◌, ◌+◌}
+use Rattle.std.specs.Vec.Iter.{into_iter_items}
 use Rattle.cube_journal.specs.Replies.{numbered}
-use Rattle.cubrick_top.proofs.SessionSteps.{progress_rises, progress_at}
+use Rattle.cubrick_top.proofs.SessionSteps.{Progress, progress_rises, progress_more}
 use Rattle.cubrick_top.proofs.session.run_text.Goals as goal
 
-pub run_statement-requires-clause-rises : goal.run_statement-requires-clause-rises
-run_statement-requires-clause-rises c = progress_rises c.loop-done.invariant
+pub perform-requires : goal.perform-requires
+perform-requires c = progress_rises c.actions.invariant.2
 
-pub loop-done-preserved : goal.loop-done-preserved
-loop-done-preserved c =
-    let at = c.loop-done in
-    progress_at c.args.decl.now c.args.statements.now c.index-statements-done.result at.done at.transactions.items c.run_statement.new.transactions.items at.out.items c.push_reply.new.out.items c.loop-done-test.true c.index-statements-done.is at.invariant c.in_ok-reply.ensures.after
-    (c.in_ok-push_reply.ensures ∙ ap (λ r. at.out.items ++ numbered 1 (at.done + 1) r) c.in_ok-reply.ensures.reply)
+pub actions-preserved-in_ok-push_reply : goal.actions-preserved-in_ok-push_reply
+actions-preserved-in_ok-push_reply c =
+    let at = c.actions in
+    let first : Progress c.args.actions.items _ at.done at.transactions.items at.out.items = subst (λ left. Progress c.args.actions.items left at.done at.transactions.items at.out.items) c.in-Some.ensures.steps.0 at.invariant.2 in (
+      tt,
+      tt,
+      progress_more c.args.actions.items c.in-Some.action (into_iter_items c.next.new.self) at.done at.transactions.items c.perform.new.transactions.items at.out.items c.push_reply.new.out.items first c.in_ok-reply.ensures.after
+          (c.in_ok-push_reply.ensures ∙ ap (λ r. at.out.items ++ numbered 1 (at.done + 1) r) c.in_ok-reply.ensures.reply),
+    )

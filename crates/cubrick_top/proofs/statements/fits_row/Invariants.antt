@@ -1,5 +1,5 @@
 use Rattle.std.proofs.Common.{◌≡◌, length}
-use Rattle.cubrick_top.specs.Statements.{fits_row}
+use Rattle.cubrick_top.specs.Actions.{fits_row}
 use Rattle.cubrick_top.proofs.statements.fits_row.Given as goal
 
 abbrev pub invariant-dims : goal.invariant-dims

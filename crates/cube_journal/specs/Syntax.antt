@@ -1,0 +1,40 @@
+-- Where a text that spells no statement goes wrong.
+-- Source: this project's own.
+use Rattle.std.specs.Prelude.{◌≡◌, ℕ, ◌⊎◌, List, [], ◌∷◌, ◌++◌, length}
+use Rattle.cube_journal.specs.declared.statement.Statement.{Statement}
+use Rattle.cube_journal.specs.declared.token.Token.{Token}
+use Rattle.cube_journal.specs.declared.token.TokenFault.{TokenFault}
+use Rattle.cube_journal.specs.Grammar.{form_of, IsProper}
+use Rattle.cube_journal.specs.Symbols.{Symbol, symbols_of}
+use Rattle.cube_journal.specs.Tokens.{AreTokens, HasTokenFault, fault_at}
+
+-- These are the symbols of a statement.
+abbrev pub IsForm : List Symbol → Type 0
+IsForm symbols = (statement : Statement) × IsProper statement × (form_of statement ≡ symbols)
+
+-- The symbols of some statement begin with these.
+abbrev pub CanBegin : List Symbol → Type 0
+CanBegin symbols = (statement : Statement) × IsProper statement × (more : List Symbol) × (form_of statement ≡ symbols ++ more)
+
+-- Behind tokens with which a statement can begin, the text ends although they are none yet, or no statement goes
+-- on with the next token.
+abbrev pub GoesWrongAt : List ℕ → List Token → List Token → ℕ → Type 0
+GoesWrongAt text front [] at = (IsForm (symbols_of text front) → ⊥) × (at ≡ length text)
+GoesWrongAt text front (t ∷ tokens) at = (CanBegin (symbols_of text (front ++ t ∷ [])) → ⊥) × (at ≡ t.start)
+
+-- The text has tokens and goes wrong among them at this place.
+pub record GoesWrong (text : List ℕ) (at : ℕ) : Type 0 where
+  pub front : List Token
+  pub rest : List Token
+  pub tokens : AreTokens text (front ++ rest)
+  pub begins : CanBegin (symbols_of text front)
+  pub wrong : GoesWrongAt text front rest at
+
+-- The text has a fault among its tokens at this place.
+abbrev pub HasFaultAt : List ℕ → ℕ → Type 0
+HasFaultAt text at = (fault : TokenFault) × HasTokenFault text fault × (at ≡ fault_at fault)
+
+-- The text spells no statement, and this is the first place that shows it. A fault among the tokens comes first,
+-- wherever it is.
+abbrev pub IsSyntaxFault : List ℕ → ℕ → Type 0
+IsSyntaxFault text at = HasFaultAt text at ⊎ GoesWrong text at

@@ -1,7 +1,0 @@
-use Rattle.std.proofs.Common.{◌≡◌, ◌++◌, take}
-use Rattle.std.specs.List.{flat_map}
-use Rattle.cube_journal.specs.Cubes.{dim_text}
-use Rattle.cube_schema.proofs.printing.put_dims.Given as goal
-
-abbrev pub invariant-loop-dim : goal.invariant-loop-dim
-invariant-loop-dim l = l.out.items ≡ l.fn.out.items ++ flat_map dim_text (take l.dim-index l.dims)

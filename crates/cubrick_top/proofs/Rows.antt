@@ -1,0 +1,54 @@
+-- Rows that fit a cube, and places that fit their type.
+use Rattle.std.proofs.Common.{◌≡◌, ℕ, ◌<◌, ◌≤◌, Bool, true, false, cond, ◌&&◌, ◌||◌, List, [], ◌∷◌, length, Option, Some, None, refl, subst, nat_lt, arith}
+use Rattle.std.specs.Prelude.{All}
+use Rattle.std.specs.List.{AllByRecursion}
+use Rattle.std.specs.Str.{bytes_eq}
+use Rattle.std.proofs.lemmas.Bool.{and_parts}
+use Rattle.std.proofs.lemmas.Bool.Decides.{nat_tests}
+use Rattle.std.proofs.lemmas.List.Elements.{recursion_from_All}
+use Rattle.cube_values.specs.declared.value.Value.{Value}
+use Rattle.cube_journal.specs.declared.decl.DimDecl.{DimDecl}
+use Rattle.cube_journal.specs.declared.decl.Decl.{Decl}
+use Rattle.cube_journal.specs.declared.cubes_fault.SchemaFault.TheVariants.{TooManyColumns}
+use Rattle.cube_journal.specs.Cubes.{IsStorable, first_some, duplicate_in, zero_in, large_range_in, many_bricks_in, many_columns_in, no_metric_in}
+use Rattle.cubrick_top.specs.Actions.{is_coordinate, fits_row, cube_named}
+
+-- a row that fits has a value for each dimension
+pub fits_long : (dims : List DimDecl) (metrics : ℕ) (values : List Value) → fits_row dims metrics values ≡ true → length dims ≤ length values
+fits_long [] metrics values h = omega arith
+fits_long (dim ∷ dims) metrics [] h = absurd cc
+fits_long (dim ∷ dims) metrics (v ∷ values) h =
+    omega (arith, fits_long dims metrics values (and_parts (is_coordinate dim v) (fits_row dims metrics values) h).1)
+
+none_of : {A : Type 0} (first : Option A) (others : List (Option A)) → first_some (first ∷ others) ≡ None → first_some others ≡ None
+none_of None others h = h
+none_of (Some x) others h = absurd cc
+
+is_none : {A : Type 0} (first : Option A) (others : List (Option A)) → first_some (first ∷ others) ≡ None → first ≡ None
+is_none None others h = refl
+is_none (Some x) others h = absurd cc
+
+not_above : (n : ℕ) → nat_lt 16 n ≡ false → n ≤ 16
+not_above n h = grind (arith, nat_tests)
+
+few : (a b : Bool) (n : ℕ) → nat_lt 16 n ≡ b → cond (a || b) (Some TooManyColumns) None ≡ None → n ≤ 16
+few true b n is none = absurd cc
+few false true n is none = absurd cc
+few false false n is none = not_above n is
+
+-- a cube that can be stored has at most sixteen metrics
+pub few_metrics : (d : Decl) → IsStorable d → length d.metrics ≤ 16
+few_metrics d h =
+    few (nat_lt 16 (length d.dims)) (nat_lt 16 (length d.metrics)) (length d.metrics) refl (is_none (many_columns_in d) (no_metric_in d ∷ []) (none_of (many_bricks_in d) _ (none_of (large_range_in d) _ (none_of (zero_in d) _ (none_of (duplicate_in d) _ h)))))
+
+named_storable : (cubes : List Decl) (name : List ℕ) (d : Decl) → AllByRecursion IsStorable cubes → cube_named cubes name ≡ Some d → IsStorable d
+named_storable [] name d all is = absurd cc
+named_storable (c ∷ cubes) name d all is = at (bytes_eq name c.name) (named_storable cubes name d all.1) is
+  where
+    at : (b : Bool) → (cube_named cubes name ≡ Some d → IsStorable d) → cond b (Some c) (cube_named cubes name) ≡ Some d → IsStorable d
+    at true rest e = let same : c ≡ d = cc in subst IsStorable same all.0
+    at false rest e = rest e
+
+-- a cube among those that can be stored has at most sixteen metrics
+pub named_has_few_metrics : (cubes : List Decl) (name : List ℕ) (d : Decl) → All IsStorable cubes → cube_named cubes name ≡ Some d → length d.metrics ≤ 16
+named_has_few_metrics cubes name d all is = few_metrics d (named_storable cubes name d (recursion_from_All IsStorable cubes all) is)

@@ -1,0 +1,147 @@
+-- Keywords and the words that spell them.
+use Rattle.std.proofs.Common.{◌≡◌, ℕ, Bool, true, false, not, ◌&&◌, nat_le, length, cond, List, [], ◌∷◌, Option, Some, None, map, find, refl, sym, ap, ◌∙◌, inl, inr}
+use Rattle.std.specs.Char.{to_ascii_lowercase, to_ascii_uppercase}
+use Rattle.std.specs.Option.{option_map_or}
+use Rattle.std.specs.Str.{bytes_eq}
+use Rattle.std.proofs.lemmas.Bool.{cases_Bool, and_right, both_ways}
+use Rattle.std.proofs.lemmas.Slice.Eq.{bytes_eq-Decides}
+use Rattle.cube_values.specs.Names.{spells, is_name, is_word, is_keyword}
+use Rattle.cube_journal.specs.declared.token.Keyword.{Keyword as KeywordWord}
+use Rattle.cube_journal.specs.declared.token.Keyword.TheVariants as keyword
+use Rattle.cube_journal.specs.Symbols.{Symbol, Keyword, Word, Open, Close, Comma, Star, keyword_text, keyword_of, statement_keywords, word_symbol}
+use Rattle.sql_tree.specs.declared.head.Sign.{Sign}
+use Rattle.sql_tree.specs.declared.head.Sign.TheVariants as sign
+use Rattle.sql_tree.specs.Reading.{same_keyword, is_sign, keyword_in, name_in, value_in, text_in, count_in}
+
+-- a word that spells a keyword is that keyword
+pub spelled_is : (k : KeywordWord) (word : List ℕ) → map to_ascii_lowercase word ≡ keyword_text k → keyword_of word ≡ Some k
+unfolding keyword_of
+spelled_is keyword.Select word e = rw e refl
+spelled_is k word e = rw e refl
+
+lowered : (k : KeywordWord) → map to_ascii_lowercase (keyword_text k) ≡ keyword_text k
+lowered keyword.Select = refl
+lowered k = refl
+
+-- and so is the word in capitals
+capitals_lowered : (k : KeywordWord) → map to_ascii_lowercase (map to_ascii_uppercase (keyword_text k)) ≡ keyword_text k
+capitals_lowered keyword.Select = refl
+capitals_lowered k = refl
+
+pub capitals_spell : (k : KeywordWord) → keyword_of (map to_ascii_uppercase (keyword_text k)) ≡ Some k
+capitals_spell k = spelled_is k (map to_ascii_uppercase (keyword_text k)) (capitals_lowered k)
+
+find_passes : {A : Type 0} (p : A → Bool) (xs : List A) (x : A) → find p xs ≡ Some x → p x ≡ true
+find_passes p [] x e = absurd cc
+find_passes p (y ∷ ys) x e =
+    elim (cases_Bool (p y)) [
+      | inl passes ↦ let same : y ≡ x = let at : find p (y ∷ ys) ≡ Some y = rw passes refl in cc in ap p (sym same) ∙ passes
+      | inr fails ↦ let later : find p (y ∷ ys) ≡ find p ys = rw fails refl in find_passes p ys x (sym later ∙ e)
+    ]
+
+-- the letters of a keyword are those of a word that spells it
+pub keyword_letters : (k : KeywordWord) (word : List ℕ) → keyword_of word ≡ Some k → map to_ascii_lowercase word ≡ keyword_text k
+unfolding keyword_of
+keyword_letters k word e = (bytes_eq-Decides (map to_ascii_lowercase word) (keyword_text k)).0 (find_passes (λ j. spells (keyword_text j) word) statement_keywords k e)
+
+pub same_keyword_is : (wanted k : KeywordWord) → same_keyword wanted k ≡ true → k ≡ wanted
+same_keyword_is wanted k same =
+    let letters = (bytes_eq-Decides (keyword_text k) (keyword_text wanted)).0 same in
+    let one = spelled_is k (keyword_text k) (lowered k) in
+    let two = spelled_is wanted (keyword_text k) (lowered k ∙ letters) in
+    cc
+
+pub same_keyword_self : (k : KeywordWord) → same_keyword k k ≡ true
+same_keyword_self k = (bytes_eq-Decides (keyword_text k) (keyword_text k)).1 refl
+
+-- ---- signs
+
+abbrev pub sign_symbol : Sign → Symbol
+sign_symbol (sign.Keyword k) = Keyword k
+sign_symbol sign.Open = Open
+sign_symbol sign.Close = Close
+sign_symbol sign.Comma = Comma
+sign_symbol sign.Star = Star
+
+pub is_sign_symbol : (wanted : Sign) (symbol : Symbol) → is_sign wanted symbol ≡ true → symbol ≡ sign_symbol wanted
+is_sign_symbol (sign.Keyword wanted) (Keyword k) e = ap Keyword (same_keyword_is wanted k e)
+is_sign_symbol sign.Open Open e = refl
+is_sign_symbol sign.Close Close e = refl
+is_sign_symbol sign.Comma Comma e = refl
+is_sign_symbol sign.Star Star e = refl
+is_sign_symbol wanted symbol e = absurd cc
+
+pub is_sign_self : (wanted : Sign) → is_sign wanted (sign_symbol wanted) ≡ true
+is_sign_self (sign.Keyword wanted) = same_keyword_self wanted
+is_sign_self sign.Open = refl
+is_sign_self wanted = refl
+
+-- ---- what a word says
+
+word_sign_at : (wanted : KeywordWord) (word : List ℕ) (o : Option KeywordWord) → keyword_of word ≡ o → spells (keyword_text wanted) word ≡ is_sign (sign.Keyword wanted) (option_map_or Keyword o (Word word))
+word_sign_at wanted word (Some k) e = ap (λ letters. bytes_eq letters (keyword_text wanted)) (keyword_letters k word e)
+word_sign_at wanted word None e =
+    elim (cases_Bool (spells (keyword_text wanted) word)) [
+      | inl same ↦ let there = spelled_is wanted word ((bytes_eq-Decides (map to_ascii_lowercase word) (keyword_text wanted)).0 same) in absurd cc
+      | inr differs ↦ differs
+    ]
+
+-- a word spells a keyword where it says it
+pub word_sign : (wanted : KeywordWord) (word : List ℕ) → spells (keyword_text wanted) word ≡ is_sign (sign.Keyword wanted) (word_symbol word)
+word_sign wanted word = word_sign_at wanted word (keyword_of word) refl
+
+-- a word that is no keyword says itself
+abbrev said : List ℕ → Option KeywordWord → Symbol
+said word o = option_map_or Keyword o (Word word)
+
+keyword_in_said : (word : List ℕ) (o : Option KeywordWord) → o ≡ keyword_in (said word o)
+keyword_in_said word (Some k) = refl
+keyword_in_said word None = refl
+
+pub keyword_in_word : (word : List ℕ) → keyword_of word ≡ keyword_in (word_symbol word)
+keyword_in_word word = keyword_in_said word (keyword_of word)
+
+value_in_said : (word : List ℕ) (o : Option KeywordWord) → value_in (said word o) ≡ None
+value_in_said word (Some k) = refl
+value_in_said word None = refl
+
+pub value_in_word : (word : List ℕ) → value_in (word_symbol word) ≡ None
+value_in_word word = value_in_said word (keyword_of word)
+
+text_in_said : (word : List ℕ) (o : Option KeywordWord) → text_in (said word o) ≡ None
+text_in_said word (Some k) = refl
+text_in_said word None = refl
+
+pub text_in_word : (word : List ℕ) → text_in (word_symbol word) ≡ None
+text_in_word word = text_in_said word (keyword_of word)
+
+count_in_said : (word : List ℕ) (o : Option KeywordWord) → count_in (said word o) ≡ None
+count_in_said word (Some k) = refl
+count_in_said word None = refl
+
+pub count_in_word : (word : List ℕ) → count_in (word_symbol word) ≡ None
+count_in_word word = count_in_said word (keyword_of word)
+
+-- a keyword is no name
+spelled_keyword : (k : KeywordWord) (word : List ℕ) → map to_ascii_lowercase word ≡ keyword_text k → is_keyword word ≡ true
+spelled_keyword keyword.Select word e = rw e refl
+spelled_keyword k word e = rw e refl
+
+reserved_is_no_name : (k : KeywordWord) (word : List ℕ) → keyword_of word ≡ Some k → is_name word ≡ false
+reserved_is_no_name k word e = and_right (is_word word && nat_le (length word) 64) (not (is_keyword word)) (ap not (spelled_keyword k word (keyword_letters k word e)))
+
+name_is_free : (word : List ℕ) (o : Option KeywordWord) → keyword_of word ≡ o → is_name word ≡ true → o ≡ None
+name_is_free word None e name = refl
+name_is_free word (Some k) e name = absurd (both_ways (is_name word) (reserved_is_no_name k word e) name)
+
+pub name_is_no_keyword : (word : List ℕ) → is_name word ≡ true → keyword_of word ≡ None
+name_is_no_keyword word name = name_is_free word (keyword_of word) refl name
+
+name_in_said : (word : List ℕ) (o : Option KeywordWord) → keyword_of word ≡ o → name_in (said word o) ≡ cond (is_name word) (Some word) None
+name_in_said word None e = refl
+name_in_said word (Some k) e =
+    let none = reserved_is_no_name k word e in
+    rw none refl
+
+pub name_in_word : (word : List ℕ) → name_in (word_symbol word) ≡ cond (is_name word) (Some word) None
+name_in_word word = name_in_said word (keyword_of word) refl

@@ -1,0 +1,294 @@
+-- Reading a statement from symbols, from left to right: what is read and the symbols behind it, or how many
+-- symbols are left from the first that does not fit, 0 where they end too early.
+use Rattle.std.specs.Prelude.{◌≡◌, ℕ, zero, suc, ◌^◌, Bool, true, false, ◌&&◌, nat_lt, List, [], ◌∷◌, length, drop, ℤ, pos, negsuc, Option, Some, None, Result, Ok, Err, if◌then◌else◌}
+use Rattle.std.specs.Option.{option_map, option_map_or}
+use Rattle.std.specs.Str.{bytes_eq}
+use Rattle.cube_values.specs.declared.call_error.CallError.{CallError}
+use Rattle.cube_values.specs.declared.call_error.CallError.TheVariants.{Fault, NoMemory}
+use Rattle.cube_values.specs.declared.value.Value.{Value}
+use Rattle.cube_values.specs.declared.value.Value.TheVariants as value
+use Rattle.cube_values.specs.Names.{is_name}
+use Rattle.cube_journal.specs.declared.statement.Cond.{Cond}
+use Rattle.cube_journal.specs.declared.statement.Cond.TheVariants as cond
+use Rattle.cube_journal.specs.declared.statement.Item.{Item}
+use Rattle.cube_journal.specs.declared.statement.Item.TheVariants as item
+use Rattle.cube_journal.specs.declared.statement.Statement.{Statement}
+use Rattle.cube_journal.specs.declared.statement.Statement.TheVariants as statement
+use Rattle.cube_journal.specs.declared.token.Keyword.{Keyword as KeywordWord}
+use Rattle.cube_journal.specs.declared.token.Keyword.TheVariants as keyword
+use Rattle.cube_journal.specs.Symbols.{Symbol, Keyword, Word, Number, Text, Open, Close, Comma, Equals, Star, keyword_text}
+use Rattle.sql_tree.specs.declared.head.Sign.{Sign}
+use Rattle.sql_tree.specs.declared.head.Sign.TheVariants as sign
+use Rattle.sql_tree.specs.declared.head.Aggregate.{Aggregate}
+use Rattle.sql_tree.specs.declared.head.Aggregate.TheVariants as aggregate
+use Rattle.sql_tree.specs.declared.head.Operator.{Operator}
+use Rattle.sql_tree.specs.declared.head.Operator.TheVariants as operator
+use Rattle.sql_tree.specs.declared.head.Verb.{Verb}
+use Rattle.sql_tree.specs.declared.head.Verb.TheVariants as verb
+
+-- What reading gives.
+abbrev pub Read : Type 0 → Type 0
+Read A = Result (A × List Symbol) ℕ
+
+infixl 10 ◌>>=◌
+abbrev pub ◌>>=◌ : {A B : Type 0} → Result A ℕ → (A → Result B ℕ) → Result B ℕ
+(Ok x) >>= f = f x
+(Err left) >>= f = Err left
+
+-- What a function returned, seen by view, is what reading gives, unless memory ran out.
+abbrev pub Fails : {Y : Type 0} → CallError ℕ → Result Y ℕ → Type 0
+Fails NoMemory read = Unit {0}
+Fails (Fault left) read = read ≡ Err left
+
+abbrev pub Gives : {X Y : Type 0} → (X → Y) → Result X (CallError ℕ) → Result Y ℕ → Type 0
+Gives view (Ok x) read = read ≡ Ok (view x)
+Gives view (Err e) read = Fails e read
+
+-- ---- one symbol
+
+-- What the first symbol means, where it means something.
+abbrev pub read_first : {A : Type 0} → (Symbol → Option A) → List Symbol → Read A
+read_first meaning [] = Err 0
+read_first meaning (symbol ∷ symbols) = option_map_or (λ x. Ok (x, symbols)) (meaning symbol) (Err (length (symbol ∷ symbols)))
+
+-- Both keywords have the same letters.
+abbrev pub same_keyword : KeywordWord → KeywordWord → Bool
+same_keyword wanted k = bytes_eq (keyword_text k) (keyword_text wanted)
+
+-- The symbol is this sign.
+abbrev pub is_sign : Sign → Symbol → Bool
+is_sign (sign.Keyword wanted) (Keyword k) = same_keyword wanted k
+is_sign sign.Open Open = true
+is_sign sign.Close Close = true
+is_sign sign.Comma Comma = true
+is_sign sign.Star Star = true
+is_sign wanted symbol = false
+
+abbrev pub sign_in : Sign → Symbol → Option (Unit {0})
+sign_in wanted symbol = if is_sign wanted symbol then Some tt else None
+
+-- The sign is wanted.
+unfoldable pub expect : Sign → List Symbol → Read (Unit {0})
+expect wanted symbols = read_first (sign_in wanted) symbols
+
+-- The number is one of 64 bits.
+abbrev pub fits : ℤ → Bool
+fits (pos n) = nat_lt n (2 ^ 63)
+fits (negsuc n) = nat_lt n (2 ^ 63)
+
+abbrev pub keyword_in : Symbol → Option KeywordWord
+keyword_in (Keyword k) = Some k
+keyword_in symbol = None
+
+abbrev pub name_in : Symbol → Option (List ℕ)
+name_in (Word word) = if is_name word then Some word else None
+name_in symbol = None
+
+abbrev pub value_in : Symbol → Option Value
+value_in (Number n) = if fits n then Some (value.Int n) else None
+value_in (Text text) = Some (value.Text text)
+value_in symbol = None
+
+abbrev pub text_in : Symbol → Option (List ℕ)
+text_in (Text text) = Some text
+text_in symbol = None
+
+abbrev pub count_in : Symbol → Option ℕ
+count_in (Number (pos n)) = if nat_lt n (2 ^ 63) then Some n else None
+count_in symbol = None
+
+abbrev pub operator_in : Symbol → Option Operator
+operator_in Equals = Some operator.Equal
+operator_in (Keyword keyword.In) = Some operator.In
+operator_in (Keyword keyword.Between) = Some operator.Between
+operator_in symbol = None
+
+abbrev pub aggregate_in : Symbol → Option Aggregate
+aggregate_in (Keyword keyword.Sum) = Some aggregate.Sum
+aggregate_in (Keyword keyword.Min) = Some aggregate.Min
+aggregate_in (Keyword keyword.Max) = Some aggregate.Max
+aggregate_in (Keyword keyword.Avg) = Some aggregate.Avg
+aggregate_in (Keyword keyword.Count) = Some aggregate.Count
+aggregate_in symbol = None
+
+abbrev pub verb_in : Symbol → Option Verb
+verb_in (Keyword keyword.Select) = Some verb.Select
+verb_in (Keyword keyword.Insert) = Some verb.Insert
+verb_in (Keyword keyword.Load) = Some verb.Load
+verb_in (Keyword keyword.Delete) = Some verb.Delete
+verb_in (Keyword keyword.Begin) = Some verb.Begin
+verb_in (Keyword keyword.Commit) = Some verb.Commit
+verb_in (Keyword keyword.Rollback) = Some verb.Rollback
+verb_in (Keyword keyword.Flush) = Some verb.Flush
+verb_in (Keyword keyword.Purge) = Some verb.Purge
+verb_in (Keyword keyword.Show) = Some verb.Show
+verb_in symbol = None
+
+unfoldable pub read_name : List Symbol → Read (List ℕ)
+read_name symbols = read_first name_in symbols
+
+unfoldable pub read_value : List Symbol → Read Value
+read_value symbols = read_first value_in symbols
+
+unfoldable pub read_text : List Symbol → Read (List ℕ)
+read_text symbols = read_first text_in symbols
+
+unfoldable pub read_count : List Symbol → Read ℕ
+read_count symbols = read_first count_in symbols
+
+-- ---- lists and parts that may be left out
+
+-- The sign stands first.
+abbrev pub goes_on : Sign → List Symbol → Bool
+goes_on wanted [] = false
+goes_on wanted (symbol ∷ symbols) = is_sign wanted symbol
+
+-- At most this many items with a sign between each two.
+unfoldable pub listed_within : {A : Type 0} → ℕ → Sign → (List Symbol → Read A) → List Symbol → Read (List A)
+listed_within zero between item symbols = Err (length symbols)
+listed_within (suc most) between item symbols = do
+  first ← item symbols
+  if goes_on between first.1 then (listed_within most between item (drop 1 first.1) >>= λ others. Ok (first.0 ∷ others.0, others.1)) else Ok (first.0 ∷ [], first.1)
+
+-- Items with a sign between each two, one at least.
+unfoldable pub listed : {A : Type 0} → Sign → (List Symbol → Read A) → List Symbol → Read (List A)
+listed between item symbols = listed_within (suc (length symbols)) between item symbols
+
+-- What stands behind a sign, or nothing where the sign does not come.
+unfoldable pub optional : {A : Type 0} → Sign → (List Symbol → Read (List A)) → List Symbol → Read (List A)
+optional wanted part symbols = if goes_on wanted symbols then part (drop 1 symbols) else Ok ([], symbols)
+
+-- ---- the parts of statements
+
+unfoldable pub read_tuple : List Symbol → Read (List Value)
+read_tuple symbols = do
+  opened ← expect sign.Open symbols
+  values ← listed sign.Comma read_value opened.1
+  closed ← expect sign.Close values.1
+  Ok (values.0, closed.1)
+
+-- What an item begins with: a name, or the word of an aggregate.
+pub data ItemHead : Type 0 where
+  Named : List ℕ → ItemHead
+  Aggregated : Aggregate → ItemHead
+
+abbrev pub item_head : Symbol → Option ItemHead
+item_head symbol = option_map_or (λ a. Some (Aggregated a)) (aggregate_in symbol) (option_map Named (name_in symbol))
+
+unfoldable pub read_metric : List Symbol → Read (List ℕ)
+read_metric symbols = do
+  opened ← expect sign.Open symbols
+  metric ← read_name opened.1
+  closed ← expect sign.Close metric.1
+  Ok (metric.0, closed.1)
+
+unfoldable pub read_star : List Symbol → Read (Unit {0})
+read_star symbols = do
+  opened ← expect sign.Open symbols
+  star ← expect sign.Star opened.1
+  expect sign.Close star.1
+
+abbrev pub item_behind : ItemHead → List Symbol → Read Item
+item_behind (Named name) symbols = Ok (item.Plain name, symbols)
+item_behind (Aggregated aggregate.Sum) symbols = read_metric symbols >>= λ metric. Ok (item.Sum metric.0, metric.1)
+item_behind (Aggregated aggregate.Min) symbols = read_metric symbols >>= λ metric. Ok (item.Min metric.0, metric.1)
+item_behind (Aggregated aggregate.Max) symbols = read_metric symbols >>= λ metric. Ok (item.Max metric.0, metric.1)
+item_behind (Aggregated aggregate.Avg) symbols = read_metric symbols >>= λ metric. Ok (item.Avg metric.0, metric.1)
+item_behind (Aggregated aggregate.Count) symbols = read_star symbols >>= λ star. Ok (item.CountAll, star.1)
+
+unfoldable pub read_item : List Symbol → Read Item
+read_item symbols = do
+  head ← read_first item_head symbols
+  item_behind head.0 head.1
+
+abbrev pub cond_behind : List ℕ → Operator → List Symbol → Read Cond
+cond_behind name operator.Equal symbols = read_value symbols >>= λ wanted. Ok (cond.Equal name wanted.0, wanted.1)
+cond_behind name operator.In symbols = read_tuple symbols >>= λ wanted. Ok (cond.In name wanted.0, wanted.1)
+cond_behind name operator.Between symbols = do
+  first ← read_value symbols
+  and ← expect (sign.Keyword keyword.And) first.1
+  last ← read_value and.1
+  Ok (cond.Between name first.0 last.0, last.1)
+
+unfoldable pub read_cond : List Symbol → Read Cond
+read_cond symbols = do
+  name ← read_name symbols
+  operator ← read_first operator_in name.1
+  cond_behind name.0 operator.0 operator.1
+
+unfoldable pub read_where : List Symbol → Read (List Cond)
+read_where symbols = optional (sign.Keyword keyword.Where) (listed (sign.Keyword keyword.And) read_cond) symbols
+
+unfoldable pub read_by : List Symbol → Read (List (List ℕ))
+read_by symbols = do
+  by ← expect (sign.Keyword keyword.By) symbols
+  listed sign.Comma read_name by.1
+
+unfoldable pub read_group : List Symbol → Read (List (List ℕ))
+read_group symbols = optional (sign.Keyword keyword.Group) read_by symbols
+
+-- ---- statements, behind their first word
+
+unfoldable pub read_select : List Symbol → Read Statement
+read_select symbols = do
+  items ← listed sign.Comma read_item symbols
+  from ← expect (sign.Keyword keyword.From) items.1
+  cube ← read_name from.1
+  conds ← read_where cube.1
+  group ← read_group conds.1
+  Ok (statement.Select items.0 cube.0 conds.0 group.0, group.1)
+
+unfoldable pub read_insert : List Symbol → Read Statement
+read_insert symbols = do
+  into ← expect (sign.Keyword keyword.Into) symbols
+  cube ← read_name into.1
+  values ← expect (sign.Keyword keyword.Values) cube.1
+  rows ← listed sign.Comma read_tuple values.1
+  Ok (statement.Insert cube.0 rows.0, rows.1)
+
+unfoldable pub read_load : List Symbol → Read Statement
+read_load symbols = do
+  cube ← read_name symbols
+  from ← expect (sign.Keyword keyword.From) cube.1
+  path ← read_text from.1
+  reject ← expect (sign.Keyword keyword.Reject) path.1
+  count ← read_count reject.1
+  Ok (statement.Load cube.0 path.0 count.0, count.1)
+
+unfoldable pub read_delete : List Symbol → Read Statement
+read_delete symbols = do
+  from ← expect (sign.Keyword keyword.From) symbols
+  cube ← read_name from.1
+  conds ← read_where cube.1
+  Ok (statement.Delete cube.0 conds.0, conds.1)
+
+abbrev pub statement_behind : Verb → List Symbol → Read Statement
+statement_behind verb.Select symbols = read_select symbols
+statement_behind verb.Insert symbols = read_insert symbols
+statement_behind verb.Load symbols = read_load symbols
+statement_behind verb.Delete symbols = read_delete symbols
+statement_behind verb.Begin symbols = Ok (statement.Begin, symbols)
+statement_behind verb.Commit symbols = Ok (statement.Commit, symbols)
+statement_behind verb.Rollback symbols = Ok (statement.Rollback, symbols)
+statement_behind verb.Flush symbols = Ok (statement.Flush, symbols)
+statement_behind verb.Purge symbols = Ok (statement.Purge, symbols)
+statement_behind verb.Show symbols = expect (sign.Keyword keyword.Epochs) symbols >>= λ epochs. Ok (statement.ShowEpochs, epochs.1)
+
+-- ---- whole
+
+-- Nothing is left.
+abbrev pub ended : Statement → List Symbol → Read Statement
+ended read [] = Ok (read, [])
+ended read (symbol ∷ symbols) = Err (length (symbol ∷ symbols))
+
+-- A statement, behind which symbols may be left.
+unfoldable pub read_begun : List Symbol → Read Statement
+read_begun symbols = do
+  verb ← read_first verb_in symbols
+  statement_behind verb.0 verb.1
+
+-- The statement whose form the symbols are.
+unfoldable pub read_statement : List Symbol → Read Statement
+read_statement symbols = do
+  read ← read_begun symbols
+  ended read.0 read.1

@@ -1,0 +1,134 @@
+//! Tuples and items, read from tokens.
+
+ghost use Rattle.std.specs.Prelude.{◌≡◌, IfOk};
+ghost use Rattle.cube_journal.specs.Symbols.{symbols_of};
+ghost use Rattle.sql_tree.specs.Places.{AreIn, IsRest};
+ghost use Rattle.sql_tree.specs.Reading.{Aggregated, Gives, item_behind, read_item, read_metric, read_star, read_tuple};
+
+use crate::head::{Aggregate, Sign};
+use crate::part::{Part, listed};
+use crate::read::{Miss, name, sign};
+use crate::symbol::aggregate_in;
+use cube_journal::{Item, Token};
+use cube_values::{CallError, Text, Values};
+use std::alloc::Global;
+
+/// `(value, ..)`, and the tokens behind it.
+#[tactic(auto, unfolding(crate::specs::Reading::read_tuple))]
+pub(crate) fn tuple<'a>(
+    alloc: Global,
+    text: &str,
+    tokens: &'a [Token],
+) -> Result<(Values, &'a [Token]), Miss>
+    requires { AreIn text.now tokens.now }
+    ensures read { Gives (λ x. (x.0, symbols_of text.now x.1.now)) result (read_tuple (symbols_of text.now tokens.now)) }
+    ensures rest { IfOk result (λ x. IsRest text.now tokens.now x.1.now) }
+{
+    let inside = sign(text, tokens, Sign::Open)?;
+    let (values, behind) = listed(alloc, text, inside, Sign::Comma)?;
+    let rest = sign(text, behind, Sign::Close)?;
+    Ok((values, rest))
+}
+
+impl Part for Values {
+    ghost reading = { read_tuple };
+
+    fn part<'a>(
+        alloc: Global,
+        text: &str,
+        tokens: &'a [Token],
+    ) -> Result<(Values, &'a [Token]), Miss> {
+        tuple(alloc, text, tokens)
+    }
+}
+
+/// The metric in `(metric)`, and the tokens behind it.
+#[tactic(auto, unfolding(crate::specs::Reading::read_metric))]
+fn metric<'a>(alloc: Global, text: &str, tokens: &'a [Token]) -> Result<(Text, &'a [Token]), Miss>
+    requires { AreIn text.now tokens.now }
+    ensures read { Gives (λ x. (x.0, symbols_of text.now x.1.now)) result (read_metric (symbols_of text.now tokens.now)) }
+    ensures rest { IfOk result (λ x. IsRest text.now tokens.now x.1.now) }
+{
+    let inside = sign(text, tokens, Sign::Open)?;
+    let (metric, behind) = name(alloc, text, inside)?;
+    let rest = sign(text, behind, Sign::Close)?;
+    Ok((metric, rest))
+}
+
+/// The tokens behind `(*)`.
+#[tactic(auto, unfolding(crate::specs::Reading::read_star))]
+fn star<'a>(text: &str, tokens: &'a [Token]) -> Result<&'a [Token], Miss>
+    requires { AreIn text.now tokens.now }
+    ensures read { Gives (λ rest. (tt, symbols_of text.now rest.now)) result (read_star (symbols_of text.now tokens.now)) }
+    ensures rest { IfOk result (λ rest. IsRest text.now tokens.now rest.now) }
+{
+    let inside = sign(text, tokens, Sign::Open)?;
+    let behind = sign(text, inside, Sign::Star)?;
+    sign(text, behind, Sign::Close)
+}
+
+/// An item behind the word of its aggregate, and the tokens behind it.
+fn aggregated<'a>(
+    alloc: Global,
+    text: &str,
+    tokens: &'a [Token],
+    aggregate: Aggregate,
+) -> Result<(Item, &'a [Token]), Miss>
+    requires { AreIn text.now tokens.now }
+    ensures read { Gives (λ x. (x.0, symbols_of text.now x.1.now)) result (item_behind (Aggregated aggregate) (symbols_of text.now tokens.now)) }
+    ensures rest { IfOk result (λ x. IsRest text.now tokens.now x.1.now) }
+{
+    match aggregate {
+        Aggregate::Sum => {
+            let (metric, rest) = metric(alloc, text, tokens)?;
+            Ok((Item::Sum(metric), rest))
+        }
+        Aggregate::Min => {
+            let (metric, rest) = metric(alloc, text, tokens)?;
+            Ok((Item::Min(metric), rest))
+        }
+        Aggregate::Max => {
+            let (metric, rest) = metric(alloc, text, tokens)?;
+            Ok((Item::Max(metric), rest))
+        }
+        Aggregate::Avg => {
+            let (metric, rest) = metric(alloc, text, tokens)?;
+            Ok((Item::Avg(metric), rest))
+        }
+        Aggregate::Count => {
+            let rest = star(text, tokens)?;
+            Ok((Item::CountAll, rest))
+        }
+    }
+}
+
+/// An item, and the tokens behind it.
+#[tactic(auto, unfolding(crate::specs::Reading::read_item, crate::specs::Reading::read_name))]
+fn item<'a>(alloc: Global, text: &str, tokens: &'a [Token]) -> Result<(Item, &'a [Token]), Miss>
+    requires { AreIn text.now tokens.now }
+    ensures read { Gives (λ x. (x.0, symbols_of text.now x.1.now)) result (read_item (symbols_of text.now tokens.now)) }
+    ensures rest { IfOk result (λ x. IsRest text.now tokens.now x.1.now) }
+{
+    let [first, behind @ ..] = tokens else {
+        return Err(CallError::Fault(0));
+    };
+    match aggregate_in(text, first) {
+        Some(aggregate) => aggregated(alloc, text, behind, aggregate),
+        None => {
+            let (name, rest) = name(alloc, text, tokens)?;
+            Ok((Item::Plain(name), rest))
+        }
+    }
+}
+
+impl Part for Item {
+    ghost reading = { read_item };
+
+    fn part<'a>(
+        alloc: Global,
+        text: &str,
+        tokens: &'a [Token],
+    ) -> Result<(Item, &'a [Token]), Miss> {
+        item(alloc, text, tokens)
+    }
+}

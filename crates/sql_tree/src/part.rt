@@ -1,0 +1,71 @@
+//! The parts of statements that lists have, and the lists of them.
+
+ghost use Rattle.std.specs.Prelude.{◌≡◌, List, IfOk};
+ghost use Rattle.cube_journal.specs.Symbols.{Symbol, symbols_of};
+ghost use Rattle.sql_tree.specs.Places.{AreIn, IsRest};
+ghost use Rattle.sql_tree.specs.Reading.{Gives, Read, listed, read_name, read_value};
+
+use crate::head::Sign;
+use crate::read::{Miss, after, name, value};
+use cube_journal::Token;
+use cube_values::{CallError, Sequence, Text, Value};
+use std::alloc::Global;
+
+/// A part of a statement that is read from its tokens.
+pub(crate) trait Part: Sized {
+    /// How it is read from symbols.
+    ghost reading: { List Symbol → Read Self };
+
+    /// The part that stands first, and the tokens behind it.
+    fn part<'a>(alloc: Global, text: &str, tokens: &'a [Token]) -> Result<(Self, &'a [Token]), Miss>
+        requires { AreIn text.now tokens.now }
+        ensures read { Gives (λ x. (x.0, symbols_of text.now x.1.now)) result (reading (symbols_of text.now tokens.now)) }
+        ensures rest { IfOk result (λ x. IsRest text.now tokens.now x.1.now) };
+}
+
+impl Part for Text {
+    ghost reading = { read_name };
+
+    fn part<'a>(
+        alloc: Global,
+        text: &str,
+        tokens: &'a [Token],
+    ) -> Result<(Text, &'a [Token]), Miss> {
+        name(alloc, text, tokens)
+    }
+}
+
+impl Part for Value {
+    ghost reading = { read_value };
+
+    fn part<'a>(
+        alloc: Global,
+        text: &str,
+        tokens: &'a [Token],
+    ) -> Result<(Value, &'a [Token]), Miss> {
+        value(alloc, text, tokens)
+    }
+}
+
+/// Parts with a sign between each two, one at least, and the tokens behind them.
+pub(crate) fn listed<'a, T: Part + Drop>(
+    alloc: Global,
+    text: &str,
+    tokens: &'a [Token],
+    between: Sign,
+) -> Result<(Sequence<T>, &'a [Token]), Miss>
+    requires { AreIn text.now tokens.now }
+    ensures read { Gives (λ x. (x.0, symbols_of text.now x.1.now)) result (listed between T.reading (symbols_of text.now tokens.now)) }
+    ensures rest { IfOk result (λ x. IsRest text.now tokens.now x.1.now) }
+{
+    let mut parts = Sequence::new(alloc);
+    let mut left = tokens;
+    'parts: loop {
+        let (part, rest) = T::part(alloc, text, left)?;
+        parts.push(part)?;
+        match after(text, rest, between) {
+            Some(behind) => left = behind,
+            None => return Ok((parts, rest)),
+        }
+    }
+}

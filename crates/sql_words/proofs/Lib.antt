@@ -1,0 +1,14 @@
+pub mod Prefixes
+pub mod Numbers
+pub mod PartFronts
+pub mod Gaps
+pub mod Bodies
+pub mod PiecesLeft
+pub mod TokenFronts
+pub mod OpenTexts
+pub mod TokensLeft
+pub mod OneFront
+pub mod TokensAreOne
+pub mod TokensStand
+pub mod ScriptsAreOne
+pub mod PieceTexts

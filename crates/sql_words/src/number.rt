@@ -1,0 +1,96 @@
+//! Numbers: digits, perhaps directly behind a minus sign.
+
+ghost use Rattle.std.specs.Prelude.{◌≡◌, ℕ, true, List, ◌++◌, IsTrue, IfSome, IfNone, IsUtf8, FitsSigned};
+ghost use Rattle.std.specs.Char.{is_ascii_digit};
+ghost use Rattle.std.specs.Int.{w64};
+ghost use Rattle.std.specs.List.{prefix_len};
+ghost use Rattle.std.specs.Str.Parse.{signed_digits_value};
+ghost use Rattle.cube_journal.specs.declared.token.TokenKind.TheVariants as kind;
+ghost use Rattle.cube_journal.specs.Tokens.{is_number, IsNumberBefore};
+ghost use Rattle.sql_words.specs.Fronts.{first_passes, begins_number, number_len, IsFront};
+
+use std::str;
+
+fn begins_digits(bytes: &[u8]) -> bool
+    ensures { result ≡ first_passes is_ascii_digit bytes.now }
+{
+    match bytes {
+        [] => false,
+        [first, ..] => first.is_ascii_digit(),
+    }
+}
+
+/// Whether a number begins here: a digit, or a minus sign before one.
+pub(crate) fn begins_number(bytes: &[u8]) -> bool
+    ensures { result ≡ begins_number bytes.now }
+{
+    match bytes {
+        [] => false,
+        [first, behind @ ..] => {
+            if *first == b'-' {
+                begins_digits(behind)
+            } else {
+                first.is_ascii_digit()
+            }
+        }
+    }
+}
+
+fn digits_len(bytes: &[u8]) -> usize
+    ensures { result ≡ prefix_len is_ascii_digit bytes.now }
+{
+    bytes
+        .iter()
+        .take_while(|byte| byte.is_ascii_digit())
+        .count()
+}
+
+/// How many bytes the number at the front has.
+#[tactic(auto, using(crate::proofs::Prefixes::prefix_within))]
+fn number_len(bytes: &[u8]) -> usize
+    ensures { result ≡ number_len bytes.now }
+{
+    match bytes {
+        [] => 0,
+        [first, behind @ ..] => {
+            if *first == b'-' {
+                1 + digits_len(behind)
+            } else {
+                digits_len(bytes)
+            }
+        }
+    }
+}
+
+/// Bytes in UTF-8 as text.
+fn text_of(bytes: &[u8]) -> &str
+    requires { IsUtf8 bytes.now }
+    ensures { result.now ≡ bytes.now }
+{
+    str::from_utf8(bytes).unwrap()
+}
+
+/// The value of a number, or None where it is not one of 64 bits.
+#[tactic(auto, using(crate::proofs::Numbers::number_is_text, crate::proofs::Numbers::number_is_numeral))]
+fn value_of(number: &[u8]) -> Option<i64>
+    requires { IsTrue (is_number number.now) }
+    ensures some { IfSome result (λ n. (signed_digits_value 10 number.now ≡ n) × FitsSigned w64 n) }
+    ensures none { IfNone result (FitsSigned w64 (signed_digits_value 10 number.now) → ⊥) }
+{
+    text_of(number).parse::<i64>().ok()
+}
+
+/// The value of the number at the front and how many bytes it has, or None where it is not one of 64 bits.
+#[tactic(auto, using(crate::proofs::TokenFronts::number_within, crate::proofs::TokenFronts::number_is, crate::proofs::TokenFronts::number_stands, crate::proofs::TokenFronts::number_fails))]
+pub(crate) fn number_first(bytes: &[u8]) -> Option<(i64, usize)>
+    requires { begins_number bytes.now ≡ true }
+    ensures some { IfSome result (λ number. IsFront bytes.now (kind.Number number.0) number.1) }
+    ensures none { IfNone result ((number rest : List ℕ) × (bytes.now ≡ number ++ rest) × IsNumberBefore number rest × (FitsSigned w64 (signed_digits_value 10 number) → ⊥)) }
+{
+    let len = number_len(bytes);
+    let (number, _) = bytes.split_at(len);
+    match value_of(number) {
+        Some(value) => Some((value, len)),
+        None => None,
+    }
+}
