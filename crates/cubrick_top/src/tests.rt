@@ -148,64 +148,89 @@ fn what_is_not_built_is_said(rt: HostRuntime) -> Result<(), Fail> {
     Ok(())
 }
 
+// How a run over this cubes file and this script ends, and whether it wrote nothing.
+fn refusal(alloc: Global, cubes: &[u8], script: &[u8]) -> Result<(u8, String, bool), AllocError> {
+    let mut shelf = shelf(alloc, cubes, script, &[])?;
+    let mut sink = SinkMemory::new(alloc, 1000, Vec::new(alloc))?;
+    let (status, fault) = outcome(alloc, &["c", "s"], &mut shelf, &mut sink)?;
+    Ok((status, fault, sink.taken().is_empty()))
+}
+
+const BROKEN: &[u8] = b"a\xff";
+
 #[test]
-fn texts_that_are_refused(rt: HostRuntime) -> Result<(), Fail> {
-    let alloc = rt.alloc();
-    let none: &[u8] = b"";
-    let broken: &[u8] = b"a\xff";
-    for (cubes, script, wanted) in [
-        (broken, broken, "cubes: NotUtf8 1"),
-        (b"cube t\nmetric m\ncube t\nx", broken, "cubes: BadLine 4"),
-        (
-            b"cube t\nmetric m\n\ncube t",
-            broken,
-            "cubes: DuplicateCube 4",
-        ),
+fn cubes_texts_with_a_line_that_is_refused(rt: HostRuntime) -> Result<(), Fail> {
+    for (cubes, wanted) in [
+        (BROKEN, "cubes: NotUtf8 1"),
+        (b"cube t\nmetric m\ncube t\nx", "cubes: BadLine 4"),
+        (b"cube t\nmetric m\n\ncube t", "cubes: DuplicateCube 4"),
         (
             b"cube a\ncube b\ncube c\ncube d\ncube e\ncube f\ncube g\ncube h\ncube i\ncube j\ncube k\ncube l\ncube m\ncube n\ncube o\ncube p\ncube q",
-            broken,
             "cubes: TooManyCubes 17",
         ),
-        (
-            b"cube t\ndim x int 5 2\nmetric x\n",
-            broken,
-            "cubes: Schema t DuplicateName x",
-        ),
+    ] {
+        let (status, fault, silent) = refusal(rt.alloc(), cubes, BROKEN)?;
+        assert_eq!(rt; status, 4);
+        assert_eq!(rt; fault.as_str(), wanted);
+        assert!(rt; silent);
+    }
+    Ok(())
+}
+
+#[test]
+fn cubes_texts_with_a_column_that_is_refused(rt: HostRuntime) -> Result<(), Fail> {
+    let duplicate: &[u8] = b"cube t\ndim x int 5 2\nmetric x\n";
+    for (cubes, wanted) in [
+        (duplicate, "cubes: Schema t DuplicateName x"),
         (
             b"cube t\ndim x int 5 0\nmetric m\n",
-            broken,
             "cubes: Schema t ZeroCardinality x",
         ),
         (
             b"cube t\ndim x int 5 6\nmetric m\n",
-            broken,
             "cubes: Schema t RangeTooLarge x",
         ),
-        (
-            b"cube t\ndim x int 4294967295 1\ndim y int 4294967295 1\ndim z int 4294967295 1\nmetric m\n",
-            broken,
-            "cubes: Schema t TooManyBricks",
-        ),
+    ] {
+        let (status, fault, silent) = refusal(rt.alloc(), cubes, BROKEN)?;
+        assert_eq!(rt; status, 4);
+        assert_eq!(rt; fault.as_str(), wanted);
+        assert!(rt; silent);
+    }
+    Ok(())
+}
+
+#[test]
+fn cubes_texts_with_a_cube_that_is_refused(rt: HostRuntime) -> Result<(), Fail> {
+    let bricks: &[u8] =
+        b"cube t\ndim x int 4294967295 1\ndim y int 4294967295 1\ndim z int 4294967295 1\nmetric m\n";
+    for (cubes, wanted) in [
+        (bricks, "cubes: Schema t TooManyBricks"),
         (
             b"cube t\nmetric a\nmetric b\nmetric c\nmetric d\nmetric e\nmetric f\nmetric g\nmetric h\nmetric i\nmetric j\nmetric k\nmetric l\nmetric m\nmetric n\nmetric o\nmetric p\nmetric q",
-            broken,
             "cubes: Schema t TooManyColumns",
         ),
-        (
-            b"cube t\ndim x int 5 5\n",
-            broken,
-            "cubes: Schema t NoMetric",
-        ),
-        (CUBES, broken, "script 1: NotUtf8 1"),
+        (b"cube t\ndim x int 5 5\n", "cubes: Schema t NoMetric"),
+    ] {
+        let (status, fault, silent) = refusal(rt.alloc(), cubes, BROKEN)?;
+        assert_eq!(rt; status, 4);
+        assert_eq!(rt; fault.as_str(), wanted);
+        assert!(rt; silent);
+    }
+    Ok(())
+}
+
+#[test]
+fn scripts_that_are_refused(rt: HostRuntime) -> Result<(), Fail> {
+    let none: &[u8] = b"";
+    for (cubes, script, wanted) in [
+        (CUBES, BROKEN, "script 1: NotUtf8 1"),
         (CUBES, b"FLUSH; \xc3", "script 1: NotUtf8 7"),
         (none, b"FLUSH", "not built: script"),
     ] {
-        let mut shelf = shelf(alloc, cubes, script, &[])?;
-        let mut sink = SinkMemory::new(alloc, 1000, Vec::new(alloc))?;
-        let (status, fault) = outcome(alloc, &["c", "s"], &mut shelf, &mut sink)?;
-        assert_eq!(rt; status, 4, "{wanted}");
+        let (status, fault, silent) = refusal(rt.alloc(), cubes, script)?;
+        assert_eq!(rt; status, 4);
         assert_eq!(rt; fault.as_str(), wanted);
-        assert!(rt; sink.taken().is_empty());
+        assert!(rt; silent);
     }
     Ok(())
 }
