@@ -1,5 +1,5 @@
 -- The readers of the parts of statements.
-use Rattle.std.proofs.Common.{◌≡◌, ℕ, ◌<◌, Bool, true, false, ◌&&◌, List, [], ◌∷◌, ◌++◌, length, Result, Ok, Err, ◌⊎◌, inl, inr, IsTrue, refl, sym, ap, subst, ◌∙◌, append_assoc, arith}
+use Rattle.std.proofs.Common.{◌≡◌, ℕ, ◌<◌, List, [], ◌∷◌, ◌++◌, length, inl, inr, IsTrue, refl, sym, ap, subst, ◌∙◌, arith}
 use Rattle.std.specs.Prelude.{All}
 use Rattle.std.specs.List.{AllByRecursion, list_all}
 use Rattle.std.proofs.lemmas.Bool.{and_parts, and_from}
@@ -12,15 +12,15 @@ use Rattle.cube_journal.specs.declared.statement.Item.{Item}
 use Rattle.cube_journal.specs.declared.statement.Item.TheVariants as item
 use Rattle.cube_journal.specs.declared.token.Keyword.TheVariants as keyword
 use Rattle.cube_journal.specs.Grammar.{separated, name_form, value_form, tuple_form, item_form, cond_form, where_form, group_form, IsProperValue, IsProperTuple, IsProperItem, IsProperCond}
-use Rattle.cube_journal.specs.Symbols.{Symbol, Keyword, Word, Number, Text, Open, Close, Comma, Equals, Star}
+use Rattle.cube_journal.specs.Symbols.{Symbol, Keyword, Word, Open, Close, Comma, Equals, Star}
 use Rattle.sql_tree.specs.declared.head.Sign.{Sign}
 use Rattle.sql_tree.specs.declared.head.Sign.TheVariants as sign
 use Rattle.sql_tree.specs.declared.head.Aggregate.TheVariants as aggregate
 use Rattle.sql_tree.specs.declared.head.Operator.{Operator}
 use Rattle.sql_tree.specs.declared.head.Operator.TheVariants as operator
-use Rattle.sql_tree.specs.Reading.{Read, ItemHead, Named, Aggregated, ◌>>=◌, goes_on, listed, read_first, item_head, item_behind, operator_in, cond_behind, expect, read_name, read_value, read_tuple, read_metric, read_star, read_item, read_cond, read_where, read_by, read_group}
+use Rattle.sql_tree.specs.Reading.{ItemHead, Named, Aggregated, listed, read_first, item_head, item_behind, operator_in, cond_behind, expect, read_name, read_value, read_tuple, read_metric, read_star, read_item, read_cond, read_where, read_by, read_group}
 use Rattle.sql_tree.proofs.Keywords.{sign_symbol}
-use Rattle.sql_tree.proofs.Readers.{given, IsReader, Always, Formed, IsMade, IsThen, IsLed, sequence, reader_as, reader_ends, sequence_reader, done_reader, made_reader, led_reader}
+use Rattle.sql_tree.proofs.Readers.{given, IsReader, Always, Formed, IsMade, IsThen, IsLed, sequence, reader_as, sequence_reader, done_reader, made_reader, led_reader}
 use Rattle.sql_tree.proofs.ReadersOfLists.{AreListed, listed_form, Parted, IsOptional, listed_reader, optional_reader}
 use Rattle.sql_tree.proofs.SymbolReaders.{Any, IsName, IsHead, head_symbol, operator_symbol, value_symbol, value_form_is, IsSigned, signed_reader, expect_reader, name_reader, value_symbol_reader, value_reader, head_reader, operator_reader}
 

@@ -1,6 +1,6 @@
 -- What holds of a reader: what it takes has a form, what has the form is read again, and what it decides hangs
 -- on no symbol behind the first that it leaves.
-use Rattle.std.proofs.Common.{◌≡◌, ℕ, List, [], ◌∷◌, ◌++◌, length, Option, Some, None, Result, Ok, Err, refl, sym, ap, subst, ◌∙◌, append_assoc, arith}
+use Rattle.std.proofs.Common.{◌≡◌, ℕ, List, [], ◌∷◌, ◌++◌, length, Option, Some, None, Ok, Err, refl, sym, ap, subst, ◌∙◌, append_assoc}
 use Rattle.std.proofs.lemmas.List.{append-nil}
 use Rattle.cube_journal.specs.Symbols.{Symbol}
 use Rattle.sql_tree.specs.Reading.{Read, ◌>>=◌, read_first}

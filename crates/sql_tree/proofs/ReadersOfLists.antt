@@ -1,14 +1,14 @@
 -- Lists of items with a sign between each two, and parts that may be left out.
-use Rattle.std.proofs.Common.{◌≡◌, ℕ, zero, suc, ◌+◌, ◌<◌, ◌≤◌, Bool, true, false, List, [], ◌∷◌, ◌++◌, length, drop, Result, Ok, Err, ◌⊎◌, inl, inr, refl, sym, ap, subst, ◌∙◌, append_assoc, arith, if◌then◌else◌}
+use Rattle.std.proofs.Common.{◌≡◌, ℕ, zero, suc, ◌+◌, ◌<◌, ◌≤◌, true, false, List, [], ◌∷◌, ◌++◌, length, drop, Ok, Err, ◌⊎◌, inl, inr, refl, sym, ap, subst, ◌∙◌, append_assoc, arith, if◌then◌else◌}
 use Rattle.std.specs.List.{AllByRecursion}
-use Rattle.std.proofs.lemmas.Bool.{cases_Bool, both_ways}
+use Rattle.std.proofs.lemmas.Bool.{cases_Bool}
 use Rattle.std.proofs.lemmas.List.{append-nil, length-append}
 use Rattle.cube_journal.specs.Grammar.{separated}
 use Rattle.cube_journal.specs.Symbols.{Symbol}
 use Rattle.sql_tree.specs.declared.head.Sign.{Sign}
 use Rattle.sql_tree.specs.Reading.{Read, ◌>>=◌, is_sign, goes_on, listed, listed_within, optional}
 use Rattle.sql_tree.proofs.Keywords.{sign_symbol, is_sign_symbol, is_sign_self}
-use Rattle.sql_tree.proofs.Readers.{IsLocal, given, stuck, Takes, Stops, Tells, IsReader, Always, Formed, sequence, IsThen, second_tells, takes_as}
+use Rattle.sql_tree.proofs.Readers.{given, Tells, IsReader, Always, Formed, sequence, IsThen, second_tells, takes_as}
 
 -- ---- how far a list is read does not hang on the bound
 

@@ -1,7 +1,5 @@
 -- The form of a proper statement has symbols that tokens say.
-use Rattle.std.proofs.Common.{◌≡◌, ℕ, ◌<◌, ◌^◌, Bool, true, not, ◌&&◌, nat_le, List, [], ◌∷◌, ◌++◌, length, IsTrue, pos, refl, sym, ap, ◌∙◌, arith}
-use Rattle.std.specs.Prelude.{All, FitsSigned}
-use Rattle.std.specs.Int.{w64}
+use Rattle.std.proofs.Common.{ℕ, not, ◌&&◌, nat_le, List, [], ◌∷◌, ◌++◌, length, IsTrue}
 use Rattle.std.specs.List.{AllByRecursion, list_all}
 use Rattle.std.proofs.lemmas.Bool.{and_parts}
 use Rattle.std.proofs.lemmas.List.Elements.{recursion_from_All}
@@ -17,7 +15,7 @@ use Rattle.cube_journal.specs.declared.statement.Statement.TheVariants as statem
 use Rattle.cube_journal.specs.declared.token.Keyword.TheVariants as keyword
 use Rattle.cube_journal.specs.Grammar.{separated, name_form, value_form, tuple_form, item_form, cond_form, where_form, group_form, form_of, IsProperValue, IsProperTuple, IsProperItem, IsProperCond, IsProper, Spells, IsSpelled}
 use Rattle.cube_journal.specs.Printed.{printed}
-use Rattle.cube_journal.specs.Symbols.{Symbol, Keyword, Word, Number, Text, Open, Close, Comma, Equals, Star}
+use Rattle.cube_journal.specs.Symbols.{Symbol, Keyword, Word, Close, Comma}
 use Rattle.sql_tree.proofs.Keywords.{name_is_no_keyword}
 use Rattle.sql_tree.proofs.PrintedTokens.{printed_has_tokens}
 use Rattle.sql_tree.proofs.SymbolReaders.{IsName}

@@ -1,6 +1,5 @@
 -- The texts of symbols one behind the other.
-use Rattle.std.proofs.Common.{◌≡◌, ℕ, ◌<◌, Bool, true, false, List, [], ◌∷◌, ◌++◌, length, codes, refl, sym, ap, ◌∙◌, append_assoc, arith, if◌then◌else◌}
-use Rattle.std.specs.List.{flat_map}
+use Rattle.std.proofs.Common.{◌≡◌, ℕ, ◌<◌, true, List, [], ◌∷◌, ◌++◌, length, codes, refl, sym, ap, ◌∙◌, append_assoc, arith, if◌then◌else◌}
 use Rattle.std.proofs.lemmas.List.{append-nil, length-append}
 use Rattle.cube_values.specs.declared.value.Value.{Value}
 use Rattle.cube_values.specs.declared.value.Value.TheVariants as value
@@ -12,8 +11,8 @@ use Rattle.cube_journal.specs.declared.token.Keyword.{Keyword as KeywordWord}
 use Rattle.cube_journal.specs.declared.token.Keyword.TheVariants as keyword
 use Rattle.cube_journal.specs.Grammar.{separated, name_form, value_form, tuple_form, item_form, cond_form, where_form, group_form}
 use Rattle.cube_journal.specs.Printed.{symbol_text, touch, spaced}
-use Rattle.cube_journal.specs.Symbols.{Symbol, Keyword, Word, Number, Text, Open, Close, Comma, Equals, Star}
-use Rattle.sql_tree.specs.Texts.{set_behind, joined, text_by, spaced_behind}
+use Rattle.cube_journal.specs.Symbols.{Symbol, Keyword, Word, Number, Text, Open, Close, Comma}
+use Rattle.sql_tree.specs.Texts.{joined, text_by, spaced_behind}
 
 -- What stands between two symbols.
 abbrev pub gap : Symbol → Symbol → List ℕ

@@ -1,23 +1,19 @@
 -- The readers of statements.
-use Rattle.std.proofs.Common.{◌≡◌, ℕ, ◌<◌, ◌^◌, Bool, true, false, List, [], ◌∷◌, ◌++◌, length, Result, Ok, Err, ◌⊎◌, inl, inr, IsTrue, pos, refl, sym, ap, subst, ◌∙◌, append_assoc, arith}
-use Rattle.std.specs.Prelude.{All}
-use Rattle.std.specs.List.{list_all}
+use Rattle.std.proofs.Common.{◌≡◌, ℕ, List, [], ◌∷◌, ◌++◌, pos, refl, sym}
 use Rattle.std.proofs.lemmas.List.Elements.{All-from_recursion, recursion_from_All}
 use Rattle.std.proofs.lemmas.List.{append-nil}
 use Rattle.cube_values.specs.declared.value.Value.{Value}
-use Rattle.cube_values.specs.Names.{is_name}
 use Rattle.cube_journal.specs.declared.statement.Cond.{Cond}
 use Rattle.cube_journal.specs.declared.statement.Item.{Item}
 use Rattle.cube_journal.specs.declared.statement.Statement.{Statement}
 use Rattle.cube_journal.specs.declared.statement.Statement.TheVariants as statement
 use Rattle.cube_journal.specs.declared.token.Keyword.TheVariants as keyword
-use Rattle.cube_journal.specs.Grammar.{separated, tuple_form, item_form, where_form, group_form, form_of, IsProperTuple, IsProperItem, IsProperCond, IsProper}
-use Rattle.cube_journal.specs.Symbols.{Symbol, Keyword, Word, Number, Text, Open, Close, Comma, Equals, Star}
-use Rattle.sql_tree.specs.declared.head.Sign.{Sign}
+use Rattle.cube_journal.specs.Grammar.{separated, tuple_form, item_form, where_form, group_form, form_of, IsProperTuple, IsProperItem, IsProper}
+use Rattle.cube_journal.specs.Symbols.{Symbol, Keyword, Word, Number, Text, Comma}
 use Rattle.sql_tree.specs.declared.head.Sign.TheVariants as sign
 use Rattle.sql_tree.specs.declared.head.Verb.{Verb}
 use Rattle.sql_tree.specs.declared.head.Verb.TheVariants as verb
-use Rattle.sql_tree.specs.Reading.{Read, ◌>>=◌, listed, read_first, verb_in, expect, read_name, read_text, read_count, read_tuple, read_item, read_where, read_group, read_select, read_insert, read_load, read_delete, statement_behind, ended, read_begun, read_statement}
+use Rattle.sql_tree.specs.Reading.{Read, listed, read_first, verb_in, expect, read_name, read_text, read_count, read_tuple, read_item, read_where, read_group, read_select, read_insert, read_load, read_delete, statement_behind, ended, read_begun, read_statement}
 use Rattle.sql_tree.proofs.Keywords.{sign_symbol}
 use Rattle.sql_tree.proofs.Readers.{given, Tells, IsReader, Always, Formed, IsMade, IsThen, IsLed, sequence, reader_as, reader_ends, sequence_reader, done_reader, made_reader, led_reader}
 use Rattle.sql_tree.proofs.ReadersOfLists.{AreListed, listed_form, Parted, listed_reader}

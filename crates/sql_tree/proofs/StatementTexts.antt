@@ -1,20 +1,18 @@
 -- The printed forms of statements.
-use Rattle.std.proofs.Common.{◌≡◌, ℕ, ◌<◌, List, [], ◌∷◌, ◌++◌, length, codes, decimal, pos, refl, sym, ap, ◌∙◌, append_assoc, arith}
+use Rattle.std.proofs.Common.{◌≡◌, ℕ, ◌<◌, List, [], ◌∷◌, ◌++◌, length, codes, decimal, refl, sym, ap, ◌∙◌, append_assoc, arith}
 use Rattle.std.proofs.lemmas.List.{append-nil}
 use Rattle.cube_values.specs.declared.value.Value.{Value}
 use Rattle.cube_journal.specs.declared.statement.Cond.{Cond}
 use Rattle.cube_journal.specs.declared.statement.Item.{Item}
 use Rattle.cube_journal.specs.declared.statement.Item.TheVariants as item
-use Rattle.cube_journal.specs.declared.statement.Statement.{Statement}
 use Rattle.cube_journal.specs.declared.statement.Statement.TheVariants as statement
-use Rattle.cube_journal.specs.declared.token.Keyword.{Keyword as KeywordWord}
 use Rattle.cube_journal.specs.declared.token.Keyword.TheVariants as keyword
-use Rattle.cube_journal.specs.Grammar.{separated, tuple_form, item_form, where_form, group_form, form_of}
+use Rattle.cube_journal.specs.Grammar.{separated, tuple_form, item_form, where_form, group_form}
 use Rattle.cube_journal.specs.Printed.{spaced, printed}
 use Rattle.cube_journal.specs.Quotes.{quoted}
-use Rattle.cube_journal.specs.Symbols.{Symbol, Keyword, Word, Number, Text, Open, Close, Comma, Equals, Star}
+use Rattle.cube_journal.specs.Symbols.{Symbol, Keyword, Word, Comma}
 use Rattle.sql_tree.specs.Texts.{joined, text_by, spaced_behind}
-use Rattle.sql_tree.proofs.Spaces.{seam, spaced-append, seam-append, first_in, first_of, last_of, spaced_listed, items_between, tuples_between, both_behind}
+use Rattle.sql_tree.proofs.Spaces.{seam, spaced-append, first_in, first_of, last_of, spaced_listed, items_between, tuples_between, both_behind}
 
 -- a name, and what may be left out behind it
 name_behind : (cube : List ℕ) (conds : List Cond) (group : List (List ℕ)) → spaced (Word cube ∷ (where_form conds ++ group_form group)) ≡ cube ++ spaced_behind (where_form conds ++ group_form group)

@@ -1,8 +1,8 @@
 -- The readers of one symbol.
-use Rattle.std.proofs.Common.{◌≡◌, ℕ, ◌<◌, ◌^◌, Bool, true, false, cond, ltb, List, [], ◌∷◌, ◌++◌, Option, Some, None, codes, pos, negsuc, ℤ, IsTrue, refl, sym, ap, subst, ◌∙◌, arith, inl, inr}
+use Rattle.std.proofs.Common.{◌≡◌, ℕ, ◌<◌, ◌^◌, Bool, true, false, cond, ltb, List, [], ◌∷◌, Some, None, codes, pos, negsuc, ℤ, IsTrue, refl, sym, ap, subst, ◌∙◌, arith}
 use Rattle.std.specs.Prelude.{FitsSigned}
 use Rattle.std.specs.Int.{w64}
-use Rattle.std.specs.Option.{option_map, option_map_or}
+use Rattle.std.specs.Option.{option_map}
 use Rattle.std.proofs.lemmas.Bool.{ltb-true, lt-ltb}
 use Rattle.cube_values.specs.declared.value.Value.{Value}
 use Rattle.cube_values.specs.declared.value.Value.TheVariants as value
@@ -10,7 +10,7 @@ use Rattle.cube_values.specs.Names.{is_name}
 use Rattle.cube_journal.specs.declared.token.Keyword.{Keyword as KeywordWord}
 use Rattle.cube_journal.specs.declared.token.Keyword.TheVariants as keyword
 use Rattle.cube_journal.specs.Grammar.{name_form, value_form, IsProperValue}
-use Rattle.cube_journal.specs.Symbols.{Symbol, Keyword, Word, Number, Text, Open, Close, Comma, Equals, Star}
+use Rattle.cube_journal.specs.Symbols.{Symbol, Keyword, Word, Number, Text, Equals}
 use Rattle.sql_tree.specs.declared.head.Sign.{Sign}
 use Rattle.sql_tree.specs.declared.head.Aggregate.{Aggregate}
 use Rattle.sql_tree.specs.declared.head.Aggregate.TheVariants as aggregate
@@ -18,7 +18,7 @@ use Rattle.sql_tree.specs.declared.head.Operator.{Operator}
 use Rattle.sql_tree.specs.declared.head.Operator.TheVariants as operator
 use Rattle.sql_tree.specs.declared.head.Verb.{Verb}
 use Rattle.sql_tree.specs.declared.head.Verb.TheVariants as verb
-use Rattle.sql_tree.specs.Reading.{Read, ItemHead, Named, Aggregated, read_first, is_sign, sign_in, fits, name_in, value_in, text_in, count_in, operator_in, aggregate_in, verb_in, item_head, expect, read_name, read_value, read_text, read_count}
+use Rattle.sql_tree.specs.Reading.{Read, ItemHead, Named, Aggregated, read_first, is_sign, sign_in, fits, name_in, value_in, text_in, count_in, operator_in, verb_in, item_head, expect, read_name, read_value, read_text, read_count}
 use Rattle.sql_tree.proofs.Keywords.{sign_symbol, is_sign_symbol, is_sign_self}
 use Rattle.sql_tree.proofs.Readers.{IsReader, Always, Formed, IsLed, Means, sequence, first_reader, led_reader, reader_as}
 

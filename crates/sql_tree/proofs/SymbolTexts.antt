@@ -1,5 +1,5 @@
 -- The text of a symbol is a token that says the symbol.
-use Rattle.std.proofs.Common.{◌≡◌, ◌≢◌, ℕ, suc, ◌+◌, ◌-◌, ◌^◌, ◌<◌, ◌≤◌, Bool, true, false, not, ◌&&◌, ◌||◌, cond, eqb, ◌==◌, List, [], ◌∷◌, ◌++◌, length, take, drop, map, codes, Option, Some, None, ℤ, pos, negsuc, neg_ℤ, IsTrue, refl, sym, ap, subst, ◌∙◌, append_assoc, arith, inl, inr}
+use Rattle.std.proofs.Common.{◌≡◌, ℕ, suc, ◌+◌, ◌-◌, ◌^◌, ◌<◌, Bool, true, false, ◌||◌, eqb, ◌==◌, List, [], ◌∷◌, length, map, codes, None, ℤ, pos, negsuc, neg_ℤ, IsTrue, refl, ap, ◌∙◌, arith, inl, inr}
 use Rattle.std.specs.Prelude.{FitsSigned, decimal}
 use Rattle.std.specs.Char.{is_ascii_digit, to_ascii_uppercase}
 use Rattle.std.specs.Fmt.{signed_decimal}
@@ -9,7 +9,7 @@ use Rattle.std.specs.Str.Parse.{digits_value, signed_digits_value}
 use Rattle.std.proofs.lemmas.Bool.{cases_Bool, and_parts, ne_eqb, eqb-true}
 use Rattle.std.proofs.lemmas.Bool.Decides.{nat_tests}
 use Rattle.std.proofs.lemmas.Fmt.{digits_decimal, digits_value-decimal, decimal_nonempty}
-use Rattle.std.proofs.lemmas.List.{append-nil, length-append, take_at, drop_at}
+use Rattle.std.proofs.lemmas.List.{length-append, take_at}
 use Rattle.std.proofs.lemmas.Str.Parse.{IsNumeralModel, numerals_by_value, tells_all_ascii_digits}
 use Rattle.cube_values.specs.Names.{continues_name, is_word}
 use Rattle.cube_journal.specs.declared.token.Keyword.{Keyword as KeywordWord}
@@ -19,7 +19,7 @@ use Rattle.cube_journal.specs.declared.token.TokenKind.TheVariants as kind
 use Rattle.cube_journal.specs.Parts.{Stops}
 use Rattle.cube_journal.specs.Printed.{symbol_text}
 use Rattle.cube_journal.specs.Quotes.{doubled, quoted}
-use Rattle.cube_journal.specs.Symbols.{Symbol, Keyword, Word, Number, Text, Open, Close, Comma, Equals, Star, keyword_text, keyword_of, word_symbol, halved, unquoted, symbol_in}
+use Rattle.cube_journal.specs.Symbols.{Symbol, Keyword, Word, Number, Text, Open, Close, Comma, Equals, Star, keyword_text, keyword_of, halved, unquoted, symbol_in}
 use Rattle.cube_journal.specs.Tokens.{is_digits, is_number, IsToken}
 use Rattle.sql_tree.proofs.Halves.{plain_halved}
 use Rattle.sql_tree.proofs.Keywords.{capitals_spell}

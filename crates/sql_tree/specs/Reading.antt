@@ -1,6 +1,6 @@
 -- Reading a statement from symbols, from left to right: what is read and the symbols behind it, or how many
 -- symbols are left from the first that does not fit, 0 where they end too early.
-use Rattle.std.specs.Prelude.{◌≡◌, ℕ, zero, suc, ◌^◌, Bool, true, false, ◌&&◌, nat_lt, List, [], ◌∷◌, length, drop, ℤ, pos, negsuc, Option, Some, None, Result, Ok, Err, if◌then◌else◌}
+use Rattle.std.specs.Prelude.{◌≡◌, ℕ, zero, suc, ◌^◌, Bool, true, false, nat_lt, List, [], ◌∷◌, length, drop, ℤ, pos, negsuc, Option, Some, None, Result, Ok, Err, if◌then◌else◌}
 use Rattle.std.specs.Option.{option_map, option_map_or}
 use Rattle.std.specs.Str.{bytes_eq}
 use Rattle.cube_values.specs.declared.call_error.CallError.{CallError}

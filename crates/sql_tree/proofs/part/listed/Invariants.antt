@@ -1,7 +1,6 @@
-use Rattle.std.proofs.Common.{◌≡◌, ℕ, ◌<◌, ◌≤◌, length}
+use Rattle.std.proofs.Common.{◌≤◌, length}
 use Rattle.cube_journal.specs.Symbols.{symbols_of}
 use Rattle.sql_tree.specs.Places.{AreIn}
-use Rattle.sql_tree.specs.Reading.{listed, listed_within}
 use Rattle.sql_tree.proofs.Lists.{IsListing}
 use Rattle.sql_tree.proofs.part.listed.Given as goal
 

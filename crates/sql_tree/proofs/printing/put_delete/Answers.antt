@@ -1,4 +1,4 @@
-use Rattle.std.proofs.Common.{◌≡◌, ◌<◌, length, append_assoc, arith}
+use Rattle.std.proofs.Common.{append_assoc}
 use Rattle.sql_tree.proofs.StatementTexts.{delete_text}
 use Rattle.sql_tree.proofs.printing.put_delete.Goals as goal
 

@@ -1,5 +1,4 @@
-use Rattle.std.proofs.Common.{◌≡◌, ◌<◌, length, append_assoc, arith}
-use Rattle.std.proofs.lemmas.Bool.Decides.{nat_tests}
+use Rattle.std.proofs.Common.{append_assoc}
 use Rattle.sql_tree.proofs.StatementTexts.{select_text}
 use Rattle.sql_tree.proofs.printing.put_select.Goals as goal
 

@@ -1,4 +1,4 @@
-use Rattle.std.proofs.Common.{◌≡◌, ◌<◌, length, append_assoc, arith}
+use Rattle.std.proofs.Common.{◌<◌, length, append_assoc, arith}
 use Rattle.std.proofs.lemmas.Bool.Decides.{nat_tests}
 use Rattle.sql_tree.proofs.Spaces.{where_text}
 use Rattle.sql_tree.proofs.printing.put_where.Goals as goal

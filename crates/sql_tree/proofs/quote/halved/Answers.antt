@@ -1,4 +1,4 @@
-use Rattle.std.proofs.Common.{◌≡◌, ◌++◌, ap, sym, ◌∙◌, arith, string_bytes}
+use Rattle.std.proofs.Common.{◌++◌, ap, sym, ◌∙◌, arith, string_bytes}
 use Rattle.std.proofs.lemmas.Str.Pattern.{split_parts, strip_prefix_char}
 use Rattle.sql_tree.proofs.Halves.{none_halved, stripped_is, halved_more}
 use Rattle.sql_tree.proofs.quote.halved.Goals as goal

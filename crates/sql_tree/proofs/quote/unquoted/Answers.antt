@@ -1,4 +1,3 @@
-use Rattle.std.proofs.Common.{◌≡◌, ap, sym, ◌∙◌, arith}
 use Rattle.sql_tree.proofs.Halves.{after_quote}
 use Rattle.sql_tree.proofs.quote.unquoted.Goals as goal
 

@@ -1,7 +1,4 @@
-use Rattle.std.proofs.Common.{◌≡◌, ap, sym, ◌∙◌, subst}
-use Rattle.cube_journal.specs.Symbols.{symbol_of, symbol_in}
 use Rattle.cube_journal.specs.Tokens.{token_bytes}
-use Rattle.sql_tree.specs.Reading.{is_sign}
 use Rattle.sql_tree.proofs.Keywords.{word_sign}
 use Rattle.sql_tree.proofs.symbol.is_sign.Goals as goal
 

@@ -1,5 +1,4 @@
-use Rattle.std.proofs.Common.{rules, ◌≡◌, ◌++◌, [], ◌∷◌, ap, sym, ◌∙◌, append_assoc, arith}
-use Rattle.std.proofs.lemmas.Grind.{common_steps}
+use Rattle.std.proofs.Common.{append_assoc}
 use Rattle.sql_tree.proofs.Spaces.{tuple_text}
 use Rattle.sql_tree.proofs.put.ValuesForm.put.Goals as goal
 
