@@ -21,7 +21,7 @@ use Rattle.cubrick_top.specs.Ending.{Ends, status_of}
 use Rattle.cubrick_top.specs.Files.{FileDeclares, FilePerforms}
 use Rattle.cubrick_top.specs.Reading.{ReadFaultCounted, OutputFaultCounted}
 use Rattle.cubrick_top.specs.Runs.{Runs, IsReady, IsServed}
-use Rattle.cubrick_top.specs.Scripts.{Does, runs, refused, EachDoes, Performs, IsNotRun, SomeNotRun, IsNotBuilt}
+use Rattle.cubrick_top.specs.Scripts.{Does, runs, refused, EachDoes, Performs, IsNotRun, IsNotBuilt}
 use Rattle.sql_words.specs.Texts.{piece_bytes}
 
 -- two given texts are one where what is given is

@@ -10,7 +10,7 @@ use Rattle.outside.specs.Given.{Given, given_by, missing, too_long, whole}
 use Rattle.cubrick_top.specs.declared.action.Action.{Action}
 use Rattle.cubrick_top.specs.declared.fault.BuiltPart.TheVariants.{Script as Scripts}
 use Rattle.cubrick_top.specs.declared.fault.Fault.{Fault}
-use Rattle.cubrick_top.specs.declared.fault.Fault.TheVariants.{Words, Absent, ReadFailed, CubesTooLong, Cubes, ScriptTooLong, Script, NotBuilt, OutputFault, NoMemory}
+use Rattle.cubrick_top.specs.declared.fault.Fault.TheVariants.{Absent, ReadFailed, CubesTooLong, Cubes, ScriptTooLong, Script, NotBuilt, OutputFault, NoMemory}
 use Rattle.cubrick_top.specs.Files.{FileDeclares, FilePerforms}
 use Rattle.cubrick_top.specs.Scripts.{Performs, IsNotBuilt}
 

@@ -1,6 +1,5 @@
-use Rattle.std.proofs.Common.{Ok, Err, subst, ap, ◌∙◌}
+use Rattle.std.proofs.Common.{Ok, Err, ◌∙◌}
 use Rattle.cubrick_top.specs.Files.{script_bytes}
-use Rattle.cubrick_top.specs.Session.{run_text}
 use Rattle.cubrick_top.proofs.RunEnds.{script_read, cubes_end, script_end, no_memory_end, whole_end, front_end}
 use Rattle.cubrick_top.proofs.running.run_files.Goals as goal
 

@@ -1,4 +1,3 @@
-use Rattle.std.proofs.Common.{ℕ}
 use Rattle.std.specs.Vec.Iter.{into_iter_items}
 use Rattle.cubrick_top.proofs.SessionSteps.{Progress}
 use Rattle.cubrick_top.proofs.session.run_text.Given as goal
