@@ -1,0 +1,4 @@
+pub mod Encoded
+pub mod Folded
+pub mod Lines
+pub mod Words

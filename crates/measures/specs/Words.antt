@@ -1,0 +1,64 @@
+-- What the words of the program ask for.
+use Rattle.std.specs.Prelude.{◌≡◌, ℕ, ◌<◌, ◌^◌, Bool, true, false, ◌&&◌, nat_le, List, [], ◌∷◌, Option, Some, None, bytes_eq, codes, if◌then◌else◌}
+use Rattle.std.specs.Str.Parse.{IsNumeral, digits_value, without_leading_plus}
+use Rattle.measures.specs.declared.request.HotPath.{HotPath}
+use Rattle.measures.specs.declared.request.HotPath.TheVariants.{Split, Encode, Lookup, Visible, Plan, Fold, Mail}
+use Rattle.measures.specs.declared.request.Request.{Request}
+
+-- The path of a name.
+abbrev pub path_of : List ℕ → Option HotPath
+path_of word =
+    if bytes_eq word (codes "split") then Some Split
+    else if bytes_eq word (codes "encode") then Some Encode
+    else if bytes_eq word (codes "lookup") then Some Lookup
+    else if bytes_eq word (codes "visible") then Some Visible
+    else if bytes_eq word (codes "plan") then Some Plan
+    else if bytes_eq word (codes "fold") then Some Fold
+    else if bytes_eq word (codes "mail") then Some Mail
+    else None
+
+-- How many items a path takes at most.
+abbrev pub most_of : HotPath → ℕ
+most_of Split = 65_536
+most_of Encode = 10_000_000
+most_of Lookup = 10_000_000
+most_of Visible = 10_000_000
+most_of Plan = 10_000_000
+most_of Fold = 1_000_000_000
+most_of Mail = 1_000_000_000
+
+-- What a path does with its items.
+abbrev pub done_of : HotPath → List ℕ
+done_of Split = codes "statements split"
+done_of Encode = codes "names encoded"
+done_of Lookup = codes "names looked up"
+done_of Visible = codes "entries asked for the visible rows"
+done_of Plan = codes "entries purged"
+done_of Fold = codes "rows folded"
+done_of Mail = codes "jobs mailed"
+
+-- A text spells a number below 2 ^ 32 in decimal digits, or none.
+abbrev pub IsRead : List ℕ → Option ℕ → Type 0
+IsRead text (Some n) = IsNumeral 10 (without_leading_plus text) × (n ≡ digits_value 10 (without_leading_plus text)) × (n < 2 ^ 32)
+IsRead text None = IsNumeral 10 (without_leading_plus text) × (digits_value 10 (without_leading_plus text) < 2 ^ 32) → ⊥
+
+-- The request of a path and a number of items, where the path takes so many.
+abbrev pub request_of : Bool → Option HotPath → Option ℕ → Option Request
+request_of timed (Some path) (Some n) =
+    if nat_le 1 n && nat_le n (most_of path) then Some (record { timed = timed; path = path; items = n }) else None
+request_of timed path n = None
+
+-- What a name and a number ask for.
+abbrev pub Asks : Bool → List ℕ → List ℕ → Option Request → Type 0
+Asks timed name items request = (n : Option ℕ) × IsRead items n × (request ≡ request_of timed (path_of name) n)
+
+-- The same behind a flag, which is the one that is known, or not.
+abbrev pub AsksBehind : Bool → List ℕ → List ℕ → Option Request → Type 0
+AsksBehind true name items request = Asks true name items request
+AsksBehind false name items request = request ≡ None
+
+-- What words ask for: NAME N for a path, and --time NAME N for its time too.
+abbrev pub AsksFor : List (List ℕ) → Option Request → Type 0
+AsksFor (name ∷ items ∷ []) request = Asks false name items request
+AsksFor (flag ∷ name ∷ items ∷ []) request = AsksBehind (bytes_eq flag (codes "--time")) name items request
+AsksFor words request = request ≡ None

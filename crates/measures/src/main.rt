@@ -1,0 +1,66 @@
+//! The program `measures [--time] NAME N`: runs a hot call on data made from a seed, and prints what was done
+//! and a checksum, which is the same at each run; with `--time` also the time per item.
+#![tactic(auto)]
+
+mod groups;
+mod line;
+mod mails;
+mod names;
+mod request;
+mod scripts;
+mod seed;
+mod vectors;
+mod work;
+
+use groups::Fold;
+use line::Line;
+use mails::Deliver;
+use names::{Encode, Lookup};
+use request::{HotPath, Request, asked_for};
+use scripts::Split;
+use std::process::ExitCode;
+use std::rt::Env;
+use std::{env, io};
+use vectors::{Plan, Visible};
+use work::{Measured, measure};
+
+#[cfg(test)]
+mod tests;
+
+const USAGE: &str = "usage: measures [--time] split|encode|lookup|visible|plan|fold|mail N";
+
+/// The words after the program's name, or an error of the system.
+fn words<R: Env + AllocGlobal>(rt: &R) -> io::Result<Vec<String>> {
+    Ok(env::args(rt)?.skip(1).collect(rt.alloc())?)
+}
+
+/// What a request measures.
+fn ran(rt: &HostRuntime, request: &Request) -> io::Result<Measured> {
+    let items = request.items;
+    match request.path {
+        HotPath::Split => measure::<Split, HostRuntime>(rt, rt.alloc(), items),
+        HotPath::Encode => measure::<Encode, HostRuntime>(rt, rt.alloc(), items),
+        HotPath::Lookup => measure::<Lookup, HostRuntime>(rt, rt.alloc(), items),
+        HotPath::Visible => measure::<Visible, HostRuntime>(rt, rt.alloc(), items),
+        HotPath::Plan => measure::<Plan, HostRuntime>(rt, rt.alloc(), items),
+        HotPath::Fold => measure::<Fold, HostRuntime>(rt, rt.alloc(), items),
+        HotPath::Mail => measure::<Deliver, HostRuntime>(rt, rt.alloc(), items),
+    }
+}
+
+/// The exit status: 0 after the line, 2 after the usage line.
+fn finish(rt: &HostRuntime) -> io::Result<u8> {
+    let words = words(rt)?;
+    let Some(request) = asked_for(words.as_slice()) else {
+        eprintln!(rt; "{USAGE}")?;
+        return Ok(2);
+    };
+    let measured = ran(rt, &request)?;
+    let line = Line { request, measured };
+    println!(rt; "{line}")?;
+    Ok(0)
+}
+
+fn main(rt: HostRuntime) -> io::Result<ExitCode> {
+    Ok(ExitCode::from(finish(&rt)?))
+}

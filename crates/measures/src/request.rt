@@ -1,0 +1,124 @@
+//! What the words ask for.
+
+ghost use Rattle.std.specs.Prelude.{◌≡◌, map, string_bytes};
+ghost use Rattle.measures.specs.Words.{Asks, AsksFor, IsRead, done_of, most_of, path_of, request_of};
+
+/// A call whose time is measured.
+#[derive(Clone, Copy, Debug, PartialEq, Eq)]
+pub(crate) enum HotPath {
+    /// `sql_words::split` of a script.
+    Split,
+    /// `Dict::encode` of names, one in ten of them new.
+    Encode,
+    /// `Dict::find` of names that the dictionary has.
+    Lookup,
+    /// `Epochs::visible_bits` of one vector.
+    Visible,
+    /// `purge_plan::plan` of one vector.
+    Plan,
+    /// `Partial::add_row` of rows into eight groups.
+    Fold,
+    /// A job through a mail and its answer back.
+    Mail,
+}
+
+impl HotPath {
+    /// The path of this name.
+    fn from_word(word: &str) -> Option<HotPath>
+        ensures { result ≡ path_of word.now }
+    {
+        match word {
+            "split" => Some(HotPath::Split),
+            "encode" => Some(HotPath::Encode),
+            "lookup" => Some(HotPath::Lookup),
+            "visible" => Some(HotPath::Visible),
+            "plan" => Some(HotPath::Plan),
+            "fold" => Some(HotPath::Fold),
+            "mail" => Some(HotPath::Mail),
+            _ => None,
+        }
+    }
+
+    /// How many items it takes at most: a script has no more statements than a session takes, and data
+    /// that is held in memory stays in the low gigabytes.
+    fn most(self) -> u32
+        ensures { result ≡ most_of self }
+    {
+        match self {
+            HotPath::Split => 65_536,
+            HotPath::Encode => 10_000_000,
+            HotPath::Lookup => 10_000_000,
+            HotPath::Visible => 10_000_000,
+            HotPath::Plan => 10_000_000,
+            HotPath::Fold => 1_000_000_000,
+            HotPath::Mail => 1_000_000_000,
+        }
+    }
+
+    /// What was done with the items.
+    pub(crate) fn done(self) -> &'static str
+        ensures { result.now ≡ done_of self }
+    {
+        match self {
+            HotPath::Split => "statements split",
+            HotPath::Encode => "names encoded",
+            HotPath::Lookup => "names looked up",
+            HotPath::Visible => "entries asked for the visible rows",
+            HotPath::Plan => "entries purged",
+            HotPath::Fold => "rows folded",
+            HotPath::Mail => "jobs mailed",
+        }
+    }
+}
+
+/// A hot path, on how many items, and whether the time is printed.
+#[derive(Clone, Copy, Debug, PartialEq, Eq)]
+pub(crate) struct Request {
+    pub(crate) timed: bool,
+    pub(crate) path: HotPath,
+    pub(crate) items: u32,
+}
+
+/// What `[--time] NAME N` asks for, where N is a number of items that the path takes. Any other words ask for
+/// nothing.
+pub(crate) fn asked_for(words: &[String]) -> Option<Request>
+    ensures { AsksFor (map string_bytes words.now) result }
+{
+    match words {
+        [name, items] => asked(false, name.as_str(), items.as_str()),
+        [flag, name, items] => {
+            if flag.as_str() == "--time" {
+                asked(true, name.as_str(), items.as_str())
+            } else {
+                None
+            }
+        }
+        _ => None,
+    }
+}
+
+/// What a name and a number ask for.
+fn asked(timed: bool, name: &str, items: &str) -> Option<Request>
+    ensures { Asks timed name.now items.now result }
+{
+    request_with(timed, HotPath::from_word(name), number_in(items))
+}
+
+/// The number that a text spells in decimal digits, where it fits 32 bits.
+fn number_in(text: &str) -> Option<u32>
+    ensures { IsRead text.now result }
+{
+    text.parse::<u32>().ok()
+}
+
+/// The request of a path and a number, where the path takes so many items.
+fn request_with(timed: bool, path: Option<HotPath>, items: Option<u32>) -> Option<Request>
+    ensures { result ≡ request_of timed path items }
+{
+    match (path, items) {
+        (Some(path), Some(items)) if 1 <= items && items <= path.most() => {
+            Some(Request { timed, path, items })
+        }
+        _ => None,
+    }
+}

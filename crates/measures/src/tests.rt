@@ -1,0 +1,108 @@
+//! The words, the line, and each path on a thousand items. The checksums were computed apart, from PCG's
+//! numbers and plain loops over rows, marks and names.
+
+use crate::groups::Fold;
+use crate::line::Line;
+use crate::mails::Deliver;
+use crate::names::{Encode, Lookup};
+use crate::request::{HotPath, Request, asked_for};
+use crate::scripts::Split;
+use crate::vectors::{Plan, Visible};
+use crate::work::{Measured, Work};
+use std::alloc::{AllocError, Global};
+use std::test::Fail;
+
+/// What words with a space between each two ask for.
+fn asked(alloc: Global, words: &str) -> Result<Option<Request>, AllocError> {
+    let mut list = Vec::new(alloc);
+    for word in words.split_whitespace() {
+        list.push(String::from_str(alloc, word)?)?;
+    }
+    Ok(asked_for(list.as_slice()))
+}
+
+#[test]
+fn words_that_are_calls(rt: HostRuntime) -> Result<(), Fail> {
+    let plain = Request {
+        timed: false,
+        path: HotPath::Split,
+        items: 65_536,
+    };
+    let timed = Request {
+        timed: true,
+        path: HotPath::Mail,
+        items: 1,
+    };
+    assert_eq!(rt; asked(rt.alloc(), "split 65536")?, Some(plain));
+    assert_eq!(rt; asked(rt.alloc(), "--time mail 1")?, Some(timed));
+    Ok(())
+}
+
+#[test]
+fn words_that_are_none(rt: HostRuntime) -> Result<(), Fail> {
+    let refused = [
+        "",
+        "split",
+        "split 0",
+        "split 65537",
+        "split -1",
+        "split x",
+        "splits 5",
+        "--time split",
+        "--fast split 5",
+        "split 5 --time",
+        "--time split 5 5",
+    ];
+    for words in refused {
+        assert_eq!(rt; asked(rt.alloc(), words)?, None);
+    }
+    Ok(())
+}
+
+#[test]
+fn lines(rt: HostRuntime) -> Result<(), Fail> {
+    let measured = Measured {
+        checksum: 7,
+        nanoseconds: 1_239,
+    };
+    let plain = Line {
+        request: Request {
+            timed: false,
+            path: HotPath::Fold,
+            items: 100,
+        },
+        measured,
+    };
+    let timed = Line {
+        request: Request {
+            timed: true,
+            path: HotPath::Plan,
+            items: 100,
+        },
+        measured,
+    };
+    let said = format!(in rt.alloc(); "{plain}|{timed}")?;
+    assert_eq!(rt;
+        said.as_str(),
+        "100 rows folded, checksum 7|100 entries purged, checksum 7, 12.3 ns each"
+    );
+    Ok(())
+}
+
+/// The checksum of a path on a thousand items.
+fn checksum<W: Work + Drop>(alloc: Global) -> Result<u64, AllocError> {
+    let mut data = W::prepared(alloc, 1_000)?;
+    data.work(alloc)
+}
+
+#[test]
+fn checksums(rt: HostRuntime) -> Result<(), Fail> {
+    assert_eq!(rt; checksum::<Split>(rt.alloc())?, 1_000);
+    assert_eq!(rt; checksum::<Encode>(rt.alloc())?, 101);
+    assert_eq!(rt; checksum::<Lookup>(rt.alloc())?, 49_542);
+    assert_eq!(rt; checksum::<Visible>(rt.alloc())?, 40_000);
+    assert_eq!(rt; checksum::<Plan>(rt.alloc())?, 10_401);
+    assert_eq!(rt; checksum::<Fold>(rt.alloc())?, 8_001_016);
+    assert_eq!(rt; checksum::<Deliver>(rt.alloc())?, 1_155_500);
+    Ok(())
+}

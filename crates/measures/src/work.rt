@@ -1,0 +1,38 @@
+//! What is measured, and how its time is taken.
+
+use std::alloc::{AllocError, Global};
+use std::io;
+use std::time::{Clock, Instant};
+
+/// A hot call on data that is made before the clock starts.
+pub(crate) trait Work: Sized {
+    /// The data for so many items.
+    fn prepared(alloc: Global, items: u32) -> Result<Self, AllocError>;
+
+    /// The hot call. The answer is a checksum of what it gave.
+    fn work(&mut self, alloc: Global) -> Result<u64, AllocError>;
+}
+
+/// What a hot call gave, and how long it took.
+#[derive(Clone, Copy, Debug)]
+pub(crate) struct Measured {
+    pub(crate) checksum: u64,
+    pub(crate) nanoseconds: u64,
+}
+
+/// Makes the data, and runs the hot call once between two looks at the clock. The errors are those of the
+/// clock, and want of memory.
+pub(crate) fn measure<W: Work + Drop, R: Clock>(
+    clock: &R,
+    alloc: Global,
+    items: u32,
+) -> io::Result<Measured> {
+    let mut data = W::prepared(alloc, items)?;
+    let start = Instant::now(clock)?;
+    let checksum = data.work(alloc)?;
+    let spent = start.elapsed(clock)?;
+    Ok(Measured {
+        checksum,
+        nanoseconds: u64::try_from(spent.as_nanos()).unwrap_or(u64::MAX),
+    })
+}
