@@ -13,7 +13,8 @@ use Rattle.cube_values.specs.BitRows.{filled}
 use Rattle.cube_values.specs.EpochsVector.{Leads, epoch_at, is_hidden_by, sees_row}
 use Rattle.cube_values.specs.Sees.{sees}
 use Rattle.epochs_vector.specs.declared.limit.Limit.{Limit}
-use Rattle.epochs_vector.specs.Seen.{is_below, is_shown, seen_rows, ShowsRun}
+use Rattle.epochs_vector.specs.Limits.{is_below}
+use Rattle.epochs_vector.specs.Seen.{is_shown, seen_rows, ShowsRun}
 use Rattle.epochs_vector.specs.Entries.{rows_of}
 
 -- a list that is filled in part

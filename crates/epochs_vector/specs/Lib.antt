@@ -1,4 +1,5 @@
 pub mod Changed
 pub mod Entries
+pub mod Limits
 pub mod Seen
 pub mod Without

@@ -1,5 +1,5 @@
 -- Which rows a snapshot sees, and how the greatest mark that it sees says so.
-use Rattle.std.specs.Prelude.{◌≡◌, ℕ, ◌<◌, ◌≤◌, Bool, false, not, ◌&&◌, ◌||◌, ◌==◌, nat_lt, List, length, map, slice_index_or, Option}
+use Rattle.std.specs.Prelude.{◌≡◌, ℕ, ◌<◌, ◌≤◌, Bool, false, not, ◌&&◌, List, length, map, slice_index_or, Option}
 use Rattle.std.specs.List.{range_with_len}
 use Rattle.std.specs.Option.{option_map_or}
 use Rattle.cube_values.specs.declared.entry.Entry.{Entry}
@@ -8,15 +8,11 @@ use Rattle.cube_values.specs.EpochsVector.{sees_row}
 use Rattle.cube_values.specs.Sees.{sees}
 use Rattle.epochs_vector.specs.declared.limit.Limit.{Limit}
 use Rattle.epochs_vector.specs.Entries.{rows_of}
+use Rattle.epochs_vector.specs.Limits.{is_below}
 
 -- For each row of a vector, whether a snapshot sees it.
 abbrev pub seen_rows : Snapshot → List Entry → List Bool
 seen_rows s entries = map (sees_row s entries) (range_with_len 0 (rows_of entries))
-
--- Row i of epoch j is below a limit where j is below the limit's epoch, or is that epoch and i is below
--- the limit's row.
-abbrev pub is_below : Limit → ℕ → ℕ → Bool
-is_below limit j i = nat_lt j limit.epoch || (j == limit.epoch && nat_lt i limit.row)
 
 -- A snapshot sees row i, which is of that epoch or of none, where all below the limit is hidden.
 abbrev pub is_shown : Snapshot → Limit → Option ℕ → ℕ → Bool

@@ -1,9 +1,9 @@
-//! The greatest mark that a snapshot sees. It alone says which rows are hidden from the snapshot.
+//! The greatest of some marks. It alone says which rows they hide.
 
 ghost use Rattle.std.specs.Prelude.{◌≡◌, ℕ, ◌<◌, ◌≤◌, ◌||◌, nat_lt};
 ghost use Rattle.std.specs.List.{list_any};
 ghost use Rattle.cube_values.specs.EpochsVector.{is_hidden_by};
-ghost use Rattle.epochs_vector.specs.Seen.{is_below};
+ghost use Rattle.epochs_vector.specs.Limits.{is_below};
 
 use cube_values::{Entry, Snapshot};
 
@@ -14,36 +14,9 @@ pub struct Limit {
     pub row: u64,
 }
 
-/// What the marks hide that the snapshot sees.
-pub fn limit_of(entries: &[Entry], snapshot: &Snapshot) -> Limit
-    ensures { (j i : ℕ) → list_any (is_hidden_by snapshot.now j i) entries.now ≡ is_below result j i }
-{
-    let mut limit = Limit { epoch: 0, row: 0 };
-    for entry in entries {
-        limit = limit.with(*entry, snapshot);
-    }
-    limit
-}
-
 impl Limit {
-    // What the limit hides and the entry besides, where it is a mark that the snapshot sees.
-    fn with(self, entry: Entry, snapshot: &Snapshot) -> Limit
-        ensures { (j i : ℕ) → is_below result j i ≡ (is_below self j i || is_hidden_by snapshot.now j i entry) }
-    {
-        match entry {
-            Entry::Run { .. } => self,
-            Entry::Mark { epoch, at } => {
-                if snapshot.sees(epoch) {
-                    self.or(epoch, at)
-                } else {
-                    self
-                }
-            }
-        }
-    }
-
-    // The greater of the limit and a mark.
-    fn or(self, epoch: u64, at: u64) -> Limit
+    /// The greater of the limit and a mark of `epoch` at row `at`: what either hides.
+    pub fn or(self, epoch: u64, at: u64) -> Limit
         ensures { (j i : ℕ) → is_below result j i ≡ (is_below self j i || is_below (record { epoch = epoch; row = at }) j i) }
     {
         if self.epoch < epoch || (self.epoch == epoch && self.row < at) {
@@ -66,6 +39,33 @@ impl Limit {
             self.row.max(from).min(end)
         } else {
             from
+        }
+    }
+}
+
+/// What the marks hide that the snapshot sees.
+pub(crate) fn limit_of(entries: &[Entry], snapshot: &Snapshot) -> Limit
+    ensures { (j i : ℕ) → list_any (is_hidden_by snapshot.now j i) entries.now ≡ is_below result j i }
+{
+    let mut limit = Limit { epoch: 0, row: 0 };
+    for entry in entries {
+        limit = with_entry(limit, *entry, snapshot);
+    }
+    limit
+}
+
+// What the limit hides and the entry besides, where it is a mark that the snapshot sees.
+fn with_entry(limit: Limit, entry: Entry, snapshot: &Snapshot) -> Limit
+    ensures { (j i : ℕ) → is_below result j i ≡ (is_below limit j i || is_hidden_by snapshot.now j i entry) }
+{
+    match entry {
+        Entry::Run { .. } => limit,
+        Entry::Mark { epoch, at } => {
+            if snapshot.sees(epoch) {
+                limit.or(epoch, at)
+            } else {
+                limit
+            }
         }
     }
 }

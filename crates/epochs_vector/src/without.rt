@@ -4,9 +4,10 @@ ghost use Rattle.std.specs.Prelude.{◌≡◌, ℕ, ◌+◌, ◌<◌, ◌≤◌,
 ghost use Rattle.cube_values.specs.BitRows.{set_bits};
 ghost use Rattle.cube_values.specs.EpochsVector.{IsVector};
 ghost use Rattle.epochs_vector.specs.Entries.{with_entry};
-ghost use Rattle.epochs_vector.specs.Without.{epoch_of, rows_at, at_rows, staying, without};
+ghost use Rattle.epochs_vector.specs.Without.{staying, without};
 
 use crate::entry_list::are_one;
+use crate::entry_parts::{maker, numbered, rows_after};
 use cube_values::{Bits, Entry};
 
 /// How many entries and rows are left.
@@ -58,34 +59,5 @@ fn put_at(entries: &mut [Entry], len: usize, new: Entry) -> usize
     } else {
         entries[len] = new;
         len + 1
-    }
-}
-
-// The epoch that made an entry.
-fn maker(entry: Entry) -> u64
-    ensures { result ≡ epoch_of entry }
-{
-    match entry {
-        Entry::Run { epoch, .. } | Entry::Mark { epoch, .. } => epoch,
-    }
-}
-
-// How many rows there are after an entry.
-fn rows_after(entry: Entry) -> u64
-    ensures { result ≡ rows_at entry }
-{
-    match entry {
-        Entry::Run { end, .. } => end,
-        Entry::Mark { at, .. } => at,
-    }
-}
-
-// The entry with so many rows after it.
-fn numbered(entry: Entry, rows: u64) -> Entry
-    ensures { result ≡ at_rows entry rows }
-{
-    match entry {
-        Entry::Run { epoch, .. } => Entry::Run { epoch, end: rows },
-        Entry::Mark { epoch, .. } => Entry::Mark { epoch, at: rows },
     }
 }

@@ -15,8 +15,8 @@ use Rattle.epochs_vector.specs.Entries.{rows_after, rows_of}
 use Rattle.epochs_vector.specs.Without.{epoch_of, rows_at, at_rows, staying_before}
 use Rattle.epochs_vector.proofs.Ends.{vector_rows}
 use Rattle.epochs_vector.proofs.VisibleRows.{in_run, past_run, lead_up, long_filled, at_below, at_inside, at_above}
-use Rattle.purge_plan.specs.declared.limit.Limit.{Limit}
-use Rattle.purge_plan.specs.Cleared.{is_below}
+use Rattle.epochs_vector.specs.declared.limit.Limit.{Limit}
+use Rattle.epochs_vector.specs.Limits.{is_below}
 use Rattle.purge_plan.specs.Purged.{is_removed_by, is_kept, kept, is_old_mark, counted, with_counted, purged}
 use Rattle.purge_plan.proofs.Counts.{counted_old, counted_new, leads_kept, length-kept, rows_alike}
 use Rattle.purge_plan.proofs.Joins.{rows_counted}

@@ -1,3 +1,2 @@
 pub mod Purged
-pub mod Cleared
 pub mod Sight

@@ -2,10 +2,10 @@
 
 ghost use Rattle.std.specs.Prelude.{◌≡◌, ℕ, ◌+◌, ◌<◌, ◌≤◌, ◌||◌, length, take, drop};
 ghost use Rattle.epochs_vector.specs.Entries.{rows_of, joins};
-ghost use Rattle.epochs_vector.specs.Without.{epoch_of, rows_at, at_rows};
 ghost use Rattle.purge_plan.specs.Purged.{is_old_mark, are_old_runs, joined, with_joined, with_counted};
 
 use cube_values::Entry;
+use epochs_vector::are_one;
 
 /// Puts an entry after the first `len`, which lead to `rows` rows, as a purge at `epoch` does: a run
 /// that adds no row is left out, and what joins the last of them takes its place. Answers how many they
@@ -32,7 +32,7 @@ fn put_joined(entries: &mut [Entry], len: usize, new: Entry, epoch: u64) -> usiz
     ensures within { result ≤ len + 1 }
     ensures long { length entries.new ≡ length entries.old }
 {
-    if len > 0 && are_one(entries[len - 1], new, epoch) {
+    if len > 0 && are_joined(entries[len - 1], new, epoch) {
         entries[len - 1] = one_of(entries[len - 1], new);
         len
     } else {
@@ -42,21 +42,19 @@ fn put_joined(entries: &mut [Entry], len: usize, new: Entry, epoch: u64) -> usiz
 }
 
 // Whether two neighbours become one in a purge at `most`.
-fn are_one(a: Entry, b: Entry, most: u64) -> bool
+fn are_joined(a: Entry, b: Entry, most: u64) -> bool
     ensures { result ≡ (joins a b || are_old_runs most a b) }
 {
-    match a {
-        Entry::Run { epoch, .. } => match b {
-            Entry::Run { epoch: next, .. } => epoch == next || (epoch <= most && next <= most),
-            Entry::Mark { .. } => false,
-        },
-        Entry::Mark { epoch, at } => match b {
-            Entry::Run { .. } => false,
-            Entry::Mark {
-                epoch: next,
-                at: more,
-            } => epoch == next && at == more,
-        },
+    are_one(a, b) || are_old(a, b, most)
+}
+
+// Whether two entries are runs at or below `most`.
+fn are_old(a: Entry, b: Entry, most: u64) -> bool
+    ensures { result ≡ are_old_runs most a b }
+{
+    match (a, b) {
+        (Entry::Run { epoch, .. }, Entry::Run { epoch: next, .. }) => epoch <= most && next <= most,
+        _ => false,
     }
 }
 
@@ -80,34 +78,5 @@ pub fn is_old(entry: Entry, most: u64) -> bool
     match entry {
         Entry::Run { .. } => false,
         Entry::Mark { epoch, .. } => epoch <= most,
-    }
-}
-
-/// The epoch that made an entry.
-pub fn maker(entry: Entry) -> u64
-    ensures { result ≡ epoch_of entry }
-{
-    match entry {
-        Entry::Run { epoch, .. } | Entry::Mark { epoch, .. } => epoch,
-    }
-}
-
-/// How many rows there are after an entry.
-pub fn rows_after(entry: Entry) -> u64
-    ensures { result ≡ rows_at entry }
-{
-    match entry {
-        Entry::Run { end, .. } => end,
-        Entry::Mark { at, .. } => at,
-    }
-}
-
-/// The entry with so many rows after it.
-pub fn numbered(entry: Entry, rows: u64) -> Entry
-    ensures { result ≡ at_rows entry rows }
-{
-    match entry {
-        Entry::Run { epoch, .. } => Entry::Run { epoch, end: rows },
-        Entry::Mark { epoch, .. } => Entry::Mark { epoch, at: rows },
     }
 }

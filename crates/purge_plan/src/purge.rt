@@ -4,12 +4,13 @@ ghost use Rattle.std.specs.Prelude.{◌≡◌, ℕ, ◌≤◌, true, length, tak
 ghost use Rattle.std.specs.List.{list_any};
 ghost use Rattle.cube_values.specs.BitRows.{set_bits};
 ghost use Rattle.cube_values.specs.EpochsVector.{IsVector};
-ghost use Rattle.purge_plan.specs.Cleared.{is_below};
+ghost use Rattle.epochs_vector.specs.Limits.{is_below};
 ghost use Rattle.purge_plan.specs.Purged.{is_removed_by, kept, purged};
 
-use crate::entry_list::{is_old, maker, numbered, put, rows_after};
-use crate::limit::{Limit, limit_of};
+use crate::entry_list::{is_old, put};
+use crate::limit::limit_of;
 use cube_values::{Bits, Entry};
+use epochs_vector::{Limit, maker, numbered, rows_after};
 
 /// Purges at `epoch`. Rows that a mark at or below `epoch` hides are removed, whoever looks, and with
 /// them the marks at or below `epoch`; neighbouring runs at or below `epoch` become one run of their
@@ -47,7 +48,7 @@ fn leave(entries: &mut [Entry], epoch: u64, limit: &Limit, keep: &mut Bits) -> u
     for at in 0..entries.len() {
         let entry = entries[at];
         let to = rows_after(entry);
-        let first = limit.first_kept(maker(entry), from, to);
+        let first = limit.first_shown(maker(entry), from, to);
         keep.fill(from, first, false);
         let more = rows + (to - first);
         if !is_old(entry, epoch) {

@@ -1,6 +1,6 @@
 use Rattle.std.proofs.Common.{◌≡◌, ℕ, take}
 use Rattle.std.specs.List.{list_any}
-use Rattle.purge_plan.specs.Cleared.{is_below}
+use Rattle.epochs_vector.specs.Limits.{is_below}
 use Rattle.purge_plan.specs.Purged.{is_removed_by}
 use Rattle.purge_plan.proofs.limit.limit_of.Given as goal
 

@@ -1,7 +1,7 @@
 use Rattle.std.proofs.Common.{◌≡◌, ◌<◌, true, false, length, get_or, refl, ap, sym, arith, ◌∙◌}
 use Rattle.std.proofs.lemmas.Bool.Decides.{nat_tests}
 use Rattle.cube_values.specs.declared.entry.Entry.TheVariants.{Run}
-use Rattle.purge_plan.specs.Cleared.{is_below}
+use Rattle.epochs_vector.specs.Limits.{is_below}
 use Rattle.purge_plan.specs.Purged.{is_old_mark, kept}
 use Rattle.purge_plan.proofs.Passing.{IsStep, purged_none, purged_next, purged_old, purged_new, purged_all}
 use Rattle.purge_plan.proofs.purge.leave.Goals as goal
@@ -16,7 +16,7 @@ fill-requires-clause-within c =
     let old = c.args.entries.now in
     let entry = get_or l.entries l.at (Run 0 0) in
     let n = purged_next c.args.epoch c.args.limit.now (kept c.args.epoch old) old l.entries l.keep.bits l.at l.len l.from l.rows (Run 0 0) entry (omega arith) refl l.invariant.0 in
-    omega (arith, n.within, l.invariant.0.cleared.long, c.rows_after-to.ensures, c.first_kept-first.ensures.high)
+    omega (arith, n.within, l.invariant.0.cleared.long, c.rows_after-to.ensures, c.first_shown-first.ensures.high)
 
 pub loop-at-preserved : goal.loop-at-preserved
 loop-at-preserved c =
@@ -25,13 +25,13 @@ loop-at-preserved c =
     let limit = c.args.limit.now in
     let old = c.args.entries.now in
     let bits = kept p old in
-    let first = c.first_kept-first.result in
+    let first = c.first_shown-first.result in
     let entry = get_or l.entries l.at (Run 0 0) in
     let there : l.at < length old = omega arith in
     let step : IsStep limit entry l.from first l.keep.bits c.fill.new.self.bits = record {
-      low = c.first_kept-first.ensures.low;
-      high = omega (arith, c.rows_after-to.ensures, c.first_kept-first.ensures.high);
-      below = λ i a b. ap (λ j. is_below limit j i) (sym c.maker.ensures) ∙ c.first_kept-first.ensures.first i a (omega (arith, c.rows_after-to.ensures));
+      low = c.first_shown-first.ensures.low;
+      high = omega (arith, c.rows_after-to.ensures, c.first_shown-first.ensures.high);
+      below = λ i a b. ap (λ j. is_below limit j i) (sym c.maker.ensures) ∙ c.first_shown-first.ensures.first i a (omega (arith, c.rows_after-to.ensures));
       fill = c.fill.ensures.bits;
     } in
     elim c.if-not-is_old.branch [

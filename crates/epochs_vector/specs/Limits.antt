@@ -1,6 +1,6 @@
--- How the greatest of the marks at or below an epoch says which rows are removed.
+-- How the greatest of some marks says which rows they hide.
 use Rattle.std.specs.Prelude.{ℕ, Bool, ◌&&◌, ◌||◌, ◌==◌, nat_lt}
-use Rattle.purge_plan.specs.declared.limit.Limit.{Limit}
+use Rattle.epochs_vector.specs.declared.limit.Limit.{Limit}
 
 -- Row i of epoch j is below a limit where j is below the limit's epoch, or is that epoch and i is below
 -- the limit's row.
