@@ -2,7 +2,11 @@
 //! declarations, statements, tokens and replies.
 #![tactic(auto)]
 
-pub use cube_journal::{Decl, DimDecl, DimDecls, Keyword, Names, Reply, Statement, Token, Tokens};
+pub use cube_journal::{
+    Cond, Conds, CubesFault, Decl, DimDecl, DimDecls, Item, Items, Keyword, Names, Piece, Pieces,
+    Refusal, Reply, SchemaFault, ScriptFault, Statement, Syntax, Token, TokenFault, TokenKind,
+    Tokens, Tuples,
+};
 pub use cube_values::{
     Bits, BoundItem, BoundItems, BoundQuery, CallError, CodedRow, CodedRows, Condition, Conditions,
     Coords, CubeShape, Entries, Entry, EpochList, Field, Flags, Line, NAME_BYTES, NameLists,

@@ -61,14 +61,6 @@ run_shown s limit j from first end old new e low high within seen below clear =
 unseen : (a b : Bool) → a ≡ false → false ≡ (a && not b)
 unseen a b p = rw p
 
-pub run_unseen : (s : Snapshot) (limit : Limit) (j from end : ℕ) (old : List Bool) → sees s j ≡ false → ((i : ℕ) → from ≤ i → get_or old i false ≡ false) → ShowsRun s limit j from end old old
-run_unseen s limit j from end old u clear = record {
-  long = refl;
-  inside = λ i p _. clear i p ∙ unseen (sees s j) (is_below limit j i) u;
-  below = λ i _. refl;
-  above = λ i _. refl;
-}
-
 -- the bits after the entries before `left`, which lead to `from` rows
 pub record IsShownSoFar (s : Snapshot) (limit : Limit) (entries left : List Entry) (from : ℕ) (old bits : List Bool) : Type 0 where
   pub long : length bits ≡ length old
@@ -76,24 +68,6 @@ pub record IsShownSoFar (s : Snapshot) (limit : Limit) (entries left : List Entr
   pub same : (i : ℕ) → from ≤ i → epoch_at entries i ≡ epoch_at left i
   pub done : (i : ℕ) → i < from → get_or bits i false ≡ is_shown s limit (epoch_at entries i) i
   pub clear : (i : ℕ) → from ≤ i → get_or bits i false ≡ false
-
-pub shown_none : (s : Snapshot) (limit : Limit) (entries : List Entry) (bits : List Bool) → Leads 0 entries (length bits) → ((i : ℕ) → get_or bits i false ≡ false) → IsShownSoFar s limit entries entries 0 bits bits
-shown_none s limit entries bits l c = record {
-  long = refl;
-  leads = l;
-  same = λ i _. refl;
-  done = λ i h. absurd (omega arith);
-  clear = λ i _. c i;
-}
-
-pub shown_mark : (s : Snapshot) (limit : Limit) (entries rest : List Entry) (epoch at from : ℕ) (old bits : List Bool) → IsShownSoFar s limit entries (Mark epoch at ∷ rest) from old bits → IsShownSoFar s limit entries rest from old bits
-shown_mark s limit entries rest epoch at from old bits k = record {
-  long = k.long;
-  leads = k.leads.1;
-  same = k.same;
-  done = k.done;
-  clear = k.clear;
-}
 
 pub in_run : (rest : List Entry) (j end i : ℕ) → i < end → epoch_at (Run j end ∷ rest) i ≡ Some j
 in_run rest j end i h = let e : nat_lt i end ≡ true = grind (arith, nat_tests) in rw e
@@ -136,9 +110,6 @@ pub run_within : (s : Snapshot) (limit : Limit) (entries left rest : List Entry)
 run_within s limit entries left rest j end from old bits e k =
     let r = at_run s limit entries left rest j end from old bits e k in
     omega (arith, lead_up end rest (length old) r.leads.1, r.long)
-
-pub shown_all : (s : Snapshot) (limit : Limit) (entries : List Entry) (from : ℕ) (old bits : List Bool) → IsShownSoFar s limit entries [] from old bits → (i : ℕ) → i < length old → get_or bits i false ≡ is_shown s limit (epoch_at entries i) i
-shown_all s limit entries from old bits k i h = let e : from ≡ length old = k.leads in k.done i (omega arith)
 
 -- the limit says what the marks say
 shown_is_seen : (s : Snapshot) (limit : Limit) (entries : List Entry) (i : ℕ) → ((j i : ℕ) → list_any (is_hidden_by s j i) entries ≡ is_below limit j i) → (o : Option ℕ) → is_shown s limit o i ≡ option_map_or (λ j. sees s j && not (list_any (is_hidden_by s j i) entries)) o false

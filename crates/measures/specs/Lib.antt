@@ -1,3 +1,4 @@
+pub mod Checksums
 pub mod Encoded
 pub mod Folded
 pub mod Lines

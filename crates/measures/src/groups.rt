@@ -1,15 +1,18 @@
 //! Rows folded into groups.
 
-ghost use Rattle.std.specs.Prelude.{◌≡◌, List, length, IfOk};
+ghost use Rattle.std.specs.Prelude.{◌≡◌, ◌%◌, ◌^◌, List, [], length, map, IfOk};
+ghost use Rattle.cube_values.specs.Answer.{table_of};
 ghost use Rattle.cube_values.specs.declared.row.CodedRow.{CodedRow};
+ghost use Rattle.agg_fold.specs.Coded.{row_for};
 ghost use Rattle.agg_fold.specs.Partials.{StandsFor};
+ghost use Rattle.measures.specs.Checksums.{field_count, line_sum, table_sum};
 ghost use Rattle.measures.specs.Folded.{eight_groups};
 
 use crate::seed::{below, seeded};
 use crate::work::Work;
 use agg_fold::Partial;
 use cube_values::{
-    BoundItem, BoundItems, BoundQuery, Coords, Field, NameLists, Part, Parts, Span, Table,
+    BoundItem, BoundItems, BoundQuery, Coords, Field, Line, NameLists, Part, Parts, Span,
 };
 use std::alloc::{AllocError, Global};
 
@@ -72,15 +75,38 @@ fn folded(
     Ok(partial)
 }
 
-/// The sum of the whole numbers of a table, without their signs, in 64 bits.
-fn table_sum(table: &Table) -> u64 {
+/// What a field counts, in 64 bits.
+fn field_count(field: &Field) -> u64
+    ensures { result ≡ field_count field.now % 2 ^ 64 }
+{
+    match field {
+        Field::Whole(n) => (n.unsigned_abs() % ROUND) as u64,
+        _ => 0,
+    }
+}
+
+/// The sum of the whole numbers of a line, without their signs.
+fn line_sum(line: &[Field]) -> u64
+    ensures { result ≡ line_sum line.now }
+{
     let mut sum: u64 = 0;
-    for line in table.as_slice() {
-        for field in line.as_slice() {
-            if let Field::Whole(n) = field {
-                sum = sum.wrapping_add((n.unsigned_abs() % ROUND) as u64);
-            }
-        }
+    let mut left = line;
+    'fields: while let [field, rest @ ..] = left {
+        sum = sum.wrapping_add(field_count(field));
+        left = rest;
+    }
+    sum
+}
+
+/// The sum of the whole numbers of a table, without their signs.
+fn table_sum(table: &[Line]) -> u64
+    ensures { result ≡ table_sum table.now }
+{
+    let mut sum: u64 = 0;
+    let mut left = table;
+    'lines: while let [line, rest @ ..] = left {
+        sum = sum.wrapping_add(line_sum(line.as_slice()));
+        left = rest;
     }
     sum
 }
@@ -102,10 +128,13 @@ impl Work for Fold {
     }
 
     /// The checksum is the sum of the whole numbers in the answer.
-    fn work(&mut self, alloc: Global) -> Result<u64, AllocError> {
+    fn work(&mut self, alloc: Global) -> Result<u64, AllocError>
+        ensures { IfOk result (λ sum. (rows : List CodedRow) × (length rows ≡ self.old.items)
+            × (sum ≡ table_sum (table_of eight_groups.group eight_groups.items (map (row_for []) rows)))) }
+    {
         let query = eight_groups(alloc)?;
         let partial = folded(alloc, &query, self.rows.as_slice(), self.items)?;
         let table = partial.finish(&query, &NameLists::new(alloc))?;
-        Ok(table_sum(&table))
+        Ok(table_sum(table.as_slice()))
     }
 }

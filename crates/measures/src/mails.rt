@@ -1,7 +1,8 @@
 //! Jobs through a mail.
 
-ghost use Rattle.std.specs.Prelude.{◌≡◌, ◌+◌, ◌%◌, ◌^◌};
+ghost use Rattle.std.specs.Prelude.{◌≡◌, ◌+◌, ◌%◌, ◌^◌, IfOk};
 ghost use Rattle.mail_cell.specs.State.{new_mail};
+ghost use Rattle.measures.specs.Checksums.{answers_sum};
 
 use crate::seed::{below, seeded};
 use crate::work::Work;
@@ -46,7 +47,9 @@ impl Work for Deliver {
     }
 
     /// The checksum is the sum of the answers.
-    fn work(&mut self, alloc: Global) -> Result<u64, AllocError> {
+    fn work(&mut self, alloc: Global) -> Result<u64, AllocError>
+        ensures { IfOk result (λ sum. sum ≡ answers_sum self.old.jobs self.old.more) }
+    {
         let mut mail = Mail::new(alloc, CLIENTS)?;
         let mut sum: u64 = 0;
         'jobs: for job in 0..self.jobs {

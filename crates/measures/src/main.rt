@@ -18,6 +18,7 @@ use mails::Deliver;
 use names::{Encode, Lookup};
 use request::{HotPath, Request, asked_for};
 use scripts::Split;
+use std::io::ErrorKind;
 use std::process::ExitCode;
 use std::rt::Env;
 use std::{env, io};
@@ -29,9 +30,13 @@ mod tests;
 
 const USAGE: &str = "usage: measures [--time] split|encode|lookup|visible|plan|fold|mail N";
 
-/// The words after the program's name, or an error of the system.
+/// The words after the program's name, and none where a word is not UTF-8. The error is want of memory.
 fn words<R: Env + AllocGlobal>(rt: &R) -> io::Result<Vec<String>> {
-    Ok(env::args(rt)?.skip(1).collect(rt.alloc())?)
+    match env::args(rt) {
+        Ok(all) => Ok(all.skip(1).collect(rt.alloc())?),
+        Err(error) if error.kind() == ErrorKind::OutOfMemory => Err(error),
+        Err(_) => Ok(Vec::new(rt.alloc())),
+    }
 }
 
 /// What a request measures.

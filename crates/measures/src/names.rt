@@ -1,6 +1,7 @@
 //! Names in a dictionary.
 
-ghost use Rattle.std.specs.Prelude.{◌≡◌, ◌-◌, ◌^◌, map, string_bytes, IfOk};
+ghost use Rattle.std.specs.Prelude.{◌≡◌, ◌-◌, ◌^◌, length, map, string_bytes, IfOk};
+ghost use Rattle.measures.specs.Checksums.{numbers_sum};
 ghost use Rattle.measures.specs.Encoded.{encoded, empty};
 
 use crate::seed::{below, seeded};
@@ -50,10 +51,28 @@ impl Work for Encode {
     }
 
     /// The checksum is the number of names in the dictionary.
-    fn work(&mut self, alloc: Global) -> Result<u64, AllocError> {
+    fn work(&mut self, alloc: Global) -> Result<u64, AllocError>
+        ensures { IfOk result (λ sum. sum ≡ length (encoded (empty (2 ^ 32 - 1)) (map string_bytes self.old.names.items)).names) }
+    {
         let dict = dictionary(alloc, self.names.as_slice())?;
         Ok(u64::from(dict.len()))
     }
+}
+
+/// The sum of the numbers of names, counted from 1.
+fn numbers_sum(dict: &Dict, names: &[String]) -> u64
+    ensures { result ≡ numbers_sum dict.now (map string_bytes names.now) }
+{
+    let mut sum: u64 = 0;
+    let mut left = names;
+    'names: while let [name, rest @ ..] = left {
+        sum = sum.wrapping_add(match dict.find(name.as_str()) {
+            Some(n) => u64::from(n) + 1,
+            None => 0,
+        });
+        left = rest;
+    }
+    sum
 }
 
 /// Names, and the dictionary that has them.
@@ -71,13 +90,9 @@ impl Work for Lookup {
     }
 
     /// The checksum is the sum of the numbers that are found, and 1 for each.
-    fn work(&mut self, _alloc: Global) -> Result<u64, AllocError> {
-        let mut sum: u64 = 0;
-        for name in self.names.iter() {
-            if let Some(n) = self.dict.find(name.as_str()) {
-                sum = sum.wrapping_add(u64::from(n) + 1);
-            }
-        }
-        Ok(sum)
+    fn work(&mut self, _alloc: Global) -> Result<u64, AllocError>
+        ensures { IfOk result (λ sum. sum ≡ numbers_sum self.old.dict (map string_bytes self.old.names.items)) }
+    {
+        Ok(numbers_sum(&self.dict, self.names.as_slice()))
     }
 }

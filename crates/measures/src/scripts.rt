@@ -1,5 +1,8 @@
 //! Splitting a script into its statements.
 
+ghost use Rattle.std.specs.Prelude.{IfOk};
+ghost use Rattle.measures.specs.Checksums.{CountsStatements};
+
 use crate::seed::{below, seeded};
 use crate::work::Work;
 use cube_values::CallError;
@@ -26,7 +29,9 @@ impl Work for Split {
     }
 
     /// The checksum is the number of statements, 0 for a script that is refused.
-    fn work(&mut self, alloc: Global) -> Result<u64, AllocError> {
+    fn work(&mut self, alloc: Global) -> Result<u64, AllocError>
+        ensures { IfOk result (λ sum. CountsStatements self.old.script.items sum) }
+    {
         match split(alloc, self.script.as_slice()) {
             Ok(pieces) => Ok(pieces.len() as u64),
             Err(CallError::Fault(_)) => Ok(0),

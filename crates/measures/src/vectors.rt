@@ -1,5 +1,10 @@
 //! Vectors of epochs: the rows that a snapshot sees, and a purge.
 
+ghost use Rattle.std.specs.Prelude.{◌≡◌, ◌/◌, IfOk};
+ghost use Rattle.cube_values.specs.BitRows.{set_bits};
+ghost use Rattle.epochs_vector.specs.Seen.{seen_rows};
+ghost use Rattle.measures.specs.Checksums.{purge_sum};
+
 use crate::seed::{below, seeded};
 use crate::work::Work;
 use cube_values::{Bits, Entry, EpochList, Snapshot};
@@ -57,7 +62,9 @@ impl Work for Visible {
     }
 
     /// The checksum is the number of rows that are seen.
-    fn work(&mut self, alloc: Global) -> Result<u64, AllocError> {
+    fn work(&mut self, alloc: Global) -> Result<u64, AllocError>
+        ensures { IfOk result (λ sum. sum ≡ set_bits (seen_rows self.old.snapshot self.old.epochs.entries)) }
+    {
         let bits = self.epochs.visible_bits(alloc, &self.snapshot)?;
         Ok(bits.ones())
     }
@@ -95,7 +102,9 @@ impl Work for Plan {
     }
 
     /// The checksum is the number of rows that go and of entries that stay.
-    fn work(&mut self, _alloc: Global) -> Result<u64, AllocError> {
+    fn work(&mut self, _alloc: Global) -> Result<u64, AllocError>
+        ensures { IfOk result (λ sum. sum ≡ purge_sum (EPOCHS / 2) self.old) }
+    {
         self.keep.reset(self.rows);
         plan(&mut self.entries, EPOCHS / 2, &mut self.keep);
         let before = self.keep.len();

@@ -1,0 +1,42 @@
+-- The checksum of each hot call, by the data that it worked on.
+use Rattle.std.specs.Prelude.{◌≡◌, ◌⊎◌, ℕ, ◌+◌, ◌-◌, ◌%◌, ◌^◌, List, length, map, unsigned_abs}
+use Rattle.std.specs.List.{sum_by, range_with_len}
+use Rattle.std.specs.Option.{option_map_or}
+use Rattle.cube_values.specs.declared.entry.Entry.{Entry}
+use Rattle.cube_values.specs.declared.table.Field.{Field}
+use Rattle.cube_values.specs.declared.table.Field.TheVariants.{Whole}
+use Rattle.cube_values.specs.BitRows.{set_bits}
+use Rattle.cube_journal.specs.declared.piece.ScriptFault.{ScriptFault}
+use Rattle.cube_journal.specs.declared.piece.Piece.{Piece}
+use Rattle.cube_journal.specs.Pieces.{IsScript, HasScriptFault}
+use Rattle.names_dict.specs.Dictionaries.{Dictionary, number_of}
+use Rattle.purge_plan.specs.Purged.{kept, purged}
+
+-- Of a script: how many statements it has, or 0 where it is refused.
+abbrev pub CountsStatements : List ℕ → ℕ → Type 0
+CountsStatements script sum =
+    ((pieces : List Piece) × IsScript script pieces × (sum ≡ length pieces)) ⊎ ((fault : ScriptFault) × HasScriptFault script fault × (sum ≡ 0))
+
+-- Of names and a dictionary: the numbers of the names, counted from 1, in 64 bits.
+abbrev pub numbers_sum : Dictionary → List (List ℕ) → ℕ
+numbers_sum d names = sum_by (λ name. option_map_or (λ n. n + 1) (number_of d name) 0) names % 2 ^ 64
+
+-- Of a vector that is purged at an epoch: how many rows go and how many entries stay, in 64 bits.
+abbrev pub purge_sum : ℕ → List Entry → ℕ
+purge_sum p entries = (length (kept p entries) - set_bits (kept p entries) + length (purged p entries)) % 2 ^ 64
+
+-- What a field counts: a whole number without its sign, and nothing else.
+abbrev pub field_count : Field → ℕ
+field_count (Whole n) = unsigned_abs n
+field_count field = 0
+
+-- Of a line of an answer, and of an answer: the fields' counts, in 64 bits.
+abbrev pub line_sum : List Field → ℕ
+line_sum line = sum_by field_count line % 2 ^ 64
+
+abbrev pub table_sum : List (List Field) → ℕ
+table_sum table = sum_by line_sum table % 2 ^ 64
+
+-- Of jobs 0, 1, .., so many: each job and `more`, in 64 bits.
+abbrev pub answers_sum : ℕ → ℕ → ℕ
+answers_sum jobs more = sum_by (λ answer. answer) (map (λ job. job + more) (range_with_len 0 jobs)) % 2 ^ 64
