@@ -1,26 +1,32 @@
 -- What a file gives, and what its bytes show of it.
-use Rattle.std.proofs.Common.{◌≡◌, ℕ, List, Option, Some, None, Result, Ok, Err, refl, sym, ap, ◌∙◌, subst}
+use Rattle.std.proofs.Common.{◌≡◌, ℕ, List, Option, Some, None, Result, Ok, Err, refl, sym, ap, ◌∙◌, subst, arith}
 use Rattle.std.specs.Global.{Vec}
 use Rattle.cube_journal.specs.declared.decl.Decl.{Decl}
 use Rattle.outside.specs.Files.{content_of}
-use Rattle.outside.specs.Given.{Given, given_by, missing, whole, ReadsWhole}
+use Rattle.outside.specs.Given.{Given, given_by, IsWithin, missing, whole, ReadsWhole}
 use Rattle.cubrick_top.specs.declared.action.Action.{Action}
 use Rattle.cubrick_top.specs.declared.fault.BuiltPart.TheVariants.{Script as Scripts}
 use Rattle.cubrick_top.specs.declared.fault.Fault.{Fault}
 use Rattle.cubrick_top.specs.declared.fault.Fault.TheVariants.{Words, Absent, ReadFailed, CubesTooLong, Cubes, ScriptTooLong, Script, NotBuilt, OutputFault, NoMemory}
 use Rattle.cubrick_top.specs.Reading.{GivenAsTold, ReadsCubes, ReadsScript, ShowsCubes, ShowsCubesText, ShowsScript, ShowsScriptText}
 
+-- what a file gives is within the limit
+within_limit : (limit : ℕ) (content : Option (List ℕ)) → IsWithin limit (given_by limit content)
+within_limit limit None = tt
+within_limit limit (Some bytes) = grind arith
+
 -- a file gives what the shelf tells of it, or anything where it tells nothing
-pub given_as_told : (told : Option (List (List ℕ × List ℕ))) (limit : ℕ) (name : List ℕ) → (given : Given) × GivenAsTold told limit name given
-given_as_told None limit name = (missing, λ files e. absurd cc)
-given_as_told (Some files) limit name = (given_by limit (content_of files name), λ others e. let same : files ≡ others = cc in ap (λ f. given_by limit (content_of f name)) same)
+pub given_as_told : (told : Option (List (List ℕ × List ℕ))) (limit : ℕ) (name : List ℕ) → (given : Given) × GivenAsTold told limit name given × IsWithin limit given
+given_as_told None limit name = (missing, (λ files e. absurd cc), tt)
+given_as_told (Some files) limit name =
+    (given_by limit (content_of files name), (λ others e. let same : files ≡ others = cc in ap (λ f. given_by limit (content_of f name)) same), within_limit limit (content_of files name))
 
 -- nothing is said of a file that was not read
 pub cubes_unread : (told : Option (List (List ℕ × List ℕ))) (name : List ℕ) (limit : ℕ) → ReadsCubes told name limit (Err NoMemory)
-cubes_unread told name limit = let g = given_as_told told limit name in record { given = g.0; told_so = g.1; shown = tt }
+cubes_unread told name limit = let g = given_as_told told limit name in record { given = g.0; told_so = g.1; within = g.2; shown = tt }
 
 pub script_unread : (told : Option (List (List ℕ × List ℕ))) (cubes : List Decl) (name : List ℕ) (limit : ℕ) → ReadsScript told cubes name limit (Err NoMemory)
-script_unread told cubes name limit = let g = given_as_told told limit name in record { given = g.0; told_so = g.1; shown = tt }
+script_unread told cubes name limit = let g = given_as_told told limit name in record { given = g.0; told_so = g.1; within = g.2; shown = tt }
 
 -- what the bytes of a cubes file show is shown of the file
 cubes_text_shows : (name bytes : List ℕ) (result : Result (Vec Decl) Fault) → ShowsCubesText bytes result → ShowsCubes name (whole bytes) result
@@ -40,6 +46,7 @@ pub cubes_shown : (told : Option (List (List ℕ × List ℕ))) (name : List ℕ
 cubes_shown told name limit read bytes result r is h = record {
   given = r.given;
   told_so = r.by_files;
+  within = r.within;
   shown = subst (λ given. ShowsCubes name given result) (sym (r.shown ∙ ap whole (sym is))) (cubes_text_shows name bytes result h);
 }
 
@@ -61,5 +68,6 @@ pub script_shown : (told : Option (List (List ℕ × List ℕ))) (cubes : List D
 script_shown told cubes name limit read bytes result r is h = record {
   given = r.given;
   told_so = r.by_files;
+  within = r.within;
   shown = subst (λ given. ShowsScript cubes name given result) (sym (r.shown ∙ ap whole (sym is))) (script_text_shows cubes name bytes result h);
 }

@@ -29,7 +29,7 @@ module _ (told : Option (List (List ℕ × List ℕ))) (taken : Option (List ℕ
   pub cubes_end : (fault : Fault) → ReadsCubes told cubes_name cubes_bytes (Err fault) → Runs told taken taken cubes_name script_name (Some fault)
   cubes_end fault r =
       let other = given_as_told told script_bytes script_name in
-      record { cubes = r.given; cubes_told = r.told_so; script = other.0; script_told = other.1; gained = []; sink = gained_nothing taken; ends = ending fault r.shown }
+      record { cubes = r.given; cubes_told = r.told_so; cubes_within = r.within; script = other.0; script_told = other.1; script_within = other.2; gained = []; sink = gained_nothing taken; ends = ending fault r.shown }
     where
       ending : (fault : Fault) → ShowsCubes cubes_name r.given (Err fault) → Ends cubes_name script_name r.given (given_as_told told script_bytes script_name).0 (Some fault) []
       ending Words h = h
@@ -46,7 +46,7 @@ module _ (told : Option (List (List ℕ × List ℕ))) (taken : Option (List ℕ
   -- the script has a fault
   pub script_end : (cubes : Vec Decl) (fault : Fault) → ReadsCubes told cubes_name cubes_bytes (Ok cubes) → ReadsScript told cubes.items script_name script_bytes (Err fault) → Runs told taken taken cubes_name script_name (Some fault)
   script_end cubes fault r q =
-      record { cubes = r.given; cubes_told = r.told_so; script = q.given; script_told = q.told_so; gained = []; sink = gained_nothing taken; ends = ending fault q.shown }
+      record { cubes = r.given; cubes_told = r.told_so; cubes_within = r.within; script = q.given; script_told = q.told_so; script_within = q.within; gained = []; sink = gained_nothing taken; ends = ending fault q.shown }
     where
       ending : (fault : Fault) → ShowsScript cubes.items script_name q.given (Err fault) → Ends cubes_name script_name r.given q.given (Some fault) []
       ending Words h = h
@@ -63,12 +63,12 @@ module _ (told : Option (List (List ℕ × List ℕ))) (taken : Option (List ℕ
   -- memory ran out while the text was made
   pub no_memory_end : (cubes : Vec Decl) (actions : Vec Action) → ReadsCubes told cubes_name cubes_bytes (Ok cubes) → ReadsScript told cubes.items script_name script_bytes (Ok actions) → Runs told taken taken cubes_name script_name (Some NoMemory)
   no_memory_end cubes actions r q =
-      record { cubes = r.given; cubes_told = r.told_so; script = q.given; script_told = q.told_so; gained = []; sink = gained_nothing taken; ends = refl }
+      record { cubes = r.given; cubes_told = r.told_so; cubes_within = r.within; script = q.given; script_told = q.told_so; script_within = q.within; gained = []; sink = gained_nothing taken; ends = refl }
 
   -- the text was written whole
   pub whole_end : (after : Option (List ℕ)) (cubes : Vec Decl) (actions : Vec Action) (text : List ℕ) → ReadsCubes told cubes_name cubes_bytes (Ok cubes) → ReadsScript told cubes.items script_name script_bytes (Ok actions) → text ≡ run_text actions.items → Gained taken text after → Runs told taken after cubes_name script_name None
   whole_end after cubes actions text r q is g =
-      record { cubes = r.given; cubes_told = r.told_so; script = q.given; script_told = q.told_so; gained = text; sink = g; ends = (cubes.items, actions.items, r.shown, q.shown, is) }
+      record { cubes = r.given; cubes_told = r.told_so; cubes_within = r.within; script = q.given; script_told = q.told_so; script_within = q.within; gained = text; sink = g; ends = (cubes.items, actions.items, r.shown, q.shown, is) }
 
   -- a front of the text was written
   pub front_end : (after : Option (List ℕ)) (cubes : Vec Decl) (actions : Vec Action) (text : List ℕ) → ReadsCubes told cubes_name cubes_bytes (Ok cubes) → ReadsScript told cubes.items script_name script_bytes (Ok actions) → text ≡ run_text actions.items → GainedFront taken text after → Runs told taken after cubes_name script_name (Some OutputFault)
@@ -76,8 +76,10 @@ module _ (told : Option (List (List ℕ × List ℕ))) (taken : Option (List ℕ
       record {
         cubes = r.given;
         cubes_told = r.told_so;
+        cubes_within = r.within;
         script = q.given;
         script_told = q.told_so;
+        script_within = q.within;
         gained = take g.0 text;
         sink = g.2;
         ends = (text, (cubes.items, actions.items, r.shown, q.shown, is), drop g.0 text, sym (take-append-drop g.0 text));

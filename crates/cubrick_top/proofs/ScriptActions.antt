@@ -1,6 +1,6 @@
 -- What the statements of a script do, one after the other.
-use Rattle.std.proofs.Common.{◌≡◌, ℕ, ◌+◌, ◌<◌, List, [], ◌∷◌, ◌++◌, length, take, drop, get_or, Err, sym, ap, ◌∙◌, add-one, subst, arith}
-use Rattle.std.proofs.lemmas.List.{take_more, take_all, take-append-drop}
+use Rattle.std.proofs.Common.{◌≡◌, ℕ, ◌+◌, ◌<◌, List, [], ◌∷◌, ◌++◌, length, take, drop, get_or, Err, sym, ap, ◌∙◌, add-one, subst}
+use Rattle.std.proofs.lemmas.List.{take_more, take-append-drop}
 use Rattle.std.proofs.Math.Seq.{drop-cons}
 use Rattle.cube_journal.specs.declared.decl.Decl.{Decl}
 use Rattle.cube_journal.specs.declared.piece.Piece.{Piece}
@@ -23,9 +23,6 @@ pub each_more : (cubes : List Decl) (script : List ℕ) (pieces : List Piece) (i
 each_more cubes script pieces i d text actions more action lt is each does e =
     let of_piece : Does cubes (piece_bytes script (get_or pieces i d)) action = subst (λ bytes. Does cubes bytes action) is does in
     subst (λ ps. EachDoes cubes script ps more) (sym (take_more pieces i d lt)) (subst (EachDoes cubes script (take i pieces ++ get_or pieces i d ∷ [])) (sym e) (each_append cubes script (take i pieces) actions (get_or pieces i d) action each of_piece))
-
-pub each_all : (cubes : List Decl) (script : List ℕ) (pieces : List Piece) (i : ℕ) (actions : List Action) → length pieces ≡ i → EachDoes cubes script (take i pieces) actions → EachDoes cubes script pieces actions
-each_all cubes script pieces i actions e each = subst (λ ps. EachDoes cubes script ps actions) (take_all i pieces (omega (arith, e))) each
 
 -- a statement that does not run is one of them
 some_not_run : (cubes : List Decl) (script : List ℕ) (pieces : List Piece) (i : ℕ) (d : Piece) (text : List ℕ) → i < length pieces → text ≡ piece_bytes script (get_or pieces i d) → IsNotRun cubes text → SomeNotRun cubes script pieces

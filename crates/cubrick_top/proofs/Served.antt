@@ -1,6 +1,5 @@
 -- Files that are as they have to be are run, unless the outside counted a fault or memory ran out.
-use Rattle.std.proofs.Common.{◌≡◌, ℕ, List, [], ◌∷◌, ◌++◌, length, map, Option, Some, None, refl, sym, ap, ◌∙◌, subst, inl, inr}
-use Rattle.std.proofs.lemmas.List.{length-map}
+use Rattle.std.proofs.Common.{◌≡◌, ℕ, List, [], ◌∷◌, ◌++◌, Option, Some, None, refl, sym, ap, ◌∙◌, subst, inl, inr}
 use Rattle.cube_journal.specs.declared.cubes_fault.CubesFault.{CubesFault}
 use Rattle.cube_journal.specs.declared.decl.Decl.{Decl}
 use Rattle.cube_journal.specs.declared.piece.Piece.{Piece}
@@ -89,7 +88,3 @@ module _ (one : TextsHaveOneOutcome) where
       let declared : FileDeclares ran.cubes ready.cubes = subst (λ given. FileDeclares given ready.cubes) (sym (ran.cubes_told ready.files ready.as_told)) ready.declared in
       let performed : FilePerforms ready.cubes ran.script ready.actions = subst (λ given. FilePerforms ready.cubes given ready.actions) (sym (ran.script_told ready.files ready.as_told)) ready.performed in
       ending cubes_name script_name ran.cubes ran.script fault ran.gained rb rn pb pn ready.cubes declared ready.actions performed ran.ends r quiet o silent
-
--- two names are two words
-pub two_words : {W : Type 0} (name : W → List ℕ) (words : List W) (a b : List ℕ) → map name words ≡ a ∷ b ∷ [] → length words ≡ 2
-two_words name words a b e = sym (length-map words name) ∙ ap length e

@@ -6,7 +6,7 @@ use Rattle.cube_journal.specs.CubesText.{HasCubesFault}
 use Rattle.cube_journal.specs.Pieces.{HasScriptFault}
 use Rattle.outside.specs.Counts.{Rose}
 use Rattle.outside.specs.Files.{content_of}
-use Rattle.outside.specs.Given.{Given, given_by, missing, too_long, whole}
+use Rattle.outside.specs.Given.{Given, given_by, IsWithin, missing, too_long, whole}
 use Rattle.cubrick_top.specs.declared.action.Action.{Action}
 use Rattle.cubrick_top.specs.declared.fault.BuiltPart.TheVariants.{Script as Scripts}
 use Rattle.cubrick_top.specs.declared.fault.Fault.{Fault}
@@ -74,13 +74,15 @@ ShowsScript cubes name given (Err (NotBuilt Scripts)) = (text : List ℕ) × (gi
 ShowsScript cubes name given (Err NoMemory) = Unit {0}
 ShowsScript cubes name given (Err fault) = ⊥
 
--- Something was given, as told, and it shows in the result.
+-- Something was given, as told, of a size above the limit or bytes within it, and it shows in the result.
 pub record ReadsCubes (told : Option (List (List ℕ × List ℕ))) (name : List ℕ) (limit : ℕ) (result : Result (Vec Decl) Fault) : Type 0 where
   pub given : Given
   pub told_so : GivenAsTold told limit name given
+  pub within : IsWithin limit given
   pub shown : ShowsCubes name given result
 
 pub record ReadsScript (told : Option (List (List ℕ × List ℕ))) (cubes : List Decl) (name : List ℕ) (limit : ℕ) (result : Result (Vec Action) Fault) : Type 0 where
   pub given : Given
   pub told_so : GivenAsTold told limit name given
+  pub within : IsWithin limit given
   pub shown : ShowsScript cubes name given result
