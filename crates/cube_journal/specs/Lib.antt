@@ -1,12 +1,1 @@
-pub mod Cubes
-pub mod CubesText
-pub mod Faults
-pub mod Quotes
-pub mod Parts
-pub mod Pieces
-pub mod Tokens
-pub mod Symbols
-pub mod Grammar
-pub mod Syntax
-pub mod Printed
 pub mod Replies

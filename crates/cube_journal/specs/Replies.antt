@@ -8,7 +8,7 @@ use Rattle.cube_journal.specs.declared.refusal.Refusal.{Refusal}
 use Rattle.cube_journal.specs.declared.refusal.Refusal.TheVariants.{Syntax}
 use Rattle.cube_journal.specs.declared.reply.Reply.{Reply}
 use Rattle.cube_journal.specs.declared.reply.Reply.TheVariants.{Rows, Stored, Refused}
-use Rattle.cube_journal.specs.Quotes.{quoted}
+use Rattle.cube_language.specs.Quotes.{quoted}
 
 -- Four digits.
 abbrev pub four_digits : ℕ → List ℕ

@@ -1,17 +1,17 @@
-//! Everything that the definitions and the refusals speak of, from one place: the values of cubes, and
-//! declarations, statements, tokens and replies.
+//! Everything that the definitions and the refusals speak of, from one place: the values of cubes, the
+//! language of declarations and statements, and replies.
 #![tactic(auto)]
 
-pub use cube_journal::{
-    Cond, Conds, CubesFault, Decl, DimDecl, DimDecls, Item, Items, Keyword, Names, Piece, Pieces,
-    Refusal, Reply, SchemaFault, ScriptFault, Statement, Syntax, Token, TokenFault, TokenKind,
-    Tokens, Tuples,
+pub use cube_journal::{Refusal, Reply};
+pub use cube_language::{
+    Cond, Conds, CubesFault, Decl, DimDecl, DimDecls, Item, Items, Keyword, NAME_BYTES, Names,
+    Piece, Pieces, SchemaFault, ScriptFault, Statement, Syntax, Token, TokenFault, TokenKind,
+    Tokens, Tuples, begins_name, continues_name, is_keyword, is_name, is_word, spells,
 };
 pub use cube_values::{
     Bits, BoundItem, BoundItems, BoundQuery, CallError, CodedRow, CodedRows, Condition, Conditions,
-    Coords, CubeShape, Entries, Entry, EpochList, Field, Flags, Line, NAME_BYTES, NameLists,
-    Numbers, Operation, Operations, Part, Parts, Query, Region, Row, Rows, Sequence, Shape, Size,
-    Sizes, Snapshot, Span, StoredRow, StoredRows, Table, Test, Text, TextLists, Texts, Transaction,
-    Transactions, Value, Values, begins_name, continues_name, is_keyword, is_name, is_word, spells,
-    visible_is_what_running_leaves,
+    Coords, CubeShape, Entries, Entry, EpochList, Field, Flags, Line, NameLists, Numbers,
+    Operation, Operations, Part, Parts, Query, Region, Row, Rows, Sequence, Shape, Size, Sizes,
+    Snapshot, Span, StoredRow, StoredRows, Table, Test, Text, TextLists, Texts, Transaction,
+    Transactions, Value, Values, visible_is_what_running_leaves,
 };

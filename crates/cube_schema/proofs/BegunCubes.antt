@@ -5,8 +5,8 @@ use Rattle.std.specs.List.{list_any}
 use Rattle.std.specs.Option.{option_to_list}
 use Rattle.std.proofs.lemmas.List.{append-nil}
 use Rattle.std.proofs.lemmas.List.Folds.{list_any-append}
-use Rattle.cube_journal.specs.declared.cubes_fault.CubesFault.TheVariants.{BadLine}
-use Rattle.cube_journal.specs.CubesText.{Line, Skipped, Cube, Dim, Metric, IsLine, AreLines, MayFollow, AllFollow, is_cube}
+use Rattle.cube_language.specs.declared.cubes_fault.CubesFault.TheVariants.{BadLine}
+use Rattle.cube_language.specs.CubesText.{Line, Skipped, Cube, Dim, Metric, IsLine, AreLines, MayFollow, AllFollow, is_cube}
 use Rattle.cube_schema.specs.declared.gather.Begun.{Begun}
 use Rattle.cube_schema.specs.declared.gather.Progress.{Progress}
 use Rattle.cube_schema.specs.Gathering.{begun_at, with_dim, with_metric, step, cubes_from}

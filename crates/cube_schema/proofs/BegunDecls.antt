@@ -4,8 +4,8 @@ use Rattle.std.specs.Prelude.{not}
 use Rattle.std.specs.List.{prefix_len}
 use Rattle.std.specs.Option.{option_to_list}
 use Rattle.std.proofs.lemmas.List.{append-nil, map-append}
-use Rattle.cube_journal.specs.declared.decl.Decl.{Decl}
-use Rattle.cube_journal.specs.CubesText.{Line, Skipped, Cube, Dim, Metric, is_cube, dim_in, metric_in, columns_in, cube_names, cubes_in}
+use Rattle.cube_language.specs.declared.decl.Decl.{Decl}
+use Rattle.cube_language.specs.CubesText.{Line, Skipped, Cube, Dim, Metric, is_cube, dim_in, metric_in, columns_in, cube_names, cubes_in}
 use Rattle.cube_schema.specs.declared.gather.Begun.{Begun}
 use Rattle.cube_schema.specs.Gathering.{begun_at, with_dim, with_metric}
 use Rattle.cube_schema.specs.Outcomes.{names_of, decls_of}

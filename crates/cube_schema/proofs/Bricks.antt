@@ -6,8 +6,8 @@ use Rattle.std.proofs.Math.Seq.{drop-cons}
 use Rattle.std.proofs.lemmas.Bool.{cases_Bool, lt-ltb}
 use Rattle.std.proofs.lemmas.Bool.Decides.{nat_tests}
 use Rattle.cube_values.specs.Shapes.{ranges_of, bricks_of}
-use Rattle.cube_journal.specs.declared.decl.DimDecl.{DimDecl}
-use Rattle.cube_journal.specs.Cubes.{has_zero}
+use Rattle.cube_language.specs.declared.decl.DimDecl.{DimDecl}
+use Rattle.cube_language.specs.Cubes.{has_zero}
 use Rattle.cube_schema.specs.Dimensions.{size_of, sizes_of, AreNotZero}
 
 -- What no element is found to pass, the first does not pass, nor is an element found behind it.

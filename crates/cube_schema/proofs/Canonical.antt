@@ -3,11 +3,11 @@ use Rattle.std.proofs.Common.{◌≡◌, ℕ, true, ◌||◌, List, [], ◌∷�
 use Rattle.std.specs.Prelude.{IsTrue}
 use Rattle.std.specs.List.{list_any, flat_map, AllByRecursion}
 use Rattle.std.proofs.lemmas.List.Folds.{list_any-append}
-use Rattle.cube_values.specs.Names.{is_name}
-use Rattle.cube_journal.specs.declared.decl.DimDecl.{DimDecl}
-use Rattle.cube_journal.specs.declared.decl.Decl.{Decl}
-use Rattle.cube_journal.specs.Cubes.{first_repeated}
-use Rattle.cube_journal.specs.CubesText.{Line, Skipped, Cube, Dim, Metric, IsLine, AreLines, MayFollow, AllFollow, is_cube, dim_in, metric_in, columns_in, cube_names, cubes_in, word_lines}
+use Rattle.cube_language.specs.Names.{is_name}
+use Rattle.cube_language.specs.declared.decl.DimDecl.{DimDecl}
+use Rattle.cube_language.specs.declared.decl.Decl.{Decl}
+use Rattle.cube_language.specs.Cubes.{first_repeated}
+use Rattle.cube_language.specs.CubesText.{Line, Skipped, Cube, Dim, Metric, IsLine, AreLines, MayFollow, AllFollow, is_cube, dim_in, metric_in, columns_in, cube_names, cubes_in, word_lines}
 use Rattle.cube_schema.specs.Texts.{CanonicalTextsDeclare}
 use Rattle.cube_schema.proofs.BegunDecls.{column, no_columns}
 use Rattle.cube_schema.proofs.CanonicalLines.{Fits, CanSay, column_lines, cube_lines, lines_said, lines_are_utf8, text_lines}

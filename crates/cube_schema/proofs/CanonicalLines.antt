@@ -7,11 +7,11 @@ use Rattle.std.proofs.lemmas.List.Folds.{flat_map-map}
 use Rattle.std.proofs.lemmas.Grind.{flat_map-append}
 use Rattle.std.proofs.lemmas.Str.{IsAscii-append, IsUtf8-from_ascii}
 use Rattle.std.proofs.lemmas.Str.Ascii.{IsAscii-nil, IsAscii-cons}
-use Rattle.cube_values.specs.Names.{is_name}
-use Rattle.cube_journal.specs.declared.decl.DimDecl.{DimDecl}
-use Rattle.cube_journal.specs.declared.decl.Decl.{Decl}
-use Rattle.cube_journal.specs.Cubes.{kind_text, dim_text, metric_text, cube_text, cubes_text}
-use Rattle.cube_journal.specs.CubesText.{Line, Skipped, Cube, Dim, Metric, IsLine, AreLines, word_lines}
+use Rattle.cube_language.specs.Names.{is_name}
+use Rattle.cube_language.specs.declared.decl.DimDecl.{DimDecl}
+use Rattle.cube_language.specs.declared.decl.Decl.{Decl}
+use Rattle.cube_language.specs.Cubes.{kind_text, dim_text, metric_text, cube_text, cubes_text}
+use Rattle.cube_language.specs.CubesText.{Line, Skipped, Cube, Dim, Metric, IsLine, AreLines, word_lines}
 use Rattle.cube_schema.proofs.SolidWords.{IsSolid, joined, solid_text, name_is_solid, decimal_is_solid, decimal_is_number, words_then, joined_printed, printed_is_ascii}
 
 -- What the line of a dimension can say.

@@ -7,11 +7,11 @@ use Rattle.std.specs.Str.{bytes_eq}
 use Rattle.std.specs.Str.Parse.{digits_value}
 use Rattle.std.proofs.lemmas.Bool.{cases_Bool, and_parts, lt-ltb, ltb-true}
 use Rattle.std.proofs.lemmas.Slice.Eq.{bytes_eq-Decides}
-use Rattle.cube_values.specs.Names.{is_name}
-use Rattle.cube_journal.specs.declared.decl.DimDecl.{DimDecl}
-use Rattle.cube_journal.specs.Cubes.{kind_text}
-use Rattle.cube_journal.specs.CubesText.{Line, Skipped, Cube, Dim, Metric, IsLine, IsNumberWord}
-use Rattle.cube_journal.specs.Tokens.{is_digits}
+use Rattle.cube_language.specs.Names.{is_name}
+use Rattle.cube_language.specs.declared.decl.DimDecl.{DimDecl}
+use Rattle.cube_language.specs.Cubes.{kind_text}
+use Rattle.cube_language.specs.CubesText.{Line, Skipped, Cube, Dim, Metric, IsLine, IsNumberWord}
+use Rattle.cube_language.specs.Tokens.{is_digits}
 use Rattle.cube_schema.specs.Reading.{◌>>=◌, name_in, kind_in, number_in, only_word, only_name, dim_words, line_in}
 
 bind_some : {A B : Type 0} (r : Option A) (f : A → Option B) (y : B) → (r >>= f) ≡ Some y → (x : A) × (r ≡ Some x) × (f x ≡ Some y)

@@ -5,9 +5,9 @@ use Rattle.std.specs.List.{slice_split}
 use Rattle.std.specs.Option.{option_to_list}
 use Rattle.std.proofs.Math.Seq.{drop-cons}
 use Rattle.std.proofs.lemmas.List.{drop_all, length-map, get_or-map}
-use Rattle.cube_journal.specs.declared.cubes_fault.CubesFault.{CubesFault}
-use Rattle.cube_journal.specs.declared.cubes_fault.CubesFault.TheVariants.{BadLine}
-use Rattle.cube_journal.specs.CubesText.{lines_of, words_of, word_lines, without_return}
+use Rattle.cube_language.specs.declared.cubes_fault.CubesFault.{CubesFault}
+use Rattle.cube_language.specs.declared.cubes_fault.CubesFault.TheVariants.{BadLine}
+use Rattle.cube_language.specs.CubesText.{lines_of, words_of, word_lines, without_return}
 use Rattle.cube_schema.specs.declared.gather.Begun.{Begun}
 use Rattle.cube_schema.specs.declared.gather.Progress.{Progress}
 use Rattle.cube_schema.specs.Gathering.{step, behind, go_on, cubes_from, gathered}

@@ -13,7 +13,7 @@ use Rattle.std.proofs.lemmas.List.{take-map, map_more, get_or-map, length-map}
 use Rattle.std.proofs.lemmas.List.Folds.{list_any-append}
 use Rattle.std.proofs.lemmas.Map.Text.{is_eq-slice_cmp}
 use Rattle.std.proofs.lemmas.Slice.Eq.{bytes_eq-Decides}
-use Rattle.cube_journal.specs.Cubes.{repeated_after, first_repeated}
+use Rattle.cube_language.specs.Cubes.{repeated_after, first_repeated}
 use Rattle.cube_schema.specs.Repeats.{RepeatsAt}
 
 bytes_eq_comm : (a b : List ℕ) → bytes_eq a b ≡ bytes_eq b a

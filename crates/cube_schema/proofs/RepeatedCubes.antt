@@ -5,8 +5,8 @@ use Rattle.std.specs.Str.{bytes_eq}
 use Rattle.std.proofs.Math.Seq.{split_at}
 use Rattle.std.proofs.lemmas.Bool.{cases_Bool}
 use Rattle.std.proofs.lemmas.List.{get_or-map, take-map, length-map}
-use Rattle.cube_journal.specs.declared.cubes_fault.CubesFault.TheVariants.{DuplicateCube}
-use Rattle.cube_journal.specs.Cubes.{repeated_after, first_repeated}
+use Rattle.cube_language.specs.declared.cubes_fault.CubesFault.TheVariants.{DuplicateCube}
+use Rattle.cube_language.specs.Cubes.{repeated_after, first_repeated}
 use Rattle.cube_schema.specs.declared.gather.Begun.{Begun}
 use Rattle.cube_schema.specs.Outcomes.{names_of, repeated_in}
 use Rattle.cube_schema.specs.Repeats.{RepeatsAt}

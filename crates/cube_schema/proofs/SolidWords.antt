@@ -8,9 +8,9 @@ use Rattle.std.proofs.lemmas.Bool.{and_parts}
 use Rattle.std.proofs.lemmas.Bool.Decides.{nat_tests}
 use Rattle.std.proofs.lemmas.Fmt.{decimal_nonempty, digits_decimal, digits_value-decimal}
 use Rattle.std.proofs.lemmas.Str.Ascii.{IsAscii-nil, IsAscii-cons}
-use Rattle.cube_values.specs.Names.{continues_name, is_word, is_keyword, is_name}
-use Rattle.cube_journal.specs.CubesText.{IsNumberWord, words_of, word_lines, without_return}
-use Rattle.cube_journal.specs.Tokens.{is_digits}
+use Rattle.cube_language.specs.Names.{continues_name, is_word, is_keyword, is_name}
+use Rattle.cube_language.specs.CubesText.{IsNumberWord, words_of, word_lines, without_return}
+use Rattle.cube_language.specs.Tokens.{is_digits}
 use Rattle.cube_schema.specs.Blanks.{is_blank}
 use Rattle.cube_schema.proofs.Ascii.{digits_are, name_continues, own}
 use Rattle.cube_schema.proofs.WordParts.{kept}

@@ -8,11 +8,11 @@ use Rattle.std.proofs.lemmas.List.{take_more, take_all, map_more, length-map}
 use Rattle.std.proofs.lemmas.List.Elements.{All-nil, All-cons, All-head, All-tail, All-append}
 use Rattle.cube_values.specs.declared.shape.Size.{Size}
 use Rattle.cube_values.specs.Shapes.{IsSoundSize, IsSoundShape, IsSoundCube, bricks_of}
-use Rattle.cube_journal.specs.declared.decl.DimDecl.{DimDecl}
-use Rattle.cube_journal.specs.declared.decl.Decl.{Decl}
-use Rattle.cube_journal.specs.declared.cubes_fault.SchemaFault.{SchemaFault}
-use Rattle.cube_journal.specs.declared.cubes_fault.SchemaFault.TheVariants.{DuplicateName, ZeroCardinality, RangeTooLarge, TooManyBricks, TooManyColumns}
-use Rattle.cube_journal.specs.Cubes.{has_zero, has_large_range, first_some, first_repeated, column_names, duplicate_in, zero_in, large_range_in, many_bricks_in, many_columns_in, no_metric_in, IsStorable}
+use Rattle.cube_language.specs.declared.decl.DimDecl.{DimDecl}
+use Rattle.cube_language.specs.declared.decl.Decl.{Decl}
+use Rattle.cube_language.specs.declared.cubes_fault.SchemaFault.{SchemaFault}
+use Rattle.cube_language.specs.declared.cubes_fault.SchemaFault.TheVariants.{DuplicateName, ZeroCardinality, RangeTooLarge, TooManyBricks, TooManyColumns}
+use Rattle.cube_language.specs.Cubes.{has_zero, has_large_range, first_some, first_repeated, column_names, duplicate_in, zero_in, large_range_in, many_bricks_in, many_columns_in, no_metric_in, IsStorable}
 use Rattle.cube_schema.specs.Dimensions.{size_of, sizes_of, AreNotZero}
 use Rattle.cube_schema.specs.Schemas.{StorableShapesAreSound}
 use Rattle.cube_schema.proofs.Bricks.{none_found}

@@ -7,11 +7,11 @@ use Rattle.std.proofs.lemmas.List.{take_all}
 use Rattle.std.proofs.lemmas.Str.{IsUtf8-nil, IsUtf8-from_is_utf8, is_utf8-from_IsUtf8, utf8_valid_len-IsValidUpTo}
 use Rattle.cube_values.specs.declared.call_error.CallError.{CallError}
 use Rattle.cube_values.specs.declared.call_error.CallError.TheVariants.{Fault, NoMemory}
-use Rattle.cube_journal.specs.declared.cubes_fault.CubesFault.{CubesFault}
-use Rattle.cube_journal.specs.declared.cubes_fault.CubesFault.TheVariants.{NotUtf8, BadLine, DuplicateCube, TooManyCubes, Schema}
-use Rattle.cube_journal.specs.declared.decl.Decl.{Decl}
-use Rattle.cube_journal.specs.CubesText.{Declares, HasCubesFault}
-use Rattle.cube_journal.specs.Faults.{IfFault}
+use Rattle.cube_language.specs.declared.cubes_fault.CubesFault.{CubesFault}
+use Rattle.cube_language.specs.declared.cubes_fault.CubesFault.TheVariants.{NotUtf8, BadLine, DuplicateCube, TooManyCubes, Schema}
+use Rattle.cube_language.specs.declared.decl.Decl.{Decl}
+use Rattle.cube_language.specs.CubesText.{Declares, HasCubesFault}
+use Rattle.cube_language.specs.Faults.{IfFault}
 use Rattle.cube_schema.specs.Outcomes.{outcome}
 use Rattle.cube_schema.specs.Texts.{TextsDeclareOneList, DeclaringTextsHaveNoFault, TextsHaveOneFault, TextsDeclareOrHaveFault}
 use Rattle.cube_schema.proofs.TextOutcomes.{declared_outcome, bad_outcome, duplicate_outcome, excess_outcome, schema_outcome}

@@ -6,11 +6,11 @@ use Rattle.std.specs.Str.{bytes_eq}
 use Rattle.std.proofs.lemmas.List.{length-map}
 use Rattle.std.proofs.lemmas.List.Elements.{All-head, All-tail}
 use Rattle.std.proofs.lemmas.Option.{slice_get_past}
-use Rattle.cube_journal.specs.declared.cubes_fault.CubesFault.TheVariants.{BadLine, DuplicateCube, TooManyCubes, Schema}
-use Rattle.cube_journal.specs.declared.cubes_fault.SchemaFault.{SchemaFault}
-use Rattle.cube_journal.specs.declared.decl.Decl.{Decl}
-use Rattle.cube_journal.specs.Cubes.{IsStorable, schema_fault, first_repeated}
-use Rattle.cube_journal.specs.CubesText.{Line, HasLines, Declares, HasBadLine, BeginsCube, cube_names, cubes_in, cubes_limit, word_lines}
+use Rattle.cube_language.specs.declared.cubes_fault.CubesFault.TheVariants.{BadLine, DuplicateCube, TooManyCubes, Schema}
+use Rattle.cube_language.specs.declared.cubes_fault.SchemaFault.{SchemaFault}
+use Rattle.cube_language.specs.declared.decl.Decl.{Decl}
+use Rattle.cube_language.specs.Cubes.{IsStorable, schema_fault, first_repeated}
+use Rattle.cube_language.specs.CubesText.{Line, HasLines, Declares, HasBadLine, BeginsCube, cube_names, cubes_in, cubes_limit, word_lines}
 use Rattle.cube_schema.specs.declared.gather.Begun.{Begun}
 use Rattle.cube_schema.specs.Gathering.{gathered, cubes_from}
 use Rattle.cube_schema.specs.Outcomes.{names_of, decls_of, repeated_in, excess_in, unstorable_in, fault_in, unless, outcome_of, outcome}

@@ -6,11 +6,11 @@ use Rattle.std.specs.Str.{bytes_eq}
 use Rattle.std.proofs.lemmas.Bool.{cases_Bool, cases_lt}
 use Rattle.std.proofs.lemmas.List.{append-nil, length-append}
 use Rattle.std.proofs.lemmas.List.Elements.{All-nil, All-cons, filter_map-append}
-use Rattle.cube_journal.specs.declared.cubes_fault.CubesFault.TheVariants.{BadLine, DuplicateCube, TooManyCubes, Schema}
-use Rattle.cube_journal.specs.declared.cubes_fault.SchemaFault.{SchemaFault}
-use Rattle.cube_journal.specs.declared.decl.Decl.{Decl}
-use Rattle.cube_journal.specs.Cubes.{IsStorable, schema_fault, first_repeated}
-use Rattle.cube_journal.specs.CubesText.{Line, Skipped, Cube, Dim, Metric, IsLine, AreLines, MayFollow, AllFollow, HasLines, BeginsCube, is_cube, cube_name, cube_names, cubes_in, cubes_limit, word_lines}
+use Rattle.cube_language.specs.declared.cubes_fault.CubesFault.TheVariants.{BadLine, DuplicateCube, TooManyCubes, Schema}
+use Rattle.cube_language.specs.declared.cubes_fault.SchemaFault.{SchemaFault}
+use Rattle.cube_language.specs.declared.decl.Decl.{Decl}
+use Rattle.cube_language.specs.Cubes.{IsStorable, schema_fault, first_repeated}
+use Rattle.cube_language.specs.CubesText.{Line, Skipped, Cube, Dim, Metric, IsLine, AreLines, MayFollow, AllFollow, HasLines, BeginsCube, is_cube, cube_name, cube_names, cubes_in, cubes_limit, word_lines}
 use Rattle.cube_schema.specs.Reading.{line_in}
 use Rattle.cube_schema.specs.Texts.{AnyCubes, AnyFault}
 use Rattle.cube_schema.proofs.LineForms.{line_found, line_read}

@@ -6,7 +6,7 @@ use Rattle.std.specs.List.{prefix_len, slice_split, onto_first}
 use Rattle.std.proofs.lemmas.Bool.{cases_Bool}
 use Rattle.std.proofs.lemmas.Bool.Decides.{nat_tests}
 use Rattle.std.proofs.lemmas.List.Sums.{prefix_len-le-length}
-use Rattle.cube_journal.specs.CubesText.{without_return, words_of}
+use Rattle.cube_language.specs.CubesText.{without_return, words_of}
 use Rattle.cube_schema.specs.Blanks.{is_blank, is_in_word}
 
 onto_both : (b : Bool) (x : ℕ) (xs ys : List ℕ) → x ∷ cond b xs ys ≡ cond b (x ∷ xs) (x ∷ ys)

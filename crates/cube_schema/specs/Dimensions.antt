@@ -1,8 +1,8 @@
 -- Sizes of dimensions.
 use Rattle.std.specs.Prelude.{◌≡◌, List, map, find, None}
 use Rattle.cube_values.specs.declared.shape.Size.{Size}
-use Rattle.cube_journal.specs.declared.decl.DimDecl.{DimDecl}
-use Rattle.cube_journal.specs.Cubes.{has_zero}
+use Rattle.cube_language.specs.declared.decl.DimDecl.{DimDecl}
+use Rattle.cube_language.specs.Cubes.{has_zero}
 
 -- The size of a dimension.
 abbrev pub size_of : DimDecl → Size

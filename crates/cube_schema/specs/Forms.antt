@@ -1,7 +1,7 @@
 -- What a line says, as the code keeps it.
-use Rattle.cube_journal.specs.CubesText.{Line}
-use Rattle.cube_journal.specs.CubesText as text
-use Rattle.cube_journal.specs.declared.decl.DimDecl.{DimDecl}
+use Rattle.cube_language.specs.CubesText.{Line}
+use Rattle.cube_language.specs.CubesText as text
+use Rattle.cube_language.specs.declared.decl.DimDecl.{DimDecl}
 use Rattle.cube_schema.specs.declared.line.DimWords.{DimWords}
 use Rattle.cube_schema.specs.declared.line.Form.{Form}
 use Rattle.cube_schema.specs.declared.line.Form.TheVariants.{Skipped, Cube, Dim, Metric}

@@ -1,10 +1,10 @@
 -- The cubes that the lines of a text begin, with their columns, up to the first bad line.
 use Rattle.std.specs.Prelude.{ℕ, ◌+◌, List, [], ◌∷◌, ◌++◌, Option, Some, None, Result, Ok, Err}
 use Rattle.std.specs.Option.{option_to_list}
-use Rattle.cube_journal.specs.declared.decl.DimDecl.{DimDecl}
-use Rattle.cube_journal.specs.CubesText.{Line, Skipped, Cube, Dim, Metric, word_lines}
-use Rattle.cube_journal.specs.declared.cubes_fault.CubesFault.{CubesFault}
-use Rattle.cube_journal.specs.declared.cubes_fault.CubesFault.TheVariants.{BadLine}
+use Rattle.cube_language.specs.declared.decl.DimDecl.{DimDecl}
+use Rattle.cube_language.specs.CubesText.{Line, Skipped, Cube, Dim, Metric, word_lines}
+use Rattle.cube_language.specs.declared.cubes_fault.CubesFault.{CubesFault}
+use Rattle.cube_language.specs.declared.cubes_fault.CubesFault.TheVariants.{BadLine}
 use Rattle.cube_schema.specs.declared.gather.Begun.{Begun}
 use Rattle.cube_schema.specs.declared.gather.Progress.{Progress}
 use Rattle.cube_schema.specs.Reading.{line_in}

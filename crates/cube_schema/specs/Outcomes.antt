@@ -3,11 +3,11 @@ use Rattle.std.specs.Prelude.{ℕ, List, [], ◌∷◌, map, slice_get, Option, 
 use Rattle.std.specs.List.{list_any}
 use Rattle.std.specs.Option.{option_map, option_or}
 use Rattle.std.specs.Str.{bytes_eq}
-use Rattle.cube_journal.specs.declared.cubes_fault.CubesFault.{CubesFault}
-use Rattle.cube_journal.specs.declared.cubes_fault.CubesFault.TheVariants.{DuplicateCube, TooManyCubes, Schema}
-use Rattle.cube_journal.specs.declared.decl.Decl.{Decl}
-use Rattle.cube_journal.specs.Cubes.{schema_fault, first_some}
-use Rattle.cube_journal.specs.CubesText.{cubes_limit}
+use Rattle.cube_language.specs.declared.cubes_fault.CubesFault.{CubesFault}
+use Rattle.cube_language.specs.declared.cubes_fault.CubesFault.TheVariants.{DuplicateCube, TooManyCubes, Schema}
+use Rattle.cube_language.specs.declared.decl.Decl.{Decl}
+use Rattle.cube_language.specs.Cubes.{schema_fault, first_some}
+use Rattle.cube_language.specs.CubesText.{cubes_limit}
 use Rattle.cube_schema.specs.declared.gather.Begun.{Begun}
 use Rattle.cube_schema.specs.Gathering.{gathered}
 

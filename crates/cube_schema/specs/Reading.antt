@@ -4,10 +4,10 @@ use Rattle.std.specs.List.{starts_with}
 use Rattle.std.specs.Option.{option_map}
 use Rattle.std.specs.Str.{bytes_eq}
 use Rattle.std.specs.Str.Parse.{digits_value}
-use Rattle.cube_values.specs.Names.{is_name}
-use Rattle.cube_journal.specs.declared.decl.DimDecl.{DimDecl}
-use Rattle.cube_journal.specs.CubesText.{Line, Skipped, Cube, Dim, Metric}
-use Rattle.cube_journal.specs.Tokens.{is_digits}
+use Rattle.cube_language.specs.Names.{is_name}
+use Rattle.cube_language.specs.declared.decl.DimDecl.{DimDecl}
+use Rattle.cube_language.specs.CubesText.{Line, Skipped, Cube, Dim, Metric}
+use Rattle.cube_language.specs.Tokens.{is_digits}
 
 infixl 10 ◌>>=◌
 -- What is read next, unless a step before it failed.

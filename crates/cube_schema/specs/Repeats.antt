@@ -2,7 +2,7 @@
 use Rattle.std.specs.Prelude.{◌≡◌, ℕ, ◌<◌, List, [], length, take, slice_index_or, IsTrue, Option, Some, None}
 use Rattle.std.specs.List.{list_any}
 use Rattle.std.specs.Str.{bytes_eq}
-use Rattle.cube_journal.specs.Cubes.{first_repeated}
+use Rattle.cube_language.specs.Cubes.{first_repeated}
 
 -- The name at this place stands before it already, and none of those before it does so.
 pub record RepeatsAt (names : List (List ℕ)) (place : ℕ) : Type 0 where

@@ -1,9 +1,9 @@
 -- What holds of texts and the cubes that they declare.
 use Rattle.std.specs.Prelude.{◌≡◌, ◌⊎◌, ℕ, List}
-use Rattle.cube_journal.specs.declared.cubes_fault.CubesFault.{CubesFault}
-use Rattle.cube_journal.specs.declared.decl.Decl.{Decl}
-use Rattle.cube_journal.specs.Cubes.{cubes_text}
-use Rattle.cube_journal.specs.CubesText.{Declares, HasCubesFault}
+use Rattle.cube_language.specs.declared.cubes_fault.CubesFault.{CubesFault}
+use Rattle.cube_language.specs.declared.decl.Decl.{Decl}
+use Rattle.cube_language.specs.Cubes.{cubes_text}
+use Rattle.cube_language.specs.CubesText.{Declares, HasCubesFault}
 
 -- Some text declares these cubes.
 abbrev pub AreDeclared : List Decl → Type 0

@@ -2,11 +2,11 @@
 
 ghost use Rattle.std.specs.Prelude.{◌≡◌, ◌^◌, ◌<◌, ◌||◌, false, nat_lt, length, map, find, option_copied, IfOk};
 ghost use Rattle.cube_values.specs.Shapes.{ranges_of, bricks_of};
-ghost use Rattle.cube_journal.specs.Cubes.{column_names, duplicate_in, has_zero, zero_in, has_large_range, large_range_in, many_columns_in, schema_fault};
+ghost use Rattle.cube_language.specs.Cubes.{column_names, duplicate_in, has_zero, zero_in, has_large_range, large_range_in, many_columns_in, schema_fault};
 ghost use Rattle.cube_schema.specs.Dimensions.{size_of, sizes_of, AreNotZero};
 
 use crate::repeat::first_repeat;
-use cube_journal::{Decl, DimDecl, SchemaFault};
+use cube_language::{Decl, DimDecl, SchemaFault};
 use cube_values::Text;
 use std::alloc::{AllocError, Global};
 

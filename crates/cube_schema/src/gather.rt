@@ -2,15 +2,15 @@
 
 ghost use Rattle.std.specs.Prelude.{◌≡◌, ◌++◌, Ok, Err, Some, OnOk, IfOk};
 ghost use Rattle.std.specs.Option.{option_to_list};
-ghost use Rattle.cube_journal.specs.CubesText.{without_return, words_of};
-ghost use Rattle.cube_journal.specs.Faults.{IfFault};
+ghost use Rattle.cube_language.specs.CubesText.{without_return, words_of};
+ghost use Rattle.cube_language.specs.Faults.{IfFault};
 ghost use Rattle.cube_schema.specs.Forms.{said_by};
 ghost use Rattle.cube_schema.specs.Gathering.{begun_at, step, gathered};
 ghost use Rattle.cube_schema.specs.Reading.{line_in};
 
 use crate::line::{Form, form_of};
 use crate::words::without_return;
-use cube_journal::{CubesFault, Decl, DimDecls, Names};
+use cube_language::{CubesFault, Decl, DimDecls, Names};
 use cube_values::{CallError, Text};
 use std::alloc::{AllocError, Global};
 

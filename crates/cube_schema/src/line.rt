@@ -6,15 +6,15 @@ ghost use Rattle.std.specs.List.{list_all};
 ghost use Rattle.std.specs.Option.{option_map};
 ghost use Rattle.std.specs.Str.{bytes_eq};
 ghost use Rattle.std.specs.Str.Parse.{digits_value};
-ghost use Rattle.cube_values.specs.Names.{is_name};
-ghost use Rattle.cube_journal.specs.CubesText.{words_of};
-ghost use Rattle.cube_journal.specs.Tokens.{is_digits};
+ghost use Rattle.cube_language.specs.Names.{is_name};
+ghost use Rattle.cube_language.specs.CubesText.{words_of};
+ghost use Rattle.cube_language.specs.Tokens.{is_digits};
 ghost use Rattle.cube_schema.specs.Forms.{said_by, dim_of};
 ghost use Rattle.cube_schema.specs.Reading.{only_word, kind_in, number_in, only_name, dim_words, line_in};
 
 use crate::words::next_word;
-use cube_journal::DimDecl;
-use cube_values::{Text, is_name};
+use cube_language::{DimDecl, is_name};
+use cube_values::Text;
 use std::alloc::{AllocError, Global};
 use std::str;
 

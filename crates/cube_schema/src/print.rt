@@ -2,11 +2,11 @@
 
 ghost use Rattle.std.specs.Prelude.{◌≡◌, ◌++◌, decimal, OnOk, IfOk};
 ghost use Rattle.std.specs.List.{flat_map};
-ghost use Rattle.cube_journal.specs.Cubes.{kind_text, dim_text, metric_text, cube_text, cubes_text};
+ghost use Rattle.cube_language.specs.Cubes.{kind_text, dim_text, metric_text, cube_text, cubes_text};
 ghost use Rattle.cube_schema.specs.Texts.{AreDeclared};
 
 use crate::schema::Schema;
-use cube_journal::{Decl, DimDecl};
+use cube_language::{Decl, DimDecl};
 use cube_values::Text;
 use itoa::Buffer;
 use std::alloc::{AllocError, Global};

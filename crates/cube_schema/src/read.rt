@@ -1,15 +1,15 @@
 //! Reading of a cubes text.
 
 ghost use Rattle.std.specs.Prelude.{◌≡◌, [], map, Some, None, Ok, Err, IsUtf8, OnOk, IfOk};
-ghost use Rattle.cube_journal.specs.Cubes.{schema_fault};
-ghost use Rattle.cube_journal.specs.CubesText.{Declares, HasCubesFault};
-ghost use Rattle.cube_journal.specs.Faults.{IfFault};
+ghost use Rattle.cube_language.specs.Cubes.{schema_fault};
+ghost use Rattle.cube_language.specs.CubesText.{Declares, HasCubesFault};
+ghost use Rattle.cube_language.specs.Faults.{IfFault};
 ghost use Rattle.cube_schema.specs.Outcomes.{names_of, decls_of, repeated_in, excess_in, unstorable, unstorable_in, outcome};
 
 use crate::gather::{Begun, gather_cubes};
 use crate::repeat::first_repeat;
 use crate::schema::{Schema, check};
-use cube_journal::CubesFault;
+use cube_language::CubesFault;
 use cube_values::CallError;
 use std::alloc::{AllocError, Global};
 use std::str;

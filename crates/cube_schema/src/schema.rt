@@ -2,12 +2,12 @@
 
 ghost use Rattle.std.specs.Prelude.{◌≡◌, ◌<◌, ◌^◌, Some, OnOk, IfOk};
 ghost use Rattle.cube_values.specs.Shapes.{IsSoundShape, IsSoundCube};
-ghost use Rattle.cube_journal.specs.Cubes.{shape_of, schema_fault, IsStorable};
-ghost use Rattle.cube_journal.specs.Faults.{IfFault};
+ghost use Rattle.cube_language.specs.Cubes.{shape_of, schema_fault, IsStorable};
+ghost use Rattle.cube_language.specs.Faults.{IfFault};
 ghost use Rattle.cube_schema.specs.Schemas.{cube_of};
 
 use crate::fault::fault_of;
-use cube_journal::{Decl, SchemaFault};
+use cube_language::{Decl, SchemaFault};
 use cube_values::{CallError, CubeShape, Flags, Sequence, Shape, Size, Sizes};
 use std::alloc::{AllocError, Global};
 use std::marker::Model;
@@ -20,7 +20,7 @@ pub struct Schema {
 }
 
 impl Model for Schema {
-    ghost use Rattle.cube_journal.specs.declared.decl.Decl.{Decl};
+    ghost use Rattle.cube_language.specs.declared.decl.Decl.{Decl};
     ghost use Rattle.cube_schema.specs.Schemas.{IsSchema};
 
     ghost Value = { Decl };

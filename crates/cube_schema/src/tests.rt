@@ -4,7 +4,7 @@ mod faults;
 mod texts;
 
 use super::*;
-use cube_journal::{CubesFault, Decl, DimDecl};
+use cube_language::{CubesFault, Decl, DimDecl};
 use cube_values::{CallError, Sequence, Text};
 use faults::{CUBES, DECLARATIONS, FORMS, TWO_FAULTS, WORDS};
 use std::alloc::{AllocError, Global};

@@ -2,7 +2,7 @@
 
 ghost use Rattle.std.specs.Prelude.{◌≡◌, ◌<◌, [], ◌∷◌, length, MatchOption};
 ghost use Rattle.std.specs.List.{prefix_len};
-ghost use Rattle.cube_journal.specs.CubesText.{without_return, words_of};
+ghost use Rattle.cube_language.specs.CubesText.{without_return, words_of};
 ghost use Rattle.cube_schema.specs.Blanks.{is_blank, is_in_word};
 
 /// A line without one CR at its end.

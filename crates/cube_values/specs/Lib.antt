@@ -9,5 +9,4 @@ pub mod Visible
 pub mod Running
 pub mod Queries
 pub mod Answer
-pub mod Names
 pub mod BitRows

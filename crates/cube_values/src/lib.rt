@@ -6,7 +6,6 @@ mod call_error;
 mod entry;
 mod epoch_list;
 mod law;
-mod name;
 mod operation;
 mod query;
 mod row;
@@ -23,7 +22,6 @@ pub use call_error::CallError;
 pub use entry::{Entries, Entry};
 pub use epoch_list::EpochList;
 pub use law::visible_is_what_running_leaves;
-pub use name::{NAME_BYTES, begins_name, continues_name, is_keyword, is_name, is_word, spells};
 pub use operation::{
     Condition, Conditions, Operation, Operations, Region, Test, Transaction, Transactions,
 };

@@ -1,7 +1,7 @@
 -- What a file gives, and what its bytes show of it.
 use Rattle.std.proofs.Common.{◌≡◌, ℕ, List, Option, Some, None, Result, Ok, Err, refl, sym, ap, ◌∙◌, subst, arith}
 use Rattle.std.specs.Global.{Vec}
-use Rattle.cube_journal.specs.declared.decl.Decl.{Decl}
+use Rattle.cube_language.specs.declared.decl.Decl.{Decl}
 use Rattle.outside.specs.Files.{content_of}
 use Rattle.outside.specs.Given.{Given, given_by, IsWithin, missing, whole, ReadsWhole}
 use Rattle.cubrick_top.specs.declared.action.Action.{Action}

@@ -1,10 +1,10 @@
 -- Two files decide one end of a run.
 use Rattle.std.proofs.Common.{◌≡◌, ℕ, List, Option, Some, None, refl, sym, ap, ◌∙◌, subst, inl, inr}
-use Rattle.cube_journal.specs.declared.cubes_fault.CubesFault.{CubesFault}
-use Rattle.cube_journal.specs.declared.decl.Decl.{Decl}
-use Rattle.cube_journal.specs.declared.piece.ScriptFault.{ScriptFault}
-use Rattle.cube_journal.specs.CubesText.{Declares, HasCubesFault}
-use Rattle.cube_journal.specs.Pieces.{HasScriptFault}
+use Rattle.cube_language.specs.declared.cubes_fault.CubesFault.{CubesFault}
+use Rattle.cube_language.specs.declared.decl.Decl.{Decl}
+use Rattle.cube_language.specs.declared.piece.ScriptFault.{ScriptFault}
+use Rattle.cube_language.specs.CubesText.{Declares, HasCubesFault}
+use Rattle.cube_language.specs.Pieces.{HasScriptFault}
 use Rattle.outside.specs.Given.{Given, missing, too_long, whole}
 use Rattle.cubrick_top.specs.declared.action.Action.{Action}
 use Rattle.cubrick_top.specs.declared.fault.BuiltPart.TheVariants.{Script as Scripts}

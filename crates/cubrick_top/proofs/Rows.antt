@@ -7,10 +7,10 @@ use Rattle.std.proofs.lemmas.Bool.{and_parts}
 use Rattle.std.proofs.lemmas.Bool.Decides.{nat_tests}
 use Rattle.std.proofs.lemmas.List.Elements.{recursion_from_All}
 use Rattle.cube_values.specs.declared.value.Value.{Value}
-use Rattle.cube_journal.specs.declared.decl.DimDecl.{DimDecl}
-use Rattle.cube_journal.specs.declared.decl.Decl.{Decl}
-use Rattle.cube_journal.specs.declared.cubes_fault.SchemaFault.TheVariants.{TooManyColumns}
-use Rattle.cube_journal.specs.Cubes.{IsStorable, first_some, duplicate_in, zero_in, large_range_in, many_bricks_in, many_columns_in, no_metric_in}
+use Rattle.cube_language.specs.declared.decl.DimDecl.{DimDecl}
+use Rattle.cube_language.specs.declared.decl.Decl.{Decl}
+use Rattle.cube_language.specs.declared.cubes_fault.SchemaFault.TheVariants.{TooManyColumns}
+use Rattle.cube_language.specs.Cubes.{IsStorable, first_some, duplicate_in, zero_in, large_range_in, many_bricks_in, many_columns_in, no_metric_in}
 use Rattle.cubrick_top.specs.Actions.{is_coordinate, fits_row, cube_named}
 
 -- a row that fits has a value for each dimension

@@ -2,7 +2,7 @@
 use Rattle.std.proofs.Common.{◌≡◌, ℕ, List, [], take, drop, Option, Some, None, Result, Ok, Err, refl, sym, ap, ◌∙◌, subst, inl, inr}
 use Rattle.std.specs.Global.{Vec}
 use Rattle.std.proofs.lemmas.List.{append-nil, take-append-drop}
-use Rattle.cube_journal.specs.declared.decl.Decl.{Decl}
+use Rattle.cube_language.specs.declared.decl.Decl.{Decl}
 use Rattle.outside.specs.Output.{Gained, GainedFront}
 use Rattle.cubrick_top.specs.declared.action.Action.{Action}
 use Rattle.cubrick_top.specs.declared.fault.BuiltPart.TheVariants.{Script as Scripts}

@@ -1,14 +1,14 @@
 -- Files that are as they have to be are run, unless the outside counted a fault or memory ran out.
 use Rattle.std.proofs.Common.{◌≡◌, ℕ, List, [], ◌∷◌, ◌++◌, Option, Some, None, refl, sym, ap, ◌∙◌, subst, inl, inr}
-use Rattle.cube_journal.specs.declared.cubes_fault.CubesFault.{CubesFault}
-use Rattle.cube_journal.specs.declared.decl.Decl.{Decl}
-use Rattle.cube_journal.specs.declared.piece.Piece.{Piece}
-use Rattle.cube_journal.specs.declared.piece.ScriptFault.{ScriptFault}
-use Rattle.cube_journal.specs.declared.statement.Statement.{Statement}
-use Rattle.cube_journal.specs.CubesText.{Declares, HasCubesFault}
-use Rattle.cube_journal.specs.Grammar.{Spells}
-use Rattle.cube_journal.specs.Pieces.{IsScript, HasScriptFault}
-use Rattle.cube_journal.specs.Syntax.{IsSyntaxFault}
+use Rattle.cube_language.specs.declared.cubes_fault.CubesFault.{CubesFault}
+use Rattle.cube_language.specs.declared.decl.Decl.{Decl}
+use Rattle.cube_language.specs.declared.piece.Piece.{Piece}
+use Rattle.cube_language.specs.declared.piece.ScriptFault.{ScriptFault}
+use Rattle.cube_language.specs.declared.statement.Statement.{Statement}
+use Rattle.cube_language.specs.CubesText.{Declares, HasCubesFault}
+use Rattle.cube_language.specs.Grammar.{Spells}
+use Rattle.cube_language.specs.Pieces.{IsScript, HasScriptFault}
+use Rattle.cube_language.specs.Syntax.{IsSyntaxFault}
 use Rattle.outside.specs.Counts.{Rose}
 use Rattle.outside.specs.Given.{Given, missing, too_long, whole}
 use Rattle.cubrick_top.specs.declared.action.Action.{Action}

@@ -8,13 +8,13 @@ use Rattle.cube_values.specs.declared.query.Query.{Query}
 use Rattle.cube_values.specs.declared.row.StoredRow.{StoredRow}
 use Rattle.cube_values.specs.declared.value.Value.{Value}
 use Rattle.cube_values.specs.declared.value.Value.TheVariants.{Text, Int}
-use Rattle.cube_journal.specs.declared.decl.DimDecl.{DimDecl}
-use Rattle.cube_journal.specs.declared.decl.Decl.{Decl}
-use Rattle.cube_journal.specs.declared.statement.Cond.{Cond}
-use Rattle.cube_journal.specs.declared.statement.Item.{Item}
-use Rattle.cube_journal.specs.declared.statement.Item.TheVariants.{Sum}
-use Rattle.cube_journal.specs.declared.statement.Statement.{Statement}
-use Rattle.cube_journal.specs.declared.statement.Statement.TheVariants.{Select, Insert}
+use Rattle.cube_language.specs.declared.decl.DimDecl.{DimDecl}
+use Rattle.cube_language.specs.declared.decl.Decl.{Decl}
+use Rattle.cube_language.specs.declared.statement.Cond.{Cond}
+use Rattle.cube_language.specs.declared.statement.Item.{Item}
+use Rattle.cube_language.specs.declared.statement.Item.TheVariants.{Sum}
+use Rattle.cube_language.specs.declared.statement.Statement.{Statement}
+use Rattle.cube_language.specs.declared.statement.Statement.TheVariants.{Select, Insert}
 use Rattle.cubrick_top.specs.declared.action.Action.{Action}
 use Rattle.cubrick_top.specs.declared.action.Action.TheVariants.{Store, Ask}
 

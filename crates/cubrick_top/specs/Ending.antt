@@ -1,8 +1,8 @@
 -- How a run ends, by what its two files gave.
 use Rattle.std.specs.Prelude.{◌≡◌, ℕ, ◌⊎◌, List, [], ◌++◌, Option, Some, None}
-use Rattle.cube_journal.specs.declared.decl.Decl.{Decl}
-use Rattle.cube_journal.specs.CubesText.{HasCubesFault}
-use Rattle.cube_journal.specs.Pieces.{HasScriptFault}
+use Rattle.cube_language.specs.declared.decl.Decl.{Decl}
+use Rattle.cube_language.specs.CubesText.{HasCubesFault}
+use Rattle.cube_language.specs.Pieces.{HasScriptFault}
 use Rattle.outside.specs.Given.{Given, missing, too_long, whole}
 use Rattle.cubrick_top.specs.declared.action.Action.{Action}
 use Rattle.cubrick_top.specs.declared.fault.BuiltPart.TheVariants.{Script as Scripts}

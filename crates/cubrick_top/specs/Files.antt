@@ -1,7 +1,7 @@
 -- What the two files of a run have to hold.
 use Rattle.std.specs.Prelude.{◌≡◌, ℕ, List}
-use Rattle.cube_journal.specs.declared.decl.Decl.{Decl}
-use Rattle.cube_journal.specs.CubesText.{Declares}
+use Rattle.cube_language.specs.declared.decl.Decl.{Decl}
+use Rattle.cube_language.specs.CubesText.{Declares}
 use Rattle.outside.specs.Given.{Given, whole}
 use Rattle.cubrick_top.specs.declared.action.Action.{Action}
 use Rattle.cubrick_top.specs.Scripts.{Performs}

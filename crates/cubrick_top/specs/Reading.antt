@@ -1,9 +1,9 @@
 -- What reading the two files of a run comes to, and which counts rise with which fault.
 use Rattle.std.specs.Prelude.{◌≡◌, ℕ, ◌≤◌, List, Option, Some, None, Result, Ok, Err}
 use Rattle.std.specs.Global.{Vec}
-use Rattle.cube_journal.specs.declared.decl.Decl.{Decl}
-use Rattle.cube_journal.specs.CubesText.{HasCubesFault}
-use Rattle.cube_journal.specs.Pieces.{HasScriptFault}
+use Rattle.cube_language.specs.declared.decl.Decl.{Decl}
+use Rattle.cube_language.specs.CubesText.{HasCubesFault}
+use Rattle.cube_language.specs.Pieces.{HasScriptFault}
 use Rattle.outside.specs.Counts.{Rose}
 use Rattle.outside.specs.Files.{content_of}
 use Rattle.outside.specs.Given.{Given, given_by, IsWithin, missing, too_long, whole}

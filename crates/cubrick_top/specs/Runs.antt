@@ -1,6 +1,6 @@
 -- What a run of two words is.
 use Rattle.std.specs.Prelude.{◌≡◌, ℕ, ◌⊎◌, List, Option, Some}
-use Rattle.cube_journal.specs.declared.decl.Decl.{Decl}
+use Rattle.cube_language.specs.declared.decl.Decl.{Decl}
 use Rattle.outside.specs.Files.{content_of}
 use Rattle.outside.specs.Given.{Given, given_by, IsWithin}
 use Rattle.outside.specs.Output.{Gained}

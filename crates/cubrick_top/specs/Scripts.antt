@@ -1,13 +1,13 @@
 -- What the statements of a script do.
 use Rattle.std.specs.Prelude.{◌≡◌, ℕ, List, [], ◌∷◌, ◌++◌, Some, None, Result, Ok, Err}
 use Rattle.std.specs.Global.{Vec}
-use Rattle.cube_journal.specs.declared.decl.Decl.{Decl}
-use Rattle.cube_journal.specs.declared.piece.Piece.{Piece}
-use Rattle.cube_journal.specs.declared.refusal.Syntax.{Syntax}
-use Rattle.cube_journal.specs.declared.statement.Statement.{Statement}
-use Rattle.cube_journal.specs.Grammar.{Spells}
-use Rattle.cube_journal.specs.Pieces.{IsScript}
-use Rattle.cube_journal.specs.Syntax.{IsSyntaxFault}
+use Rattle.cube_language.specs.declared.decl.Decl.{Decl}
+use Rattle.cube_language.specs.declared.piece.Piece.{Piece}
+use Rattle.cube_language.specs.declared.syntax.Syntax.{Syntax}
+use Rattle.cube_language.specs.declared.statement.Statement.{Statement}
+use Rattle.cube_language.specs.Grammar.{Spells}
+use Rattle.cube_language.specs.Pieces.{IsScript}
+use Rattle.cube_language.specs.Syntax.{IsSyntaxFault}
 use Rattle.cubrick_top.specs.declared.action.Action.{Action}
 use Rattle.cubrick_top.specs.declared.action.Action.TheVariants.{Refuse}
 use Rattle.cubrick_top.specs.declared.fault.BuiltPart.TheVariants.{Script as Scripts}

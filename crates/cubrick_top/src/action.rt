@@ -1,6 +1,6 @@
 //! What a statement does once its names are resolved.
 
-use cube_journal::Syntax;
+use cube_language::Syntax;
 use cube_values::{Query, StoredRow};
 
 /// What a statement does.

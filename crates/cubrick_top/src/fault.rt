@@ -1,6 +1,6 @@
 //! How a run ends.
 
-use cube_journal::{CubesFault, ScriptFault};
+use cube_language::{CubesFault, ScriptFault};
 use cube_values::Text;
 use std::fmt;
 use thiserror::Error;

@@ -1,7 +1,7 @@
 //! Reading the two files of a run.
 
 ghost use Rattle.std.specs.Prelude.{◌≡◌, ◌≤◌, All, IfOk};
-ghost use Rattle.cube_journal.specs.Cubes.{IsStorable};
+ghost use Rattle.cube_language.specs.Cubes.{IsStorable};
 ghost use Rattle.cubrick_top.specs.Files.{cubes_bytes, script_bytes};
 ghost use Rattle.cubrick_top.specs.Reading.{AbsenceCounted, ReadFaultCounted, fault_in, ShowsCubesText, ReadsCubes, ReadsScript};
 

@@ -4,10 +4,11 @@ ghost use Rattle.std.specs.Prelude.{◌≡◌, ◌++◌, [], ◌∷◌, ◌==◌
 ghost use Rattle.std.specs.Fmt.{signed_decimal};
 ghost use Rattle.std.specs.List.{flat_map};
 ghost use Rattle.cube_journal.specs.Replies.{sign_text, four_digits, field_text, fields_text, table_text, refusal_text, reply_text, numbered};
-ghost use Rattle.cube_journal.specs.Quotes.{quoted};
+ghost use Rattle.cube_language.specs.Quotes.{quoted};
 ghost use Rattle.cubrick_top.specs.Session.{end_text};
 
-use cube_journal::{Refusal, Reply, Syntax};
+use cube_journal::{Refusal, Reply};
+use cube_language::Syntax;
 use cube_values::{Field, Line};
 use itoa::Buffer;
 use std::alloc::AllocError;

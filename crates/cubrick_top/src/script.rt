@@ -1,7 +1,7 @@
 //! What the statements of a script do.
 
 ghost use Rattle.std.specs.Prelude.{◌≡◌, All};
-ghost use Rattle.cube_journal.specs.Cubes.{IsStorable};
+ghost use Rattle.cube_language.specs.Cubes.{IsStorable};
 ghost use Rattle.cubrick_top.specs.Reading.{ShowsScriptText};
 ghost use Rattle.cubrick_top.specs.Scripts.{ShowsText, ShowsPieces};
 ghost use Rattle.sql_words.specs.Texts.{IsTextAt};
@@ -9,7 +9,7 @@ ghost use Rattle.sql_words.specs.Texts.{IsTextAt};
 use crate::action::Action;
 use crate::fault::{BuiltPart, Fault};
 use crate::statements::statement_action;
-use cube_journal::Piece;
+use cube_language::Piece;
 use cube_schema::Schema;
 use cube_values::CallError;
 use sql_tree::parse;

@@ -4,11 +4,11 @@ ghost use Rattle.std.specs.Prelude.{◌≡◌, ◌≤◌, length, map, IfOk, All
 ghost use Rattle.std.specs.List.{list_all, position_from};
 ghost use Rattle.std.specs.Option.{option_copied};
 ghost use Rattle.std.specs.Str.{bytes_eq};
-ghost use Rattle.cube_journal.specs.Cubes.{IsStorable};
+ghost use Rattle.cube_language.specs.Cubes.{IsStorable};
 ghost use Rattle.cubrick_top.specs.Actions.{is_whole, number_of, is_below, is_coordinate, fits_row, has_numbers_alone, cube_named, row_of, store_on, sum_query, ask_on, insert_action, select_action, statement_action};
 
 use crate::action::Action;
-use cube_journal::{Cond, Decl, DimDecl, Item, Statement};
+use cube_language::{Cond, Decl, DimDecl, Item, Statement};
 use cube_schema::Schema;
 use cube_values::{BoundItem, Query, Region, Row, Sequence, StoredRow, Text, Value, Values};
 use std::alloc::{AllocError, Global};

@@ -6,9 +6,9 @@ use Rattle.cube_values.specs.declared.entry.Entry.{Entry}
 use Rattle.cube_values.specs.declared.table.Field.{Field}
 use Rattle.cube_values.specs.declared.table.Field.TheVariants.{Whole}
 use Rattle.cube_values.specs.BitRows.{set_bits}
-use Rattle.cube_journal.specs.declared.piece.ScriptFault.{ScriptFault}
-use Rattle.cube_journal.specs.declared.piece.Piece.{Piece}
-use Rattle.cube_journal.specs.Pieces.{IsScript, HasScriptFault}
+use Rattle.cube_language.specs.declared.piece.ScriptFault.{ScriptFault}
+use Rattle.cube_language.specs.declared.piece.Piece.{Piece}
+use Rattle.cube_language.specs.Pieces.{IsScript, HasScriptFault}
 use Rattle.names_dict.specs.Dictionaries.{Dictionary, number_of}
 use Rattle.purge_plan.specs.Purged.{kept, purged}
 

@@ -3,10 +3,10 @@ use Rattle.std.proofs.Common.{◌≡◌, ◌≢◌, ℕ, suc, ◌<◌, false, co
 use Rattle.std.specs.Option.{MatchOption, unwrap_or}
 use Rattle.std.specs.Str.{IsUtf8, IsCharBoundary}
 use Rattle.std.proofs.lemmas.Str.{IsCharBoundary-after_ascii}
-use Rattle.cube_journal.specs.Quotes.{quoted}
+use Rattle.cube_language.specs.Quotes.{quoted}
 use Rattle.std.proofs.lemmas.Bool.{cases_Bool, ne_eqb}
 use Rattle.std.proofs.lemmas.List.{append-nil}
-use Rattle.cube_journal.specs.Symbols.{halved}
+use Rattle.cube_language.specs.Symbols.{halved}
 
 -- No byte is a quote.
 abbrev pub HasNoQuote : List ℕ → Type 0

@@ -5,10 +5,10 @@ use Rattle.std.specs.Option.{option_map_or}
 use Rattle.std.specs.Str.{bytes_eq}
 use Rattle.std.proofs.lemmas.Bool.{cases_Bool, and_right, both_ways}
 use Rattle.std.proofs.lemmas.Slice.Eq.{bytes_eq-Decides}
-use Rattle.cube_values.specs.Names.{spells, is_name, is_word, is_keyword}
-use Rattle.cube_journal.specs.declared.token.Keyword.{Keyword as KeywordWord}
-use Rattle.cube_journal.specs.declared.token.Keyword.TheVariants as keyword
-use Rattle.cube_journal.specs.Symbols.{Symbol, Keyword, Word, Open, Close, Comma, Star, keyword_text, keyword_of, statement_keywords, word_symbol}
+use Rattle.cube_language.specs.Names.{spells, is_name, is_word, is_keyword}
+use Rattle.cube_language.specs.declared.token.Keyword.{Keyword as KeywordWord}
+use Rattle.cube_language.specs.declared.token.Keyword.TheVariants as keyword
+use Rattle.cube_language.specs.Symbols.{Symbol, Keyword, Word, Open, Close, Comma, Star, keyword_text, keyword_of, statement_keywords, word_symbol}
 use Rattle.sql_tree.specs.declared.head.Sign.{Sign}
 use Rattle.sql_tree.specs.declared.head.Sign.TheVariants as sign
 use Rattle.sql_tree.specs.Reading.{same_keyword, is_sign, keyword_in, name_in, value_in, text_in, count_in}

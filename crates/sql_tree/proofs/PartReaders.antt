@@ -5,14 +5,14 @@ use Rattle.std.specs.List.{AllByRecursion, list_all}
 use Rattle.std.proofs.lemmas.Bool.{and_parts, and_from}
 use Rattle.std.proofs.lemmas.List.Elements.{All-from_recursion, recursion_from_All}
 use Rattle.cube_values.specs.declared.value.Value.{Value}
-use Rattle.cube_values.specs.Names.{is_name}
-use Rattle.cube_journal.specs.declared.statement.Cond.{Cond}
-use Rattle.cube_journal.specs.declared.statement.Cond.TheVariants as cond
-use Rattle.cube_journal.specs.declared.statement.Item.{Item}
-use Rattle.cube_journal.specs.declared.statement.Item.TheVariants as item
-use Rattle.cube_journal.specs.declared.token.Keyword.TheVariants as keyword
-use Rattle.cube_journal.specs.Grammar.{separated, name_form, value_form, tuple_form, item_form, cond_form, where_form, group_form, IsProperValue, IsProperTuple, IsProperItem, IsProperCond}
-use Rattle.cube_journal.specs.Symbols.{Symbol, Keyword, Word, Open, Close, Comma, Equals, Star}
+use Rattle.cube_language.specs.Names.{is_name}
+use Rattle.cube_language.specs.declared.statement.Cond.{Cond}
+use Rattle.cube_language.specs.declared.statement.Cond.TheVariants as cond
+use Rattle.cube_language.specs.declared.statement.Item.{Item}
+use Rattle.cube_language.specs.declared.statement.Item.TheVariants as item
+use Rattle.cube_language.specs.declared.token.Keyword.TheVariants as keyword
+use Rattle.cube_language.specs.Grammar.{separated, name_form, value_form, tuple_form, item_form, cond_form, where_form, group_form, IsProperValue, IsProperTuple, IsProperItem, IsProperCond}
+use Rattle.cube_language.specs.Symbols.{Symbol, Keyword, Word, Open, Close, Comma, Equals, Star}
 use Rattle.sql_tree.specs.declared.head.Sign.{Sign}
 use Rattle.sql_tree.specs.declared.head.Sign.TheVariants as sign
 use Rattle.sql_tree.specs.declared.head.Aggregate.TheVariants as aggregate

@@ -3,11 +3,11 @@ use Rattle.std.proofs.Common.{◌≡◌, ℕ, ◌+◌, ◌-◌, Bool, true, fals
 use Rattle.std.specs.List.{AllByRecursion}
 use Rattle.std.proofs.lemmas.Bool.{cases_Bool}
 use Rattle.std.proofs.lemmas.List.{append-nil, length-append, take_at, drop_at}
-use Rattle.cube_journal.specs.declared.token.Token.{Token}
-use Rattle.cube_journal.specs.Parts.{Other, IsGap}
-use Rattle.cube_journal.specs.Printed.{symbol_text, touch, is_aggregate, spaced}
-use Rattle.cube_journal.specs.Symbols.{Symbol, Keyword, Word, Number, Text, Open, Close, Comma, Equals, Star, symbol_in, symbol_of, symbols_of}
-use Rattle.cube_journal.specs.Tokens.{Begins, AreTokensBefore, AreTokens, token_bytes}
+use Rattle.cube_language.specs.declared.token.Token.{Token}
+use Rattle.cube_language.specs.Parts.{Other, IsGap}
+use Rattle.cube_language.specs.Printed.{symbol_text, touch, is_aggregate, spaced}
+use Rattle.cube_language.specs.Symbols.{Symbol, Keyword, Word, Number, Text, Open, Close, Comma, Equals, Star, symbol_in, symbol_of, symbols_of}
+use Rattle.cube_language.specs.Tokens.{Begins, AreTokensBefore, AreTokens, token_bytes}
 use Rattle.sql_tree.proofs.Spaces.{gap}
 use Rattle.sql_tree.proofs.SymbolTexts.{IsSound, kind_of, AreEnded, Ends, is_end, text_says, text_is_token}
 

@@ -3,8 +3,8 @@ use Rattle.std.proofs.Common.{◌≡◌, ℕ, zero, suc, ◌+◌, ◌<◌, ◌�
 use Rattle.std.specs.List.{AllByRecursion}
 use Rattle.std.proofs.lemmas.Bool.{cases_Bool}
 use Rattle.std.proofs.lemmas.List.{append-nil, length-append}
-use Rattle.cube_journal.specs.Grammar.{separated}
-use Rattle.cube_journal.specs.Symbols.{Symbol}
+use Rattle.cube_language.specs.Grammar.{separated}
+use Rattle.cube_language.specs.Symbols.{Symbol}
 use Rattle.sql_tree.specs.declared.head.Sign.{Sign}
 use Rattle.sql_tree.specs.Reading.{Read, ◌>>=◌, is_sign, goes_on, listed, listed_within, optional}
 use Rattle.sql_tree.proofs.Keywords.{sign_symbol, is_sign_symbol, is_sign_self}

@@ -5,17 +5,17 @@ use Rattle.std.proofs.lemmas.Bool.{and_parts}
 use Rattle.std.proofs.lemmas.List.Elements.{recursion_from_All}
 use Rattle.cube_values.specs.declared.value.Value.{Value}
 use Rattle.cube_values.specs.declared.value.Value.TheVariants as value
-use Rattle.cube_values.specs.Names.{is_name, is_word, is_keyword}
-use Rattle.cube_journal.specs.declared.statement.Cond.{Cond}
-use Rattle.cube_journal.specs.declared.statement.Cond.TheVariants as cond
-use Rattle.cube_journal.specs.declared.statement.Item.{Item}
-use Rattle.cube_journal.specs.declared.statement.Item.TheVariants as item
-use Rattle.cube_journal.specs.declared.statement.Statement.{Statement}
-use Rattle.cube_journal.specs.declared.statement.Statement.TheVariants as statement
-use Rattle.cube_journal.specs.declared.token.Keyword.TheVariants as keyword
-use Rattle.cube_journal.specs.Grammar.{separated, name_form, value_form, tuple_form, item_form, cond_form, where_form, group_form, form_of, IsProperValue, IsProperTuple, IsProperItem, IsProperCond, IsProper, Spells, IsSpelled}
-use Rattle.cube_journal.specs.Printed.{printed}
-use Rattle.cube_journal.specs.Symbols.{Symbol, Keyword, Word, Close, Comma}
+use Rattle.cube_language.specs.Names.{is_name, is_word, is_keyword}
+use Rattle.cube_language.specs.declared.statement.Cond.{Cond}
+use Rattle.cube_language.specs.declared.statement.Cond.TheVariants as cond
+use Rattle.cube_language.specs.declared.statement.Item.{Item}
+use Rattle.cube_language.specs.declared.statement.Item.TheVariants as item
+use Rattle.cube_language.specs.declared.statement.Statement.{Statement}
+use Rattle.cube_language.specs.declared.statement.Statement.TheVariants as statement
+use Rattle.cube_language.specs.declared.token.Keyword.TheVariants as keyword
+use Rattle.cube_language.specs.Grammar.{separated, name_form, value_form, tuple_form, item_form, cond_form, where_form, group_form, form_of, IsProperValue, IsProperTuple, IsProperItem, IsProperCond, IsProper, Spells, IsSpelled}
+use Rattle.cube_language.specs.Printed.{printed}
+use Rattle.cube_language.specs.Symbols.{Symbol, Keyword, Word, Close, Comma}
 use Rattle.sql_tree.proofs.Keywords.{name_is_no_keyword}
 use Rattle.sql_tree.proofs.PrintedTokens.{printed_has_tokens}
 use Rattle.sql_tree.proofs.SymbolReaders.{IsName}

@@ -3,13 +3,13 @@ use Rattle.std.proofs.Common.{◌≡◌, ℕ, List, [], ◌∷◌, ◌++◌, pos
 use Rattle.std.proofs.lemmas.List.Elements.{All-from_recursion, recursion_from_All}
 use Rattle.std.proofs.lemmas.List.{append-nil}
 use Rattle.cube_values.specs.declared.value.Value.{Value}
-use Rattle.cube_journal.specs.declared.statement.Cond.{Cond}
-use Rattle.cube_journal.specs.declared.statement.Item.{Item}
-use Rattle.cube_journal.specs.declared.statement.Statement.{Statement}
-use Rattle.cube_journal.specs.declared.statement.Statement.TheVariants as statement
-use Rattle.cube_journal.specs.declared.token.Keyword.TheVariants as keyword
-use Rattle.cube_journal.specs.Grammar.{separated, tuple_form, item_form, where_form, group_form, form_of, IsProperTuple, IsProperItem, IsProper}
-use Rattle.cube_journal.specs.Symbols.{Symbol, Keyword, Word, Number, Text, Comma}
+use Rattle.cube_language.specs.declared.statement.Cond.{Cond}
+use Rattle.cube_language.specs.declared.statement.Item.{Item}
+use Rattle.cube_language.specs.declared.statement.Statement.{Statement}
+use Rattle.cube_language.specs.declared.statement.Statement.TheVariants as statement
+use Rattle.cube_language.specs.declared.token.Keyword.TheVariants as keyword
+use Rattle.cube_language.specs.Grammar.{separated, tuple_form, item_form, where_form, group_form, form_of, IsProperTuple, IsProperItem, IsProper}
+use Rattle.cube_language.specs.Symbols.{Symbol, Keyword, Word, Number, Text, Comma}
 use Rattle.sql_tree.specs.declared.head.Sign.TheVariants as sign
 use Rattle.sql_tree.specs.declared.head.Verb.{Verb}
 use Rattle.sql_tree.specs.declared.head.Verb.TheVariants as verb

@@ -2,15 +2,15 @@
 use Rattle.std.proofs.Common.{◌≡◌, ℕ, ◌<◌, List, [], ◌∷◌, ◌++◌, length, codes, decimal, refl, sym, ap, ◌∙◌, append_assoc, arith}
 use Rattle.std.proofs.lemmas.List.{append-nil}
 use Rattle.cube_values.specs.declared.value.Value.{Value}
-use Rattle.cube_journal.specs.declared.statement.Cond.{Cond}
-use Rattle.cube_journal.specs.declared.statement.Item.{Item}
-use Rattle.cube_journal.specs.declared.statement.Item.TheVariants as item
-use Rattle.cube_journal.specs.declared.statement.Statement.TheVariants as statement
-use Rattle.cube_journal.specs.declared.token.Keyword.TheVariants as keyword
-use Rattle.cube_journal.specs.Grammar.{separated, tuple_form, item_form, where_form, group_form}
-use Rattle.cube_journal.specs.Printed.{spaced, printed}
-use Rattle.cube_journal.specs.Quotes.{quoted}
-use Rattle.cube_journal.specs.Symbols.{Symbol, Keyword, Word, Comma}
+use Rattle.cube_language.specs.declared.statement.Cond.{Cond}
+use Rattle.cube_language.specs.declared.statement.Item.{Item}
+use Rattle.cube_language.specs.declared.statement.Item.TheVariants as item
+use Rattle.cube_language.specs.declared.statement.Statement.TheVariants as statement
+use Rattle.cube_language.specs.declared.token.Keyword.TheVariants as keyword
+use Rattle.cube_language.specs.Grammar.{separated, tuple_form, item_form, where_form, group_form}
+use Rattle.cube_language.specs.Printed.{spaced, printed}
+use Rattle.cube_language.specs.Quotes.{quoted}
+use Rattle.cube_language.specs.Symbols.{Symbol, Keyword, Word, Comma}
 use Rattle.sql_tree.specs.Texts.{joined, text_by, spaced_behind}
 use Rattle.sql_tree.proofs.Spaces.{seam, spaced-append, first_in, first_of, last_of, spaced_listed, items_between, tuples_between, both_behind}
 

@@ -1,12 +1,12 @@
 -- What reading says of the forms of statements.
 use Rattle.std.proofs.Common.{◌≡◌, ℕ, ◌-◌, ◌+◌, ◌≤◌, List, [], ◌∷◌, ◌++◌, length, take, drop, Ok, Err, refl, sym, ap, subst, ◌∙◌, append_assoc, arith}
 use Rattle.std.proofs.lemmas.List.{append-nil, length-append, length-map, map-append, take-append-drop, take-map, drop-map, take_at, drop_at}
-use Rattle.cube_journal.specs.declared.statement.Statement.{Statement}
-use Rattle.cube_journal.specs.declared.token.Token.{Token}
-use Rattle.cube_journal.specs.Grammar.{form_of, IsProper, Spells}
-use Rattle.cube_journal.specs.Symbols.{Symbol, symbol_of, symbols_of}
-use Rattle.cube_journal.specs.Syntax.{IsForm, CanBegin, GoesWrongAt, GoesWrong}
-use Rattle.cube_journal.specs.Tokens.{AreTokens}
+use Rattle.cube_language.specs.declared.statement.Statement.{Statement}
+use Rattle.cube_language.specs.declared.token.Token.{Token}
+use Rattle.cube_language.specs.Grammar.{form_of, IsProper, Spells}
+use Rattle.cube_language.specs.Symbols.{Symbol, symbol_of, symbols_of}
+use Rattle.cube_language.specs.Syntax.{IsForm, CanBegin, GoesWrongAt, GoesWrong}
+use Rattle.cube_language.specs.Tokens.{AreTokens}
 use Rattle.sql_tree.specs.Reading.{Read, read_statement}
 use Rattle.sql_tree.specs.Places.{place_of}
 use Rattle.sql_tree.proofs.Readers.{given, Formed, Tells, IsLocal, stuck}

@@ -1,9 +1,9 @@
 -- What holds of every text and its statement, and of every statement and its printed form.
 use Rattle.std.specs.Prelude.{◌≡◌, ℕ, List}
-use Rattle.cube_journal.specs.declared.statement.Statement.{Statement}
-use Rattle.cube_journal.specs.Grammar.{Spells, IsSpelled}
-use Rattle.cube_journal.specs.Printed.{printed}
-use Rattle.cube_journal.specs.Syntax.{IsSyntaxFault}
+use Rattle.cube_language.specs.declared.statement.Statement.{Statement}
+use Rattle.cube_language.specs.Grammar.{Spells, IsSpelled}
+use Rattle.cube_language.specs.Printed.{printed}
+use Rattle.cube_language.specs.Syntax.{IsSyntaxFault}
 
 -- A text spells one statement at most.
 abbrev pub OneStatement : Type 0

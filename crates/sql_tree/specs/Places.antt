@@ -1,8 +1,8 @@
 -- Where the tokens of a text stand in it.
 use Rattle.std.specs.Prelude.{◌≡◌, ℕ, ◌≤◌, List, [], ◌∷◌, length, IsTrue}
 use Rattle.std.specs.List.{AllByRecursion}
-use Rattle.cube_journal.specs.declared.token.Token.{Token}
-use Rattle.cube_journal.specs.Symbols.{symbol_of}
+use Rattle.cube_language.specs.declared.token.Token.{Token}
+use Rattle.cube_language.specs.Symbols.{symbol_of}
 use Rattle.sql_tree.specs.declared.head.Sign.{Sign}
 use Rattle.sql_tree.specs.Reading.{is_sign}
 use Rattle.sql_words.specs.Places.{StandsIn}

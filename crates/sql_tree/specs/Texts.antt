@@ -1,8 +1,8 @@
 -- The printed form of a statement, part by part.
 use Rattle.std.specs.Prelude.{ℕ, List, [], ◌∷◌, ◌++◌, codes}
 use Rattle.std.specs.List.{flat_map}
-use Rattle.cube_journal.specs.Printed.{spaced}
-use Rattle.cube_journal.specs.Symbols.{Symbol}
+use Rattle.cube_language.specs.Printed.{spaced}
+use Rattle.cube_language.specs.Symbols.{Symbol}
 
 -- The text of a part behind another.
 abbrev pub set_behind : {A : Type 0} → List ℕ → (A → List ℕ) → A → List ℕ

@@ -1,7 +1,7 @@
 //! Conditions, read from tokens.
 
 ghost use Rattle.std.specs.Prelude.{◌≡◌, IfOk};
-ghost use Rattle.cube_journal.specs.Symbols.{symbols_of};
+ghost use Rattle.cube_language.specs.Symbols.{symbols_of};
 ghost use Rattle.sql_tree.specs.Places.{AreIn, IsRest};
 ghost use Rattle.sql_tree.specs.Reading.{Gives, cond_behind, read_cond, read_where};
 
@@ -10,7 +10,7 @@ use crate::item::tuple;
 use crate::part::{Part, listed};
 use crate::read::{Miss, after, name, sign, value};
 use crate::symbol::operator_in;
-use cube_journal::{Cond, Conds, Keyword, Token};
+use cube_language::{Cond, Conds, Keyword, Token};
 use cube_values::{CallError, Text};
 use std::alloc::Global;
 

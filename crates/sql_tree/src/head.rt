@@ -1,6 +1,6 @@
 //! What a statement is read by: the symbols that say nothing but themselves, and the words that choose a form.
 
-use cube_journal::Keyword;
+use cube_language::Keyword;
 
 /// A symbol that says nothing but itself.
 #[derive(Clone, Copy, PartialEq, Eq)]

@@ -1,7 +1,7 @@
 //! Tuples and items, read from tokens.
 
 ghost use Rattle.std.specs.Prelude.{◌≡◌, IfOk};
-ghost use Rattle.cube_journal.specs.Symbols.{symbols_of};
+ghost use Rattle.cube_language.specs.Symbols.{symbols_of};
 ghost use Rattle.sql_tree.specs.Places.{AreIn, IsRest};
 ghost use Rattle.sql_tree.specs.Reading.{Aggregated, Gives, item_behind, read_item, read_metric, read_star, read_tuple};
 
@@ -9,7 +9,7 @@ use crate::head::{Aggregate, Sign};
 use crate::part::{Part, listed};
 use crate::read::{Miss, name, sign};
 use crate::symbol::aggregate_in;
-use cube_journal::{Item, Token};
+use cube_language::{Item, Token};
 use cube_values::{CallError, Text, Values};
 use std::alloc::Global;
 

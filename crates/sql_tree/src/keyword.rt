@@ -1,9 +1,9 @@
 //! The keywords and the words that spell them.
 
 ghost use Rattle.std.specs.Prelude.{◌≡◌};
-ghost use Rattle.cube_journal.specs.Symbols.{keyword_of, keyword_text};
+ghost use Rattle.cube_language.specs.Symbols.{keyword_of, keyword_text};
 
-use cube_journal::Keyword;
+use cube_language::Keyword;
 use cube_values::spells;
 
 /// The keywords of statements.
@@ -71,7 +71,7 @@ pub(crate) fn keyword_text(keyword: Keyword) -> &'static str
 }
 
 /// The keyword that a word spells, in whatever case.
-#[tactic(auto, unfolding(cube_journal::specs::Symbols::keyword_of))]
+#[tactic(auto, unfolding(cube_language::specs::Symbols::keyword_of))]
 pub(crate) fn keyword_of(word: &[u8]) -> Option<Keyword>
     ensures { result ≡ keyword_of word.now }
 {

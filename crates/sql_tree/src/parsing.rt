@@ -1,14 +1,14 @@
 //! The statement that a text spells.
 
 ghost use Rattle.std.specs.Prelude.{◌≡◌, ◌-◌, ◌≤◌, length, drop, IfOk};
-ghost use Rattle.cube_journal.specs.Faults.{IfFault};
-ghost use Rattle.cube_journal.specs.Grammar.{Spells};
-ghost use Rattle.cube_journal.specs.Syntax.{IsSyntaxFault};
-ghost use Rattle.cube_journal.specs.Tokens.{fault_at};
+ghost use Rattle.cube_language.specs.Faults.{IfFault};
+ghost use Rattle.cube_language.specs.Grammar.{Spells};
+ghost use Rattle.cube_language.specs.Syntax.{IsSyntaxFault};
+ghost use Rattle.cube_language.specs.Tokens.{fault_at};
 ghost use Rattle.sql_tree.specs.Places.{place_of};
 
 use crate::statement::statement;
-use cube_journal::{Statement, Syntax, Token, TokenFault};
+use cube_language::{Statement, Syntax, Token, TokenFault};
 use cube_values::CallError;
 use sql_words::{a_token_has_its_bytes, tokens};
 use std::alloc::Global;

@@ -1,13 +1,13 @@
 //! The parts of statements that lists have, and the lists of them.
 
 ghost use Rattle.std.specs.Prelude.{◌≡◌, List, IfOk};
-ghost use Rattle.cube_journal.specs.Symbols.{Symbol, symbols_of};
+ghost use Rattle.cube_language.specs.Symbols.{Symbol, symbols_of};
 ghost use Rattle.sql_tree.specs.Places.{AreIn, IsRest};
 ghost use Rattle.sql_tree.specs.Reading.{Gives, Read, listed, read_name, read_value};
 
 use crate::head::Sign;
 use crate::read::{Miss, after, name, value};
-use cube_journal::Token;
+use cube_language::Token;
 use cube_values::{CallError, Sequence, Text, Value};
 use std::alloc::Global;
 

@@ -1,13 +1,13 @@
 //! The printed form of a statement.
 
 ghost use Rattle.std.specs.Prelude.{◌≡◌, ◌++◌, ◌<◌, length, IfOk, OnOk};
-ghost use Rattle.cube_journal.specs.declared.statement.Statement.TheVariants as statement;
-ghost use Rattle.cube_journal.specs.Grammar.{IsSpelled, group_form, where_form};
-ghost use Rattle.cube_journal.specs.Printed.{printed};
+ghost use Rattle.cube_language.specs.declared.statement.Statement.TheVariants as statement;
+ghost use Rattle.cube_language.specs.Grammar.{IsSpelled, group_form, where_form};
+ghost use Rattle.cube_language.specs.Printed.{printed};
 ghost use Rattle.sql_tree.specs.Texts.{spaced_behind};
 
 use crate::put::{put_count, put_listed, put_quoted};
-use cube_journal::{Cond, Item, Statement};
+use cube_language::{Cond, Item, Statement};
 use cube_values::{Text, Values};
 use std::alloc::{AllocError, Global};
 

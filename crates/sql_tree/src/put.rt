@@ -2,13 +2,13 @@
 
 ghost use Rattle.std.specs.Prelude.{◌≡◌, ◌++◌, [], ◌∷◌, ℕ, List, codes, OnOk};
 ghost use Rattle.std.specs.Fmt.{decimal, signed_decimal};
-ghost use Rattle.cube_journal.specs.Grammar.{cond_form, item_form, name_form, tuple_form, value_form};
-ghost use Rattle.cube_journal.specs.Printed.{spaced};
-ghost use Rattle.cube_journal.specs.Quotes.{quoted};
-ghost use Rattle.cube_journal.specs.Symbols.{Symbol};
+ghost use Rattle.cube_language.specs.Grammar.{cond_form, item_form, name_form, tuple_form, value_form};
+ghost use Rattle.cube_language.specs.Printed.{spaced};
+ghost use Rattle.cube_language.specs.Quotes.{quoted};
+ghost use Rattle.cube_language.specs.Symbols.{Symbol};
 ghost use Rattle.sql_tree.specs.Texts.{joined, text_by};
 
-use cube_journal::{Cond, Item};
+use cube_language::{Cond, Item};
 use cube_values::{Text, Value, Values};
 use itoa::Buffer;
 use std::alloc::AllocError;

@@ -1,8 +1,8 @@
 //! Texts in quotes.
 
 ghost use Rattle.std.specs.Prelude.{◌≡◌, ℕ, List, IfOk, string_bytes};
-ghost use Rattle.cube_journal.specs.Quotes.{quoted};
-ghost use Rattle.cube_journal.specs.Symbols.{halved, unquoted};
+ghost use Rattle.cube_language.specs.Quotes.{quoted};
+ghost use Rattle.cube_language.specs.Symbols.{halved, unquoted};
 
 use cube_values::Text;
 use std::alloc::{AllocError, Global};

@@ -1,13 +1,13 @@
 //! The parts of a statement that are one symbol, read from its tokens.
 
 ghost use Rattle.std.specs.Prelude.{◌≡◌, false, IfOk, IfSome, IfNone};
-ghost use Rattle.cube_journal.specs.Symbols.{symbols_of};
+ghost use Rattle.cube_language.specs.Symbols.{symbols_of};
 ghost use Rattle.sql_tree.specs.Places.{AreIn, BeginsWith, IsRest};
 ghost use Rattle.sql_tree.specs.Reading.{Gives, expect, goes_on, read_count, read_name, read_text, read_value};
 
 use crate::head::Sign;
 use crate::symbol::{count_in, is_sign, name_in, text_in, value_in};
-use cube_journal::Token;
+use cube_language::Token;
 use cube_values::{CallError, Text, Value};
 use std::alloc::Global;
 

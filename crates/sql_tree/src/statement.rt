@@ -1,7 +1,7 @@
 //! Statements, read from tokens.
 
 ghost use Rattle.std.specs.Prelude.{◌≡◌, [], IfOk};
-ghost use Rattle.cube_journal.specs.Symbols.{symbols_of};
+ghost use Rattle.cube_language.specs.Symbols.{symbols_of};
 ghost use Rattle.sql_tree.specs.Places.{AreIn, IsRest};
 ghost use Rattle.sql_tree.specs.Reading.{Gives, read_begun, read_by, read_delete, read_group, read_insert, read_load, read_select, read_statement, statement_behind};
 
@@ -10,7 +10,7 @@ use crate::head::{Sign, Verb};
 use crate::part::listed;
 use crate::read::{Miss, after, count, name, path, sign};
 use crate::symbol::verb_in;
-use cube_journal::{Keyword, Names, Statement, Token};
+use cube_language::{Keyword, Names, Statement, Token};
 use cube_values::CallError;
 use std::alloc::Global;
 

@@ -2,15 +2,15 @@
 
 ghost use Rattle.std.specs.Prelude.{◌≡◌, IfOk};
 ghost use Rattle.std.specs.Option.{option_copied};
-ghost use Rattle.cube_journal.specs.Symbols.{symbol_of};
+ghost use Rattle.cube_language.specs.Symbols.{symbol_of};
 ghost use Rattle.sql_tree.specs.Reading.{aggregate_in, count_in, is_sign, keyword_in, name_in, operator_in, text_in, value_in, verb_in};
 ghost use Rattle.sql_words.specs.Places.{StandsIn};
 
 use crate::head::{Aggregate, Operator, Sign, Verb};
 use crate::keyword::{keyword_of, keyword_text};
 use crate::quote::unquoted;
-use cube_journal::{Keyword, Token, TokenKind};
-use cube_values::{Text, Value, is_name, spells};
+use cube_language::{Keyword, Token, TokenKind, is_name, spells};
+use cube_values::{Text, Value};
 use sql_words::token_text;
 use std::alloc::{AllocError, Global};
 

@@ -5,7 +5,7 @@ use crate::{
     a_text_spells_one_statement, a_text_spells_or_has_one_fault, parse, print,
     what_is_printed_spells_its_statement,
 };
-use cube_journal::Statement;
+use cube_language::Statement;
 use cube_values::CallError;
 use std::alloc::{AllocError, Global};
 use std::str;

@@ -6,8 +6,8 @@ use Rattle.std.proofs.lemmas.Bool.{cases_Bool, ltb-false}
 use Rattle.std.proofs.lemmas.Bool.Decides.{nat_tests}
 use Rattle.std.proofs.lemmas.List.{at_drop_more, at_drop_all}
 use Rattle.std.proofs.lemmas.List.Elements.{All-nil, All-cons}
-use Rattle.cube_journal.specs.declared.piece.Piece.{Piece}
-use Rattle.cube_journal.specs.Pieces.{is_long, statement_limit}
+use Rattle.cube_language.specs.declared.piece.Piece.{Piece}
+use Rattle.cube_language.specs.Pieces.{is_long, statement_limit}
 use Rattle.sql_words.specs.Fronts.{begins_comment, part_len, goes_on, is_inside, IsBehindBody}
 use Rattle.sql_words.proofs.PartFronts.{part_of}
 use Rattle.sql_words.proofs.Gaps.{ArePassing, passing_more, shorter}

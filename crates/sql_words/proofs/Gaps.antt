@@ -5,7 +5,7 @@ use Rattle.std.proofs.lemmas.Bool.{and_from, and_parts, both_ways, cases_Bool}
 use Rattle.std.proofs.lemmas.Bool.Decides.{nat_tests}
 use Rattle.std.proofs.lemmas.List.{length-append, length-drop, take-append-drop}
 use Rattle.std.proofs.lemmas.List.Folds.{list_all-append}
-use Rattle.cube_journal.specs.Parts.{is_space, Part, part_bytes, IsPart, AreParts, is_blank, IsGap}
+use Rattle.cube_language.specs.Parts.{is_space, Part, part_bytes, IsPart, AreParts, is_blank, IsGap}
 use Rattle.sql_words.specs.Fronts.{begins_comment, begins_gap, part_len, IsBehindGap}
 use Rattle.sql_words.proofs.PartFronts.{part_of, part_stands, part_is, part_some, parts_agree}
 

@@ -7,12 +7,12 @@ use Rattle.std.specs.Str.Parse.{signed_digits_value}
 use Rattle.std.proofs.lemmas.Bool.{and_parts, cases_Bool}
 use Rattle.std.proofs.lemmas.Bool.Decides.{nat_tests}
 use Rattle.std.proofs.lemmas.List.{take_at, drop_at}
-use Rattle.cube_values.specs.Names.{begins_name, continues_name, is_word}
-use Rattle.cube_journal.specs.declared.token.TokenKind.{TokenKind}
-use Rattle.cube_journal.specs.declared.token.TokenKind.TheVariants.{Word, Number, Text, Open, Close, Comma, Equals, Star}
-use Rattle.cube_journal.specs.Parts.{is_space, Stops}
-use Rattle.cube_journal.specs.Quotes.{doubled, quoted}
-use Rattle.cube_journal.specs.Tokens.{is_digits, IsNumberBefore, IsToken}
+use Rattle.cube_language.specs.Names.{begins_name, continues_name, is_word}
+use Rattle.cube_language.specs.declared.token.TokenKind.{TokenKind}
+use Rattle.cube_language.specs.declared.token.TokenKind.TheVariants.{Word, Number, Text, Open, Close, Comma, Equals, Star}
+use Rattle.cube_language.specs.Parts.{is_space, Stops}
+use Rattle.cube_language.specs.Quotes.{doubled, quoted}
+use Rattle.cube_language.specs.Tokens.{is_digits, IsNumberBefore, IsToken}
 use Rattle.sql_words.specs.Fronts.{begins_gap, begins_word, begins_text, begins_number, begins_mark, number_len}
 use Rattle.sql_words.proofs.Prefixes.{prefix_is}
 use Rattle.sql_words.proofs.Numbers.{number_cases, digits_parts}

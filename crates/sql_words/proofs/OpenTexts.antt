@@ -3,9 +3,9 @@ use Rattle.std.proofs.Common.{◌≡◌, ℕ, ◌+◌, ◌-◌, ◌<◌, true, f
 use Rattle.std.proofs.lemmas.Bool.{cases_Bool, eqb-true}
 use Rattle.std.proofs.lemmas.List.{append-nil, length-append}
 use Rattle.std.proofs.lemmas.List.Concat.{flat_map-append}
-use Rattle.cube_journal.specs.declared.token.TokenKind.TheVariants.{Text}
-use Rattle.cube_journal.specs.Parts.{Stops}
-use Rattle.cube_journal.specs.Quotes.{doubled, opened, quoted}
+use Rattle.cube_language.specs.declared.token.TokenKind.TheVariants.{Text}
+use Rattle.cube_language.specs.Parts.{Stops}
+use Rattle.cube_language.specs.Quotes.{doubled, opened, quoted}
 use Rattle.sql_words.specs.Fronts.{begins_text, letter_len, IsFront}
 use Rattle.sql_words.proofs.TokenFronts.{front_from}
 

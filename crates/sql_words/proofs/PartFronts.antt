@@ -4,7 +4,7 @@ use Rattle.std.specs.List.{list_all, prefix_len}
 use Rattle.std.proofs.lemmas.Bool.{and_from, and_parts, cases_Bool, eqb-true, eqb-false, ne_eqb}
 use Rattle.std.proofs.lemmas.Bool.Decides.{nat_tests}
 use Rattle.std.proofs.lemmas.List.{append-nil, append_cancel_left, length-append, take_at}
-use Rattle.cube_journal.specs.Parts.{Stops, stays_on_line, is_no_quote, Part, Comment, Quoted, Other, part_bytes, IsPart}
+use Rattle.cube_language.specs.Parts.{Stops, stays_on_line, is_no_quote, Part, Comment, Quoted, Other, part_bytes, IsPart}
 use Rattle.sql_words.specs.Fronts.{begins_comment, quoted_len, part_len}
 use Rattle.sql_words.proofs.Prefixes.{prefix_is, prefix_passes, prefix_stops, prefix_within, front_one, rest_one}
 

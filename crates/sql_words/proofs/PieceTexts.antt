@@ -8,8 +8,8 @@ use Rattle.std.proofs.lemmas.Bool.Decides.{nat_tests}
 use Rattle.std.proofs.lemmas.List.{drop-drop, drop_all, drop_at, get_or-drop, length-append}
 use Rattle.std.proofs.lemmas.List.Elements.{All-nil, All-cons, All-append}
 use Rattle.std.proofs.lemmas.Str.{IsUtf8-between, IsCharBoundary-start, IsCharBoundary-end, IsCharBoundary-before_ascii, IsCharBoundary-after_ascii}
-use Rattle.cube_journal.specs.declared.piece.Piece.{Piece}
-use Rattle.cube_journal.specs.Parts.{Part, Comment, Quoted, Other, part_bytes, is_space, stays_on_line, Stops, AreParts, is_blank}
+use Rattle.cube_language.specs.declared.piece.Piece.{Piece}
+use Rattle.cube_language.specs.Parts.{Part, Comment, Quoted, Other, part_bytes, is_space, stays_on_line, Stops, AreParts, is_blank}
 use Rattle.sql_words.specs.Fronts.{goes_on, IsBehindGap, IsBehindBody}
 use Rattle.sql_words.specs.Texts.{IsTextAt}
 use Rattle.sql_words.proofs.Gaps.{parts_flat}

@@ -10,9 +10,9 @@ use Rattle.std.proofs.lemmas.List.Elements.{All-append, All-weaker}
 use Rattle.std.proofs.lemmas.List.Folds.{list_all-append}
 use Rattle.std.proofs.lemmas.List.Splits.{slice_split_at, slice_split_none}
 use Rattle.std.proofs.lemmas.List.Sums.{AllPass-from_list_all, sum_by-append, take_while-cons}
-use Rattle.cube_journal.specs.declared.piece.Piece.{Piece}
-use Rattle.cube_journal.specs.Parts.{Part, Comment, Quoted, Other, part_bytes, AreParts, is_blank}
-use Rattle.cube_journal.specs.Pieces.{is_end, bytes_in, piece_at, pieces_from, Splits, statements_limit}
+use Rattle.cube_language.specs.declared.piece.Piece.{Piece}
+use Rattle.cube_language.specs.Parts.{Part, Comment, Quoted, Other, part_bytes, AreParts, is_blank}
+use Rattle.cube_language.specs.Pieces.{is_end, bytes_in, piece_at, pieces_from, Splits, statements_limit}
 use Rattle.sql_words.specs.Fronts.{begins_gap, part_len, goes_on, is_inside, IsBehindGap, IsBehindBody}
 use Rattle.sql_words.proofs.PartFronts.{part_of, part_some}
 use Rattle.sql_words.proofs.Gaps.{parts_append, parts_flat, one_part, shorter, begins_like}

@@ -6,11 +6,11 @@ use Rattle.std.specs.Str.{IsValidUpTo}
 use Rattle.std.proofs.lemmas.Bool.{cases_order, le-ltb}
 use Rattle.std.proofs.lemmas.List.{take_all}
 use Rattle.std.proofs.lemmas.List.Elements.{All-head, All-tail}
-use Rattle.cube_journal.specs.declared.piece.Piece.{Piece}
-use Rattle.cube_journal.specs.declared.piece.ScriptFault.{ScriptFault}
-use Rattle.cube_journal.specs.declared.piece.ScriptFault.TheVariants.{NotUtf8, TooManyStatements, StatementTooLong}
-use Rattle.cube_journal.specs.Parts.{Part, AreParts}
-use Rattle.cube_journal.specs.Pieces.{is_end, pieces_from, Splits, statement_limit, is_long, IsScript, HasScriptFault}
+use Rattle.cube_language.specs.declared.piece.Piece.{Piece}
+use Rattle.cube_language.specs.declared.piece.ScriptFault.{ScriptFault}
+use Rattle.cube_language.specs.declared.piece.ScriptFault.TheVariants.{NotUtf8, TooManyStatements, StatementTooLong}
+use Rattle.cube_language.specs.Parts.{Part, AreParts}
+use Rattle.cube_language.specs.Pieces.{is_end, pieces_from, Splits, statement_limit, is_long, IsScript, HasScriptFault}
 use Rattle.sql_words.proofs.PartFronts.{parts_agree}
 use Rattle.sql_words.proofs.PiecesLeft.{no_parts}
 

@@ -8,10 +8,10 @@ use Rattle.std.specs.Str.Parse.{signed_digits_value}
 use Rattle.std.proofs.lemmas.Bool.{and_from, cases_Bool, eqb-true}
 use Rattle.std.proofs.lemmas.Bool.Decides.{nat_tests}
 use Rattle.std.proofs.lemmas.List.{length-append, take_at, drop_at, take-append-drop}
-use Rattle.cube_values.specs.Names.{continues_name}
-use Rattle.cube_journal.specs.declared.token.TokenKind.{TokenKind}
-use Rattle.cube_journal.specs.declared.token.TokenKind.TheVariants.{Word, Number}
-use Rattle.cube_journal.specs.Tokens.{is_digits, is_number, IsNumberBefore, IsToken}
+use Rattle.cube_language.specs.Names.{continues_name}
+use Rattle.cube_language.specs.declared.token.TokenKind.{TokenKind}
+use Rattle.cube_language.specs.declared.token.TokenKind.TheVariants.{Word, Number}
+use Rattle.cube_language.specs.Tokens.{is_digits, is_number, IsNumberBefore, IsToken}
 use Rattle.sql_words.specs.Fronts.{first_passes, begins_word, begins_number, number_len, IsFront}
 use Rattle.sql_words.proofs.Prefixes.{prefix_passes, prefix_stops, prefix_within, front_one, rest_one}
 use Rattle.sql_words.proofs.Numbers.{digits_from}

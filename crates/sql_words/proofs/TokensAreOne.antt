@@ -7,14 +7,14 @@ use Rattle.std.specs.Str.Parse.{signed_digits_value}
 use Rattle.std.proofs.lemmas.Bool.{false_from_ne_true}
 use Rattle.std.proofs.lemmas.Bool.Decides.{nat_tests}
 use Rattle.std.proofs.lemmas.List.{length-append}
-use Rattle.cube_journal.specs.declared.token.Token.{Token}
-use Rattle.cube_journal.specs.declared.token.TokenFault.{TokenFault}
-use Rattle.cube_journal.specs.declared.token.TokenFault.TheVariants.{BadByte, UnclosedText, NumberTooWide}
-use Rattle.cube_journal.specs.declared.token.TokenKind.{TokenKind}
-use Rattle.cube_journal.specs.declared.token.TokenKind.TheVariants.{Number}
-use Rattle.cube_journal.specs.Parts.{AreParts, IsGap}
-use Rattle.cube_journal.specs.Quotes.{doubled, opened}
-use Rattle.cube_journal.specs.Tokens.{IsNumberBefore, IsToken, AreTokensBefore, AreTokens, is_stray, IsFault, HasTokenFault, fault_at}
+use Rattle.cube_language.specs.declared.token.Token.{Token}
+use Rattle.cube_language.specs.declared.token.TokenFault.{TokenFault}
+use Rattle.cube_language.specs.declared.token.TokenFault.TheVariants.{BadByte, UnclosedText, NumberTooWide}
+use Rattle.cube_language.specs.declared.token.TokenKind.{TokenKind}
+use Rattle.cube_language.specs.declared.token.TokenKind.TheVariants.{Number}
+use Rattle.cube_language.specs.Parts.{AreParts, IsGap}
+use Rattle.cube_language.specs.Quotes.{doubled, opened}
+use Rattle.cube_language.specs.Tokens.{IsNumberBefore, IsToken, AreTokensBefore, AreTokens, is_stray, IsFault, HasTokenFault, fault_at}
 use Rattle.sql_words.specs.Fronts.{begins_gap, begins_word, begins_text, begins_number, begins_mark}
 use Rattle.sql_words.proofs.Gaps.{gaps_agree}
 use Rattle.sql_words.proofs.OneFront.{front_len, kind_at, no_gap_at, text_open, number_is, token_is, token_agrees, token_some}

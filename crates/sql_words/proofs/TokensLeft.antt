@@ -4,11 +4,11 @@ use Rattle.std.specs.List.{flat_map}
 use Rattle.std.proofs.lemmas.Bool.{and_from}
 use Rattle.std.proofs.lemmas.List.{append-nil, length-append, length-drop, length-take-le, take-append-drop}
 use Rattle.std.proofs.lemmas.List.Folds.{list_all-append}
-use Rattle.cube_journal.specs.declared.token.Token.{Token}
-use Rattle.cube_journal.specs.declared.token.TokenFault.{TokenFault}
-use Rattle.cube_journal.specs.declared.token.TokenKind.{TokenKind}
-use Rattle.cube_journal.specs.Parts.{part_bytes, AreParts, is_blank, IsGap}
-use Rattle.cube_journal.specs.Tokens.{AreTokensBefore, AreTokens, IsFault, HasTokenFault, fault_at}
+use Rattle.cube_language.specs.declared.token.Token.{Token}
+use Rattle.cube_language.specs.declared.token.TokenFault.{TokenFault}
+use Rattle.cube_language.specs.declared.token.TokenKind.{TokenKind}
+use Rattle.cube_language.specs.Parts.{part_bytes, AreParts, is_blank, IsGap}
+use Rattle.cube_language.specs.Tokens.{AreTokensBefore, AreTokens, IsFault, HasTokenFault, fault_at}
 use Rattle.sql_words.specs.Fronts.{begins_gap, IsBehindGap, IsFront}
 use Rattle.sql_words.proofs.Gaps.{parts_append, parts_flat, gap_is}
 

@@ -9,12 +9,12 @@ use Rattle.std.proofs.lemmas.List.{drop-drop, drop_at, get_or-drop, get_or-take,
 use Rattle.std.proofs.lemmas.List.Elements.{All-nil, All-cons}
 use Rattle.std.proofs.lemmas.Str.{IsCharBoundary-before_ascii, IsCharBoundary-after_ascii}
 use Rattle.std.proofs.lemmas.Str.Ascii.{IsAscii-nil, IsAscii-cons}
-use Rattle.cube_values.specs.Names.{begins_name, continues_name}
-use Rattle.cube_journal.specs.declared.token.Token.{Token}
-use Rattle.cube_journal.specs.declared.token.TokenKind.{TokenKind}
-use Rattle.cube_journal.specs.declared.token.TokenKind.TheVariants.{Word, Number, Text, Open, Close, Comma, Equals, Star}
-use Rattle.cube_journal.specs.Quotes.{doubled, quoted}
-use Rattle.cube_journal.specs.Tokens.{IsToken, Cut, Begins, AreTokensBefore, AreTokens, token_bytes}
+use Rattle.cube_language.specs.Names.{begins_name, continues_name}
+use Rattle.cube_language.specs.declared.token.Token.{Token}
+use Rattle.cube_language.specs.declared.token.TokenKind.{TokenKind}
+use Rattle.cube_language.specs.declared.token.TokenKind.TheVariants.{Word, Number, Text, Open, Close, Comma, Equals, Star}
+use Rattle.cube_language.specs.Quotes.{doubled, quoted}
+use Rattle.cube_language.specs.Tokens.{IsToken, Cut, Begins, AreTokensBefore, AreTokens, token_bytes}
 use Rattle.sql_words.specs.Places.{StandsIn, RiseFrom, StandInOrder}
 use Rattle.sql_words.proofs.Numbers.{number_is_ascii}
 use Rattle.sql_words.proofs.OneFront.{token_some}

@@ -2,11 +2,11 @@
 use Rattle.std.specs.Prelude.{◌≡◌, ℕ, ◌+◌, ◌<◌, ◌≤◌, min, Bool, false, not, ◌||◌, ◌&&◌, ◌==◌, List, [], ◌∷◌, length, take, drop, IsTrue, if◌then◌else◌}
 use Rattle.std.specs.Char.{is_ascii_digit}
 use Rattle.std.specs.List.{list_all, prefix_len}
-use Rattle.cube_values.specs.Names.{begins_name}
-use Rattle.cube_journal.specs.declared.token.TokenKind.{TokenKind}
-use Rattle.cube_journal.specs.Parts.{Part, is_space, is_no_quote, stays_on_line, is_blank, AreParts}
-use Rattle.cube_journal.specs.Pieces.{is_end}
-use Rattle.cube_journal.specs.Tokens.{IsToken, is_mark}
+use Rattle.cube_language.specs.Names.{begins_name}
+use Rattle.cube_language.specs.declared.token.TokenKind.{TokenKind}
+use Rattle.cube_language.specs.Parts.{Part, is_space, is_no_quote, stays_on_line, is_blank, AreParts}
+use Rattle.cube_language.specs.Pieces.{is_end}
+use Rattle.cube_language.specs.Tokens.{IsToken, is_mark}
 
 -- Two dashes begin a comment.
 abbrev pub begins_comment : List ℕ → Bool

@@ -1,12 +1,12 @@
 -- What holds of every text and its tokens, and of every script and its statements.
 use Rattle.std.specs.Prelude.{◌≡◌, ℕ, List, IsUtf8}
 use Rattle.std.specs.Str.{IsCharBoundary}
-use Rattle.cube_journal.specs.declared.piece.Piece.{Piece}
-use Rattle.cube_journal.specs.declared.piece.ScriptFault.{ScriptFault}
-use Rattle.cube_journal.specs.declared.token.Token.{Token}
-use Rattle.cube_journal.specs.declared.token.TokenFault.{TokenFault}
-use Rattle.cube_journal.specs.Pieces.{IsScript, HasScriptFault}
-use Rattle.cube_journal.specs.Tokens.{AreTokens, HasTokenFault}
+use Rattle.cube_language.specs.declared.piece.Piece.{Piece}
+use Rattle.cube_language.specs.declared.piece.ScriptFault.{ScriptFault}
+use Rattle.cube_language.specs.declared.token.Token.{Token}
+use Rattle.cube_language.specs.declared.token.TokenFault.{TokenFault}
+use Rattle.cube_language.specs.Pieces.{IsScript, HasScriptFault}
+use Rattle.cube_language.specs.Tokens.{AreTokens, HasTokenFault}
 use Rattle.sql_words.specs.Places.{StandsIn, StandInOrder}
 
 -- A text has one list of tokens at most.

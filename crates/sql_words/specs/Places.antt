@@ -1,7 +1,7 @@
 -- Where the tokens of a text stand in it.
 use Rattle.std.specs.Prelude.{ℕ, ◌<◌, ◌≤◌, List, [], ◌∷◌, length, drop, All}
-use Rattle.cube_journal.specs.declared.token.Token.{Token}
-use Rattle.cube_journal.specs.Tokens.{IsToken, token_bytes}
+use Rattle.cube_language.specs.declared.token.Token.{Token}
+use Rattle.cube_language.specs.Tokens.{IsToken, token_bytes}
 
 -- A token stands in a text: it has its kind, and what follows does not prolong it.
 pub record StandsIn (text : List ℕ) (t : Token) : Type 0 where

@@ -1,6 +1,6 @@
 -- The texts of the statements of a script.
 use Rattle.std.specs.Prelude.{ℕ, ◌-◌, ◌≤◌, List, length, take, drop, IsUtf8}
-use Rattle.cube_journal.specs.declared.piece.Piece.{Piece}
+use Rattle.cube_language.specs.declared.piece.Piece.{Piece}
 
 -- The bytes of a statement of a script.
 abbrev pub piece_bytes : List ℕ → Piece → List ℕ

@@ -5,8 +5,8 @@ ghost use Rattle.std.specs.Char.{is_ascii_digit};
 ghost use Rattle.std.specs.Int.{w64};
 ghost use Rattle.std.specs.List.{prefix_len};
 ghost use Rattle.std.specs.Str.Parse.{signed_digits_value};
-ghost use Rattle.cube_journal.specs.declared.token.TokenKind.TheVariants as kind;
-ghost use Rattle.cube_journal.specs.Tokens.{is_number, IsNumberBefore};
+ghost use Rattle.cube_language.specs.declared.token.TokenKind.TheVariants as kind;
+ghost use Rattle.cube_language.specs.Tokens.{is_number, IsNumberBefore};
 ghost use Rattle.sql_words.specs.Fronts.{first_passes, begins_number, number_len, IsFront};
 
 use std::str;

@@ -2,7 +2,7 @@
 
 ghost use Rattle.std.specs.Prelude.{◌≡◌, ◌≤◌, length};
 ghost use Rattle.std.specs.List.{prefix_len};
-ghost use Rattle.cube_journal.specs.Parts.{is_space, is_no_quote, stays_on_line};
+ghost use Rattle.cube_language.specs.Parts.{is_space, is_no_quote, stays_on_line};
 ghost use Rattle.sql_words.specs.Fronts.{begins_comment, begins_gap, part_len, quoted_len, IsBehindGap};
 
 fn is_space(byte: u8) -> bool

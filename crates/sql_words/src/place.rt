@@ -1,10 +1,10 @@
 //! The bytes of a token.
 
 ghost use Rattle.std.specs.Prelude.{◌≡◌};
-ghost use Rattle.cube_journal.specs.Tokens.{token_bytes};
+ghost use Rattle.cube_language.specs.Tokens.{token_bytes};
 ghost use Rattle.sql_words.specs.Places.{StandsIn};
 
-use cube_journal::Token;
+use cube_language::Token;
 
 /// The bytes of a token that stands in a text, as text. They are not copied.
 #[tactic(auto, using(crate::proofs::TokensStand::start_is_boundary, crate::proofs::TokensStand::end_is_boundary))]

@@ -1,8 +1,8 @@
 //! Texts in quotes.
 
 ghost use Rattle.std.specs.Prelude.{◌≡◌, ℕ, true, List, IfSome, IfNone};
-ghost use Rattle.cube_journal.specs.declared.token.TokenKind.TheVariants as kind;
-ghost use Rattle.cube_journal.specs.Quotes.{opened};
+ghost use Rattle.cube_language.specs.declared.token.TokenKind.TheVariants as kind;
+ghost use Rattle.cube_language.specs.Quotes.{opened};
 ghost use Rattle.sql_words.specs.Fronts.{begins_text, letter_len, IsFront};
 
 /// Whether a text in quotes begins here.

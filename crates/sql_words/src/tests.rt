@@ -7,7 +7,7 @@ use crate::{
     a_script_has_one_outcome, a_text_has_one_list_of_tokens, a_text_has_tokens_or_one_fault,
     a_text_may_be_cut_at_its_tokens, a_token_has_its_bytes, piece_text, split, token_text, tokens,
 };
-use cube_journal::{Piece, TokenKind};
+use cube_language::{Piece, TokenKind};
 use cube_values::CallError;
 use std::alloc::{AllocError, Global};
 use std::test::Fail;

@@ -2,17 +2,17 @@
 
 ghost use Rattle.std.specs.Prelude.{◌≡◌, ℕ, ◌+◌, ◌<◌, ◌≤◌, ◌^◌, true, false, List, [], length, take, drop, IfOk, IfErr, IsTrue, IfSome, IfNone};
 ghost use Rattle.std.specs.List.{prefix_len};
-ghost use Rattle.cube_values.specs.Names.{continues_name};
-ghost use Rattle.cube_journal.specs.declared.token.TokenKind.TheVariants as kind;
-ghost use Rattle.cube_journal.specs.Faults.{IfFault};
-ghost use Rattle.cube_journal.specs.Tokens.{AreTokens, HasTokenFault, IsFault, fault_at};
+ghost use Rattle.cube_language.specs.Names.{continues_name};
+ghost use Rattle.cube_language.specs.declared.token.TokenKind.TheVariants as kind;
+ghost use Rattle.cube_language.specs.Faults.{IfFault};
+ghost use Rattle.cube_language.specs.Tokens.{AreTokens, HasTokenFault, IsFault, fault_at};
 ghost use Rattle.sql_words.specs.Fronts.{IsFront, begins_gap, begins_mark, begins_word};
 
 use crate::number::{begins_number, number_first};
 use crate::part::behind_gap;
 use crate::quote::{begins_text, text_len};
-use cube_journal::{Token, TokenFault, TokenKind, Tokens};
-use cube_values::{CallError, begins_name, continues_name};
+use cube_language::{Token, TokenFault, TokenKind, Tokens, begins_name, continues_name};
+use cube_values::CallError;
 use std::alloc::Global;
 
 fn begins_word(bytes: &[u8]) -> bool

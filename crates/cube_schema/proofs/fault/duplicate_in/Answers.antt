@@ -1,7 +1,7 @@
 use Rattle.std.proofs.Common.{Some, subst, sym, ap, ◌∙◌}
 use Rattle.std.specs.Option.{option_map}
-use Rattle.cube_journal.specs.Cubes.{first_repeated}
-use Rattle.cube_journal.specs.declared.cubes_fault.SchemaFault.TheVariants.{DuplicateName}
+use Rattle.cube_language.specs.Cubes.{first_repeated}
+use Rattle.cube_language.specs.declared.cubes_fault.SchemaFault.TheVariants.{DuplicateName}
 use Rattle.cube_schema.specs.Repeats.{RepeatsAt, IsFirstRepeat}
 use Rattle.cube_schema.proofs.Repeated.{names_of, first-at}
 use Rattle.cube_schema.proofs.fault.duplicate_in.Goals as goal

@@ -1,6 +1,6 @@
 use Rattle.std.proofs.Common.{◌≡◌, ◌++◌, take}
 use Rattle.std.specs.List.{flat_map}
-use Rattle.cube_journal.specs.Cubes.{dim_text}
+use Rattle.cube_language.specs.Cubes.{dim_text}
 use Rattle.cube_schema.proofs.print.put_dims.Given as goal
 
 abbrev pub invariant-dims : goal.invariant-dims

@@ -1,6 +1,6 @@
 use Rattle.std.proofs.Common.{◌≡◌, Ok, ◌∙◌}
 use Rattle.std.proofs.lemmas.Result.{IfOk-weaker}
-use Rattle.cube_journal.specs.CubesText.{Declares}
+use Rattle.cube_language.specs.CubesText.{Declares}
 use Rattle.cube_schema.specs.Outcomes.{outcome}
 use Rattle.cube_schema.proofs.TextLaws.{declares_from, fault_answered}
 use Rattle.cube_schema.proofs.read.read_cubes.Goals as goal

@@ -1,5 +1,5 @@
 use Rattle.std.proofs.Common.{◌≡◌, None, subst, sym, ap, ◌∙◌}
-use Rattle.cube_journal.specs.Cubes.{first_repeated}
+use Rattle.cube_language.specs.Cubes.{first_repeated}
 use Rattle.cube_schema.specs.Outcomes as outcomes
 use Rattle.cube_schema.specs.Repeats.{RepeatsAt, IsFirstRepeat}
 use Rattle.cube_schema.proofs.Repeated.{names_of}

@@ -1,5 +1,5 @@
 use Rattle.std.proofs.Common.{ap, sym, ◌∙◌, inl, inr}
-use Rattle.cube_journal.specs.Tokens.{fault_at}
+use Rattle.cube_language.specs.Tokens.{fault_at}
 use Rattle.sql_tree.proofs.Statements.{spells_none, one_place}
 use Rattle.sql_tree.proofs.law.a_text_spells_or_has_one_fault.Goals as goal
 

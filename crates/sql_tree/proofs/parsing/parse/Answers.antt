@@ -1,7 +1,7 @@
 use Rattle.std.proofs.Common.{sym, subst, inr}
 use Rattle.std.proofs.lemmas.List.Elements.{recursion_from_All}
-use Rattle.cube_journal.specs.Symbols.{symbols_of}
-use Rattle.cube_journal.specs.Tokens.{AreTokens}
+use Rattle.cube_language.specs.Symbols.{symbols_of}
+use Rattle.cube_language.specs.Tokens.{AreTokens}
 use Rattle.sql_tree.specs.Reading.{Fails, read_statement}
 use Rattle.sql_tree.proofs.Statements.{read_has_form, left_fits, goes_wrong}
 use Rattle.sql_words.specs.Places.{StandsIn}

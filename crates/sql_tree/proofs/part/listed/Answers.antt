@@ -1,8 +1,8 @@
 use Rattle.std.proofs.Common.{◌<◌, arith, length, subst, List, sym, ap, ◌∙◌, Ok}
 use Rattle.std.proofs.lemmas.List.{length-map}
 use Rattle.std.proofs.lemmas.Result.{err_from_is_err_and}
-use Rattle.cube_journal.specs.Symbols.{symbols_of, symbol_of}
-use Rattle.cube_journal.specs.declared.token.Token.{Token}
+use Rattle.cube_language.specs.Symbols.{symbols_of, symbol_of}
+use Rattle.cube_language.specs.declared.token.Token.{Token}
 use Rattle.sql_tree.specs.Places.{AreIn}
 use Rattle.sql_tree.proofs.Lists.{IsListing, listing_none, listing_more, listing_done, listing_fails}
 use Rattle.sql_tree.proofs.part.listed.Goals as goal

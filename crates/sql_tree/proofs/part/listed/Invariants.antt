@@ -1,5 +1,5 @@
 use Rattle.std.proofs.Common.{◌≤◌, length}
-use Rattle.cube_journal.specs.Symbols.{symbols_of}
+use Rattle.cube_language.specs.Symbols.{symbols_of}
 use Rattle.sql_tree.specs.Places.{AreIn}
 use Rattle.sql_tree.proofs.Lists.{IsListing}
 use Rattle.sql_tree.proofs.part.listed.Given as goal

@@ -1,5 +1,5 @@
 use Rattle.std.proofs.Common.{◌≡◌, ◌++◌, take}
-use Rattle.cube_journal.specs.Quotes.{opened}
+use Rattle.cube_language.specs.Quotes.{opened}
 use Rattle.sql_tree.proofs.put.put_quoted.Given as goal
 
 abbrev pub invariant-bytes : goal.invariant-bytes

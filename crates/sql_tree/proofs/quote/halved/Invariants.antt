@@ -1,7 +1,7 @@
 use Rattle.std.proofs.Common.{◌≡◌, ◌++◌, length, string_bytes}
 use denote.Text.{Utf8}
 use denote.Shadow.{shadow}
-use Rattle.cube_journal.specs.Symbols.{halved}
+use Rattle.cube_language.specs.Symbols.{halved}
 use Rattle.sql_tree.proofs.quote.halved.Given as goal
 
 -- what was halved and what is left, halved, are the whole

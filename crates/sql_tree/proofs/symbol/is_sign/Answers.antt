@@ -1,4 +1,4 @@
-use Rattle.cube_journal.specs.Tokens.{token_bytes}
+use Rattle.cube_language.specs.Tokens.{token_bytes}
 use Rattle.sql_tree.proofs.Keywords.{word_sign}
 use Rattle.sql_tree.proofs.symbol.is_sign.Goals as goal
 

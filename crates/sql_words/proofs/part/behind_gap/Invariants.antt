@@ -1,5 +1,5 @@
 use Rattle.std.proofs.Common.{length}
-use Rattle.cube_journal.specs.Parts.{is_blank}
+use Rattle.cube_language.specs.Parts.{is_blank}
 use Rattle.sql_words.proofs.Gaps.{ArePassing}
 use Rattle.sql_words.proofs.part.behind_gap.Given as goal
 

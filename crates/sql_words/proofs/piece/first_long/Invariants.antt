@@ -1,6 +1,6 @@
 use Rattle.std.proofs.Common.{◌≡◌, ◌+◌, drop}
 use Rattle.std.specs.List.{position_from}
-use Rattle.cube_journal.specs.Pieces.{is_long}
+use Rattle.cube_language.specs.Pieces.{is_long}
 use Rattle.sql_words.proofs.piece.first_long.Given as goal
 
 abbrev pub invariant-loop-i : goal.invariant-loop-i

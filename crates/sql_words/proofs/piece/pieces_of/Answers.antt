@@ -2,7 +2,7 @@ use Rattle.std.proofs.Common.{◌≡◌, length, sym, ◌∙◌, arith}
 use Rattle.std.proofs.lemmas.Bool.Decides.{nat_tests}
 use Rattle.std.proofs.lemmas.Grind.{common_steps}
 use Rattle.std.proofs.lemmas.List.Elements.{All-nil}
-use Rattle.cube_journal.specs.Pieces.{statements_limit}
+use Rattle.cube_language.specs.Pieces.{statements_limit}
 use Rattle.sql_words.specs.Texts.{IsTextAt}
 use Rattle.sql_words.proofs.PiecesLeft.{split_none, split_past, split_more, split_all, split_many, few_more}
 use Rattle.sql_words.proofs.PieceTexts.{left_none, left_body, left_end, left_behind_end, text_at, texts_more}

@@ -1,6 +1,6 @@
 use Rattle.std.proofs.Common.{◌≤◌, length}
 use Rattle.std.specs.Prelude.{All}
-use Rattle.cube_journal.specs.Pieces.{statements_limit}
+use Rattle.cube_language.specs.Pieces.{statements_limit}
 use Rattle.sql_words.specs.Texts.{IsTextAt}
 use Rattle.sql_words.proofs.PieceTexts.{IsLeft}
 use Rattle.sql_words.proofs.PiecesLeft.{AreSplit}

@@ -1,6 +1,6 @@
 use Rattle.std.proofs.Common.{sym, ap, ◌∙◌}
 use Rattle.std.specs.List.{position_from}
-use Rattle.cube_journal.specs.Pieces.{is_long}
+use Rattle.cube_language.specs.Pieces.{is_long}
 use Rattle.sql_words.proofs.Bodies.{none_long}
 use Rattle.sql_words.proofs.piece.split.Goals as goal
 

@@ -1,7 +1,7 @@
 use Rattle.std.proofs.Common.{subst, arith}
 use Rattle.std.proofs.lemmas.Bool.Decides.{nat_tests}
 use Rattle.std.proofs.lemmas.Grind.{common_steps}
-use Rattle.cube_journal.specs.Tokens.{AreTokens, HasTokenFault}
+use Rattle.cube_language.specs.Tokens.{AreTokens, HasTokenFault}
 use Rattle.sql_words.proofs.TokensLeft.{read_none, read_more, read_all, read_fails, rest_shorter}
 use Rattle.sql_words.proofs.token.tokens.Goals as goal
 

@@ -5,14 +5,14 @@ use Rattle.std.specs.Char.{is_ascii_digit}
 use Rattle.std.specs.Int.{w64}
 use Rattle.std.specs.Str.{all_ascii_digits}
 use Rattle.std.specs.Str.Parse.{signed_digits_value}
-use Rattle.cube_values.specs.Names.{begins_name, continues_name, is_word}
-use Rattle.cube_journal.specs.declared.token.Token.{Token}
-use Rattle.cube_journal.specs.declared.token.TokenFault.{TokenFault}
-use Rattle.cube_journal.specs.declared.token.TokenFault.TheVariants.{BadByte, UnclosedText, NumberTooWide}
-use Rattle.cube_journal.specs.declared.token.TokenKind.{TokenKind}
-use Rattle.cube_journal.specs.declared.token.TokenKind.TheVariants.{Word, Number, Text, Open, Close, Comma, Equals, Star}
-use Rattle.cube_journal.specs.Parts.{is_space, Stops, IsGap}
-use Rattle.cube_journal.specs.Quotes.{opened, quoted}
+use Rattle.cube_language.specs.Names.{begins_name, continues_name, is_word}
+use Rattle.cube_language.specs.declared.token.Token.{Token}
+use Rattle.cube_language.specs.declared.token.TokenFault.{TokenFault}
+use Rattle.cube_language.specs.declared.token.TokenFault.TheVariants.{BadByte, UnclosedText, NumberTooWide}
+use Rattle.cube_language.specs.declared.token.TokenKind.{TokenKind}
+use Rattle.cube_language.specs.declared.token.TokenKind.TheVariants.{Word, Number, Text, Open, Close, Comma, Equals, Star}
+use Rattle.cube_language.specs.Parts.{is_space, Stops, IsGap}
+use Rattle.cube_language.specs.Quotes.{opened, quoted}
 
 -- One digit at least, and digits alone.
 abbrev pub is_digits : List ℕ → Bool

@@ -1,12 +1,12 @@
 -- Where a text that spells no statement goes wrong.
 -- Source: this project's own.
 use Rattle.std.specs.Prelude.{◌≡◌, ℕ, ◌⊎◌, List, [], ◌∷◌, ◌++◌, length}
-use Rattle.cube_journal.specs.declared.statement.Statement.{Statement}
-use Rattle.cube_journal.specs.declared.token.Token.{Token}
-use Rattle.cube_journal.specs.declared.token.TokenFault.{TokenFault}
-use Rattle.cube_journal.specs.Grammar.{form_of, IsProper}
-use Rattle.cube_journal.specs.Symbols.{Symbol, symbols_of}
-use Rattle.cube_journal.specs.Tokens.{AreTokens, HasTokenFault, fault_at}
+use Rattle.cube_language.specs.declared.statement.Statement.{Statement}
+use Rattle.cube_language.specs.declared.token.Token.{Token}
+use Rattle.cube_language.specs.declared.token.TokenFault.{TokenFault}
+use Rattle.cube_language.specs.Grammar.{form_of, IsProper}
+use Rattle.cube_language.specs.Symbols.{Symbol, symbols_of}
+use Rattle.cube_language.specs.Tokens.{AreTokens, HasTokenFault, fault_at}
 
 -- These are the symbols of a statement.
 abbrev pub IsForm : List Symbol → Type 0

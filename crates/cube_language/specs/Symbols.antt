@@ -2,13 +2,13 @@
 -- Source: this project's own.
 use Rattle.std.specs.Prelude.{ℕ, ◌-◌, ◌==◌, ◌&&◌, List, [], ◌∷◌, length, take, drop, codes, ℤ, Option, find, map, if◌then◌else◌}
 use Rattle.std.specs.Option.{option_map_or}
-use Rattle.cube_values.specs.Names.{spells}
-use Rattle.cube_journal.specs.declared.token.Keyword.{Keyword as KeywordWord}
-use Rattle.cube_journal.specs.declared.token.Keyword.TheVariants as keyword
-use Rattle.cube_journal.specs.declared.token.Token.{Token}
-use Rattle.cube_journal.specs.declared.token.TokenKind.{TokenKind}
-use Rattle.cube_journal.specs.declared.token.TokenKind.TheVariants as kind
-use Rattle.cube_journal.specs.Tokens.{token_bytes}
+use Rattle.cube_language.specs.Names.{spells}
+use Rattle.cube_language.specs.declared.token.Keyword.{Keyword as KeywordWord}
+use Rattle.cube_language.specs.declared.token.Keyword.TheVariants as keyword
+use Rattle.cube_language.specs.declared.token.Token.{Token}
+use Rattle.cube_language.specs.declared.token.TokenKind.{TokenKind}
+use Rattle.cube_language.specs.declared.token.TokenKind.TheVariants as kind
+use Rattle.cube_language.specs.Tokens.{token_bytes}
 
 -- A keyword in lower case.
 abbrev pub keyword_text : KeywordWord → List ℕ

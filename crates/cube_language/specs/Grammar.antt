@@ -5,18 +5,18 @@ use Rattle.std.specs.Int.{w64}
 use Rattle.std.specs.List.{list_all}
 use Rattle.cube_values.specs.declared.value.Value.{Value}
 use Rattle.cube_values.specs.declared.value.Value.TheVariants as value
-use Rattle.cube_values.specs.Names.{is_name}
-use Rattle.cube_journal.specs.declared.statement.Cond.{Cond}
-use Rattle.cube_journal.specs.declared.statement.Cond.TheVariants.{Equal, In, Between}
-use Rattle.cube_journal.specs.declared.statement.Item.{Item}
-use Rattle.cube_journal.specs.declared.statement.Item.TheVariants.{Plain, Sum, Min, Max, Avg, CountAll}
-use Rattle.cube_journal.specs.declared.statement.Statement.{Statement}
-use Rattle.cube_journal.specs.declared.statement.Statement.TheVariants.{Select, Insert, Load, Delete, Begin, Commit, Rollback, Flush, Purge, ShowEpochs}
-use Rattle.cube_journal.specs.declared.token.Keyword.{Keyword as KeywordWord}
-use Rattle.cube_journal.specs.declared.token.Keyword.TheVariants as keyword
-use Rattle.cube_journal.specs.declared.token.Token.{Token}
-use Rattle.cube_journal.specs.Symbols.{Symbol, Keyword, Word, Number, Text, Open, Close, Comma, Equals, Star, symbols_of}
-use Rattle.cube_journal.specs.Tokens.{AreTokens}
+use Rattle.cube_language.specs.Names.{is_name}
+use Rattle.cube_language.specs.declared.statement.Cond.{Cond}
+use Rattle.cube_language.specs.declared.statement.Cond.TheVariants.{Equal, In, Between}
+use Rattle.cube_language.specs.declared.statement.Item.{Item}
+use Rattle.cube_language.specs.declared.statement.Item.TheVariants.{Plain, Sum, Min, Max, Avg, CountAll}
+use Rattle.cube_language.specs.declared.statement.Statement.{Statement}
+use Rattle.cube_language.specs.declared.statement.Statement.TheVariants.{Select, Insert, Load, Delete, Begin, Commit, Rollback, Flush, Purge, ShowEpochs}
+use Rattle.cube_language.specs.declared.token.Keyword.{Keyword as KeywordWord}
+use Rattle.cube_language.specs.declared.token.Keyword.TheVariants as keyword
+use Rattle.cube_language.specs.declared.token.Token.{Token}
+use Rattle.cube_language.specs.Symbols.{Symbol, Keyword, Word, Number, Text, Open, Close, Comma, Equals, Star, symbols_of}
+use Rattle.cube_language.specs.Tokens.{AreTokens}
 
 -- Forms with a symbol between each two.
 abbrev pub separated : {A : Type 0} → Symbol → (A → List Symbol) → List A → List Symbol

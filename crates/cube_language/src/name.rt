@@ -2,7 +2,7 @@
 
 ghost use Rattle.std.specs.Prelude.{◌≡◌, map};
 ghost use Rattle.std.specs.List.{list_all, list_any};
-ghost use Rattle.cube_values.specs.Names.{begins_name, continues_name, is_word, is_name, is_keyword, spells};
+ghost use Rattle.cube_language.specs.Names.{begins_name, continues_name, is_word, is_name, is_keyword, spells};
 
 /// The longest name, in bytes.
 pub const NAME_BYTES: usize = 64;

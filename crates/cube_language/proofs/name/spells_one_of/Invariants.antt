@@ -1,7 +1,7 @@
 use Rattle.std.proofs.Common.{◌≡◌, length, map}
 use Rattle.std.specs.List.{list_any}
-use Rattle.cube_values.specs.Names.{spells}
-use Rattle.cube_values.proofs.name.spells_one_of.Given as goal
+use Rattle.cube_language.specs.Names.{spells}
+use Rattle.cube_language.proofs.name.spells_one_of.Given as goal
 
 abbrev pub invariant-keywords : goal.invariant-keywords
 invariant-keywords l =

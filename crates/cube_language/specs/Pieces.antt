@@ -3,10 +3,10 @@
 use Rattle.std.specs.Prelude.{◌≡◌, ℕ, ◌+◌, ◌<◌, ◌≤◌, Bool, false, ◌==◌, nat_lt, List, [], ◌∷◌, ◌++◌, length, take_while, sum_by, Some, IsUtf8, All, if◌then◌else◌}
 use Rattle.std.specs.List.{list_all, slice_split, position_from}
 use Rattle.std.specs.Str.{IsValidUpTo}
-use Rattle.cube_journal.specs.declared.piece.Piece.{Piece}
-use Rattle.cube_journal.specs.declared.piece.ScriptFault.{ScriptFault}
-use Rattle.cube_journal.specs.declared.piece.ScriptFault.TheVariants.{NotUtf8, TooManyStatements, StatementTooLong}
-use Rattle.cube_journal.specs.Parts.{Part, Comment, Quoted, Other, part_bytes, AreParts, is_blank}
+use Rattle.cube_language.specs.declared.piece.Piece.{Piece}
+use Rattle.cube_language.specs.declared.piece.ScriptFault.{ScriptFault}
+use Rattle.cube_language.specs.declared.piece.ScriptFault.TheVariants.{NotUtf8, TooManyStatements, StatementTooLong}
+use Rattle.cube_language.specs.Parts.{Part, Comment, Quoted, Other, part_bytes, AreParts, is_blank}
 
 -- A semicolon by itself ends a statement.
 abbrev pub is_end : Part → Bool

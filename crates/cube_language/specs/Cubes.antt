@@ -6,10 +6,10 @@ use Rattle.std.specs.Option.{option_map}
 use Rattle.std.specs.Str.{bytes_eq}
 use Rattle.cube_values.specs.declared.shape.Shape.{Shape}
 use Rattle.cube_values.specs.Shapes.{bricks_of}
-use Rattle.cube_journal.specs.declared.cubes_fault.SchemaFault.{SchemaFault}
-use Rattle.cube_journal.specs.declared.cubes_fault.SchemaFault.TheVariants.{DuplicateName, ZeroCardinality, RangeTooLarge, TooManyBricks, TooManyColumns, NoMetric}
-use Rattle.cube_journal.specs.declared.decl.DimDecl.{DimDecl}
-use Rattle.cube_journal.specs.declared.decl.Decl.{Decl}
+use Rattle.cube_language.specs.declared.cubes_fault.SchemaFault.{SchemaFault}
+use Rattle.cube_language.specs.declared.cubes_fault.SchemaFault.TheVariants.{DuplicateName, ZeroCardinality, RangeTooLarge, TooManyBricks, TooManyColumns, NoMetric}
+use Rattle.cube_language.specs.declared.decl.DimDecl.{DimDecl}
+use Rattle.cube_language.specs.declared.decl.Decl.{Decl}
 
 -- The kind of a dimension as a word.
 abbrev pub kind_text : Bool → List ℕ

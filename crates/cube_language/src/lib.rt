@@ -1,0 +1,19 @@
+//! The language of cubes texts, scripts and statements: names, declarations, statements, tokens and the
+//! faults of texts, with the grammars that say what a text spells.
+#![tactic(auto)]
+
+mod cubes_fault;
+mod decl;
+mod name;
+mod piece;
+mod statement;
+mod syntax;
+mod token;
+
+pub use cubes_fault::{CubesFault, SchemaFault};
+pub use decl::{Decl, DimDecl, DimDecls, Names};
+pub use name::{NAME_BYTES, begins_name, continues_name, is_keyword, is_name, is_word, spells};
+pub use piece::{Piece, Pieces, ScriptFault};
+pub use statement::{Cond, Conds, Item, Items, Statement, Tuples};
+pub use syntax::Syntax;
+pub use token::{Keyword, Token, TokenFault, TokenKind, Tokens};
