@@ -3,8 +3,7 @@
 ghost use Rattle.std.specs.Prelude.{◌≡◌};
 ghost use Rattle.cube_language.specs.Symbols.{keyword_of, keyword_text};
 
-use cube_language::Keyword;
-use cube_values::spells;
+use cube_language::{Keyword, spells};
 
 /// The keywords of statements.
 const KEYWORDS: [Keyword; 26] = [
