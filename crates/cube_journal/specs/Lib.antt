@@ -1,1 +1,4 @@
+pub mod Entries
+pub mod Counters
+pub mod Legal
 pub mod Replies

@@ -22,4 +22,7 @@ pub use Rattle.cube_language.specs.Pieces
 pub use Rattle.cube_language.specs.Symbols
 pub use Rattle.cube_language.specs.Syntax
 pub use Rattle.cube_language.specs.Printed
+pub use Rattle.cube_journal.specs.Entries
+pub use Rattle.cube_journal.specs.Counters
+pub use Rattle.cube_journal.specs.Legal
 pub use Rattle.cube_journal.specs.Replies

@@ -2,7 +2,9 @@
 //! language of declarations and statements, and replies.
 #![tactic(auto)]
 
-pub use cube_journal::{Refusal, Reply};
+pub use cube_journal::{
+    AbortCause, Counters, JournalEntry, LostCause, Note, OpenSnapshot, Refusal, Reply,
+};
 pub use cube_language::{
     Cond, Conds, CubesFault, Decl, DimDecl, DimDecls, Item, Items, Keyword, NAME_BYTES, Names,
     Piece, Pieces, SchemaFault, ScriptFault, Statement, Syntax, Token, TokenFault, TokenKind,
