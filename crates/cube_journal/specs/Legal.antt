@@ -1,7 +1,10 @@
 -- Which journals a run can leave: each entry agrees with what the entries before it give. One part is judged by the
 -- counters, the other by the list of cubes.
 -- Source: AOSI (ICDE 2018) for what a transaction takes at its begin and end; the rest is this project's own.
-use Rattle.std.specs.Prelude.{◌≡◌, ℕ, ◌<◌, Bool, true, false, List, [], ◌∷◌, ◌++◌, length, None, Some, Contains, IsSomeAnd, All}
+use Rattle.std.specs.Prelude.{◌≡◌, ℕ, ◌<◌, Bool, true, false, List, [], ◌∷◌, ◌++◌, length, None, Some, IsSomeAnd}
+use Rattle.std.specs.List.{list_any}
+use Rattle.std.specs.Str.{bytes_eq}
+use Rattle.cube_language.specs.CubesText.{cubes_limit}
 use Rattle.cube_journal.specs.declared.journal_entry.JournalEntry.{JournalEntry}
 use Rattle.cube_journal.specs.declared.journal_entry.JournalEntry.TheVariants as entry
 use Rattle.cube_journal.specs.Counters.{JournalState, journal_state, lce, target, held_by}
@@ -51,7 +54,7 @@ pub record MayIdle (s : JournalState) (epoch : ℕ) : Type 0 where
 -- The journal parts here, and no entry of the later part is the session's.
 pub record PartsSince (session : ℕ) (journal earlier later : List JournalEntry) : Type 0 where
   pub whole : journal ≡ earlier ++ later
-  pub others : All (λ e. is_of_session session e ≡ false) later
+  pub others : list_any (is_of_session session) later ≡ false
 
 -- The round that is open when these entries begin ends as safe.
 abbrev pub ends_safe : List JournalEntry → Bool
@@ -104,25 +107,25 @@ abbrev pub CountersAllowAll : ℕ → List JournalEntry → List JournalEntry �
 CountersAllowAll safe before [] = Unit {0}
 CountersAllowAll safe before (e ∷ later) = CountersAllow safe before e × CountersAllowAll safe (before ++ e ∷ []) later
 
--- How many cubes there can be.
-abbrev pub most_cubes : ℕ
-most_cubes = 16
+-- One of the cubes has this name.
+abbrev pub has_cube : List (List ℕ) → List ℕ → Bool
+has_cube cubes name = list_any (λ cube. bytes_eq cube name) cubes
 
 -- A cube of a new name may be made while there is a place for it.
 pub record MayAddCube (cubes : List (List ℕ)) (name : List ℕ) : Type 0 where
-  pub place : length cubes < most_cubes
-  pub new_name : Contains cubes name → ⊥
+  pub place : length cubes < cubes_limit
+  pub new_name : has_cube cubes name ≡ false
 
--- No cube of this name can be made, since there are too many.
+-- There are as many cubes as there can be, and none has this name.
 pub record IsFullWithout (cubes : List (List ℕ)) (name : List ℕ) : Type 0 where
-  pub full : length cubes ≡ most_cubes
-  pub new_name : Contains cubes name → ⊥
+  pub full : length cubes ≡ cubes_limit
+  pub new_name : has_cube cubes name ≡ false
 
 -- A refusal that speaks of the list of cubes agrees with it: 2 says that none has the name, 19 that one has it, 21
--- that there are too many and none has it.
+-- that there is no place for one more, and none has it.
 pub record RefusalFits (cubes : List (List ℕ)) (name : List ℕ) (code : ℕ) : Type 0 where
-  pub unknown : code ≡ 2 → Contains cubes name → ⊥
-  pub exists : code ≡ 19 → Contains cubes name
+  pub unknown : code ≡ 2 → has_cube cubes name ≡ false
+  pub exists : code ≡ 19 → has_cube cubes name ≡ true
   pub too_many : code ≡ 21 → IsFullWithout cubes name
 
 -- The cubes of these names before a place allow this entry there, whose statement speaks of the cube of this name.
