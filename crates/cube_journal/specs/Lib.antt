@@ -1,4 +1,5 @@
 pub mod Entries
 pub mod Counters
 pub mod Legal
+pub mod Order
 pub mod Replies

@@ -25,4 +25,5 @@ pub use Rattle.cube_language.specs.Printed
 pub use Rattle.cube_journal.specs.Entries
 pub use Rattle.cube_journal.specs.Counters
 pub use Rattle.cube_journal.specs.Legal
+pub use Rattle.cube_journal.specs.Order
 pub use Rattle.cube_journal.specs.Replies

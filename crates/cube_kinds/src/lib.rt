@@ -4,6 +4,7 @@
 
 pub use cube_journal::{
     AbortCause, Counters, JournalEntry, LostCause, Note, OpenSnapshot, Refusal, Reply,
+    legal_journals_are_in_order, one_more_entry,
 };
 pub use cube_language::{
     Cond, Conds, CubesFault, Decl, DimDecl, DimDecls, Item, Items, Keyword, NAME_BYTES, Names,

@@ -1,0 +1,3 @@
+pub mod LeastEpochs
+pub mod OpenBounds
+pub mod Orders
