@@ -13,7 +13,7 @@ pub use Rattle.cube_values.specs.BitRows
 pub use Rattle.cube_language.specs.Names
 pub use Rattle.cube_language.specs.Cubes
 pub use Rattle.cube_language.specs.CubesText
-pub use Rattle.cube_language.specs.Faults
+pub use Rattle.cube_values.specs.Faults
 pub use Rattle.cube_language.specs.Quotes
 pub use Rattle.cube_language.specs.Parts
 pub use Rattle.cube_language.specs.Tokens

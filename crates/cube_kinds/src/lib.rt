@@ -15,6 +15,6 @@ pub use cube_values::{
     Bits, BoundItem, BoundItems, BoundQuery, CallError, CodedRow, CodedRows, Condition, Conditions,
     Coords, CubeShape, Entries, Entry, EpochList, Field, Flags, Line, NameLists, Numbers,
     Operation, Operations, Part, Parts, Query, Region, Row, Rows, Sequence, Shape, Size, Sizes,
-    Snapshot, Span, StoredRow, StoredRows, Table, Test, Text, TextLists, Texts, Transaction,
+    Snapshot, Span, StoredRow, StoredRows, Table, Text, TextLists, Texts, Transaction,
     Transactions, Value, Values, visible_is_what_running_leaves,
 };

@@ -1,7 +1,6 @@
 pub mod Names
 pub mod Cubes
 pub mod CubesText
-pub mod Faults
 pub mod Quotes
 pub mod Parts
 pub mod Pieces

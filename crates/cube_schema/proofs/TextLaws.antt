@@ -11,7 +11,7 @@ use Rattle.cube_language.specs.declared.cubes_fault.CubesFault.{CubesFault}
 use Rattle.cube_language.specs.declared.cubes_fault.CubesFault.TheVariants.{NotUtf8, BadLine, DuplicateCube, TooManyCubes, Schema}
 use Rattle.cube_language.specs.declared.decl.Decl.{Decl}
 use Rattle.cube_language.specs.CubesText.{Declares, HasCubesFault}
-use Rattle.cube_language.specs.Faults.{IfFault}
+use Rattle.cube_values.specs.Faults.{IfFault}
 use Rattle.cube_schema.specs.Outcomes.{outcome}
 use Rattle.cube_schema.specs.Texts.{TextsDeclareOneList, DeclaringTextsHaveNoFault, TextsHaveOneFault, TextsDeclareOrHaveFault}
 use Rattle.cube_schema.proofs.TextOutcomes.{declared_outcome, bad_outcome, duplicate_outcome, excess_outcome, schema_outcome}

@@ -3,7 +3,7 @@
 ghost use Rattle.std.specs.Prelude.{◌≡◌, ◌++◌, Ok, Err, Some, OnOk, IfOk};
 ghost use Rattle.std.specs.Option.{option_to_list};
 ghost use Rattle.cube_language.specs.CubesText.{without_return, words_of};
-ghost use Rattle.cube_language.specs.Faults.{IfFault};
+ghost use Rattle.cube_values.specs.Faults.{IfFault};
 ghost use Rattle.cube_schema.specs.Forms.{said_by};
 ghost use Rattle.cube_schema.specs.Gathering.{begun_at, step, gathered};
 ghost use Rattle.cube_schema.specs.Reading.{line_in};

@@ -3,7 +3,7 @@
 ghost use Rattle.std.specs.Prelude.{◌≡◌, [], map, Some, None, Ok, Err, IsUtf8, OnOk, IfOk};
 ghost use Rattle.cube_language.specs.Cubes.{schema_fault};
 ghost use Rattle.cube_language.specs.CubesText.{Declares, HasCubesFault};
-ghost use Rattle.cube_language.specs.Faults.{IfFault};
+ghost use Rattle.cube_values.specs.Faults.{IfFault};
 ghost use Rattle.cube_schema.specs.Outcomes.{names_of, decls_of, repeated_in, excess_in, unstorable, unstorable_in, outcome};
 
 use crate::gather::{Begun, gather_cubes};

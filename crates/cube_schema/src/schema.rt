@@ -3,7 +3,7 @@
 ghost use Rattle.std.specs.Prelude.{◌≡◌, ◌<◌, ◌^◌, Some, OnOk, IfOk};
 ghost use Rattle.cube_values.specs.Shapes.{IsSoundShape, IsSoundCube};
 ghost use Rattle.cube_language.specs.Cubes.{shape_of, schema_fault, IsStorable};
-ghost use Rattle.cube_language.specs.Faults.{IfFault};
+ghost use Rattle.cube_values.specs.Faults.{IfFault};
 ghost use Rattle.cube_schema.specs.Schemas.{cube_of};
 
 use crate::fault::fault_of;

@@ -5,7 +5,7 @@ use Rattle.std.proofs.lemmas.List.{ext_get_or, get_or-set_same, get_or-set_other
 use borrow.Rule.Slice.PartMut.{put_mid}
 use Rattle.std.proofs.lemmas.Slice.{take-put_mid_below, take-put_mid, drop-put_mid}
 use Rattle.std.proofs.lemmas.List.FromFn.{length-map-range_with_len, get_or-map-range_with_len}
-use Rattle.cube_values.specs.BitRows.{has_bit, is_set, bits_of, filled, IsFilled}
+use Rattle.cube_values.specs.BitRows.{has_bit, is_set, bits_of, filled_bits, IsFilled}
 
 -- the length and the elements of the first n bits, and what shows them equal to a list
 pub bits_length : (words : List ℕ) (n : ℕ) → length (bits_of words n) ≡ n
@@ -30,23 +30,23 @@ bits_same old new n h =
     bits_are new n (bits_of old n) (bits_length old n) (λ i p. h i p ∙ sym (bits_at old n i false p))
 
 -- the length and the elements of a list that is filled in part
-length-filled : (xs : List Bool) (from to : ℕ) (on : Bool) → from ≤ to → to ≤ length xs → length (filled xs from to on) ≡ length xs
+length-filled : (xs : List Bool) (from to : ℕ) (on : Bool) → from ≤ to → to ≤ length xs → length (filled_bits xs from to on) ≡ length xs
 length-filled xs from to on p q = simp (length-append, length-replicate, length-drop) (omega (arith, length-take-le from xs (omega arith)))
 
-filled_below : (xs : List Bool) (from to : ℕ) (on : Bool) → to ≤ length xs → (i : ℕ) → from ≤ to → i < from → get_or (filled xs from to on) i false ≡ get_or xs i false
+filled_below : (xs : List Bool) (from to : ℕ) (on : Bool) → to ≤ length xs → (i : ℕ) → from ≤ to → i < from → get_or (filled_bits xs from to on) i false ≡ get_or xs i false
 filled_below xs from to on q i p h =
     let e = length-take-le from xs (omega arith) in
     let m = length-append (take from xs) (replicate (to - from) on) in
     get_or_append_left (take from xs ++ replicate (to - from) on) (drop to xs) false i (omega arith) ∙ get_or_append_left (take from xs) (replicate (to - from) on) false i (omega arith) ∙ get_or-take from xs i false h
 
-filled_inside : (xs : List Bool) (from to : ℕ) (on : Bool) → to ≤ length xs → (i : ℕ) → from ≤ i → i < to → get_or (filled xs from to on) i false ≡ on
+filled_inside : (xs : List Bool) (from to : ℕ) (on : Bool) → to ≤ length xs → (i : ℕ) → from ≤ i → i < to → get_or (filled_bits xs from to on) i false ≡ on
 filled_inside xs from to on q i p h =
     let e = length-take-le from xs (omega arith) in
     let m = length-append (take from xs) (replicate (to - from) on) in
     let r = length-replicate (to - from) on in
     get_or_append_left (take from xs ++ replicate (to - from) on) (drop to xs) false i (omega arith) ∙ get_or-append_right (take from xs) (replicate (to - from) on) from i false e p ∙ get_or-replicate (to - from) (i - from) on false (omega arith)
 
-filled_above : (xs : List Bool) (from to : ℕ) (on : Bool) → to ≤ length xs → (i : ℕ) → from ≤ to → to ≤ i → get_or (filled xs from to on) i false ≡ get_or xs i false
+filled_above : (xs : List Bool) (from to : ℕ) (on : Bool) → to ≤ length xs → (i : ℕ) → from ≤ to → to ≤ i → get_or (filled_bits xs from to on) i false ≡ get_or xs i false
 filled_above xs from to on q i p h =
     let e = length-take-le from xs (omega arith) in
     let m = length-append (take from xs) (replicate (to - from) on) in
@@ -54,11 +54,11 @@ filled_above xs from to on q i p h =
     get_or-append_right (take from xs ++ replicate (to - from) on) (drop to xs) to i false (omega arith) h ∙ get_or-drop to xs (i - to) false ∙ ap (λ k. get_or xs k false) (omega arith)
 
 -- words that are filled in part hold a list that is filled in part
-pub bits_filled : (old new : List ℕ) (n from to : ℕ) (on : Bool) → from ≤ to → to ≤ n → IsFilled old new from to on → bits_of new n ≡ filled (bits_of old n) from to on
+pub bits_filled : (old new : List ℕ) (n from to : ℕ) (on : Bool) → from ≤ to → to ≤ n → IsFilled old new from to on → bits_of new n ≡ filled_bits (bits_of old n) from to on
 bits_filled old new n from to on p q f =
     let e = bits_length old n in
     let k : to ≤ length (bits_of old n) = omega arith in
-    bits_are new n (filled (bits_of old n) from to on) (length-filled (bits_of old n) from to on p k ∙ e) (λ i h.
+    bits_are new n (filled_bits (bits_of old n) from to on) (length-filled (bits_of old n) from to on p k ∙ e) (λ i h.
     elim (cases_lt i from) [
       | inl a ↦ f.below i a ∙ sym (bits_at old n i false h) ∙ sym (filled_below (bits_of old n) from to on k i p a)
       | inr a ↦ elim (cases_lt i to) [
@@ -68,10 +68,10 @@ bits_filled old new n from to on p q f =
     ])
 
 -- to fill one place is to set it
-pub filled_one : (xs : List Bool) (i : ℕ) (on : Bool) → i < length xs → filled xs i (i + 1) on ≡ slice_set xs i on
+pub filled_one : (xs : List Bool) (i : ℕ) (on : Bool) → i < length xs → filled_bits xs i (i + 1) on ≡ slice_set xs i on
 filled_one xs i on h =
     let k : i + 1 ≤ length xs = omega arith in
-    ext_get_or false (filled xs i (i + 1) on) (slice_set xs i on) (length-filled xs i (i + 1) on (omega arith) k ∙ sym (length-set xs i on)) (λ j _.
+    ext_get_or false (filled_bits xs i (i + 1) on) (slice_set xs i on) (length-filled xs i (i + 1) on (omega arith) k ∙ sym (length-set xs i on)) (λ j _.
     elim (cases_lt j i) [
       | inl a ↦ filled_below xs i (i + 1) on k j (omega arith) a ∙ sym (get_or-set_other xs i j on false (λ e. omega arith))
       | inr a ↦ elim (cases_lt j (i + 1)) [

@@ -3,3 +3,4 @@ pub mod BitMasks
 pub mod BitWords
 pub mod BitCounts
 pub mod BitLists
+pub mod FlatRows

@@ -12,25 +12,25 @@ use Rattle.cube_values.specs.declared.row.StoredRow.{StoredRow}
 use Rattle.cube_values.specs.declared.snapshot.Snapshot.{Snapshot}
 use Rattle.cube_values.specs.Regions.{region_has}
 use Rattle.cube_values.specs.Sees.{sees}
-use Rattle.cube_values.specs.Visible.{Step, steps_of, comes_before, rows_put, deletes, hides, remaining, visible, RisesByEpoch}
-use Rattle.cube_values.specs.Running.{after_operation, after_transaction, left_by}
+use Rattle.cube_values.specs.Visible.{PlacedOperation, placed_operations, comes_before, rows_put, deletes, hides, remaining_rows, visible_rows, RisesByEpoch}
+use Rattle.cube_values.specs.Running.{after_operation, after_transaction, rows_left_by}
 
 -- ---- steps that come one before the other
 
 -- each step comes before those that follow it
-abbrev InOrder : List Step → Type 0
+abbrev InOrder : List PlacedOperation → Type 0
 InOrder [] = Unit {0}
 InOrder (s ∷ later) = AllByRecursion (λ l. (comes_before s l ≡ true) × (comes_before l s ≡ false)) later × InOrder later
 
 -- no step deletes the row
-abbrev keeps : List Step → StoredRow → Bool
+abbrev keeps : List PlacedOperation → StoredRow → Bool
 keeps steps row = not (list_any (λ drop. deletes drop.operation row) steps)
 
 -- the rows of a put that none of the steps hides
-abbrev shown : List Step → Step → List StoredRow
+abbrev shown : List PlacedOperation → PlacedOperation → List StoredRow
 shown steps put = filter (λ row. not (list_any (λ drop. hides drop put row) steps)) (rows_put put.operation)
 
-abbrev run : List StoredRow → List Step → List StoredRow
+abbrev run : List StoredRow → List PlacedOperation → List StoredRow
 run rows steps = fold (λ rows step. after_operation rows step.operation) rows steps
 
 and-true : (b : Bool) → (b && true) ≡ b
@@ -42,17 +42,17 @@ and-false true = refl
 and-false false = refl
 
 -- of steps that all come after a put, those hide a row of it that delete it
-hidden_first : (put : Step) (row : StoredRow) (later : List Step) → AllByRecursion (λ l. (comes_before put l ≡ true) × (comes_before l put ≡ false)) later
+hidden_first : (put : PlacedOperation) (row : StoredRow) (later : List PlacedOperation) → AllByRecursion (λ l. (comes_before put l ≡ true) × (comes_before l put ≡ false)) later
     → list_any (λ drop. hides drop put row) later ≡ list_any (λ drop. deletes drop.operation row) later
 hidden_first put row [] h = refl
 hidden_first put row (l ∷ later) h = λ i. (ap (λ b. deletes l.operation row && b) h.0.0 ∙ and-true (deletes l.operation row)) i || hidden_first put row later h.1 i
 
 -- a step hides no row of a put that comes after it
-not_hidden_first : (s put : Step) (row : StoredRow) → comes_before put s ≡ false → hides s put row ≡ false
+not_hidden_first : (s put : PlacedOperation) (row : StoredRow) → comes_before put s ≡ false → hides s put row ≡ false
 not_hidden_first s put row h = ap (λ b. deletes s.operation row && b) h ∙ and-false (deletes s.operation row)
 
 -- so what is shown of later puts is the same with the step as without
-same_later : (s : Step) (steps later : List Step) → AllByRecursion (λ l. (comes_before s l ≡ true) × (comes_before l s ≡ false)) later → flat_map (shown (s ∷ steps)) later ≡ flat_map (shown steps) later
+same_later : (s : PlacedOperation) (steps later : List PlacedOperation) → AllByRecursion (λ l. (comes_before s l ≡ true) × (comes_before l s ≡ false)) later → flat_map (shown (s ∷ steps)) later ≡ flat_map (shown steps) later
 same_later s steps [] h = refl
 same_later s steps (l ∷ later) h = λ i. filter (λ row. not (not_hidden_first s l row h.0.1 i || list_any (λ drop. hides drop l row) steps)) (rows_put l.operation) ++ same_later s steps later h.1 i
 
@@ -69,31 +69,31 @@ not-or true b = refl
 not-or false b = refl
 
 -- a step in front of steps that all come after it
-abbrev Runs : List Step → Type 0
-Runs steps = (rows : List StoredRow) → run rows steps ≡ filter (keeps steps) rows ++ remaining steps
+abbrev Runs : List PlacedOperation → Type 0
+Runs steps = (rows : List StoredRow) → run rows steps ≡ filter (keeps steps) rows ++ remaining_rows steps
 
 -- the same rows, with the step that follows
-abbrev AllAfter : Step → List Step → Type 0
+abbrev AllAfter : PlacedOperation → List PlacedOperation → Type 0
 AllAfter s later = AllByRecursion (λ l. (comes_before s l ≡ true) × (comes_before l s ≡ false)) later
 
-put_is : (epoch place : ℕ) (new : List StoredRow) (later : List Step) → let s : Step = record { epoch = epoch; place = place; operation = Put new } in AllAfter s later → Runs later → Runs (s ∷ later)
+put_is : (epoch place : ℕ) (new : List StoredRow) (later : List PlacedOperation) → let s : PlacedOperation = record { epoch = epoch; place = place; operation = Put new } in AllAfter s later → Runs later → Runs (s ∷ later)
 put_is epoch place new later after rest rows =
-    let s : Step = record { epoch = epoch; place = place; operation = Put new } in
+    let s : PlacedOperation = record { epoch = epoch; place = place; operation = Put new } in
     let own : filter (keeps later) new ≡ shown (s ∷ later) s = λ i. filter (λ row. not (sym (hidden_first s row later after) i)) new in
-    let others : remaining later ≡ flat_map (shown (s ∷ later)) later = sym (same_later s later later after) in
+    let others : remaining_rows later ≡ flat_map (shown (s ∷ later)) later = sym (same_later s later later after) in
     rest (rows ++ new)
-    ∙ ap (λ kept. kept ++ remaining later) (filter-append (keeps later) rows new)
-    ∙ append_assoc (filter (keeps later) rows) (filter (keeps later) new) (remaining later)
+    ∙ ap (λ kept. kept ++ remaining_rows later) (filter-append (keeps later) rows new)
+    ∙ append_assoc (filter (keeps later) rows) (filter (keeps later) new) (remaining_rows later)
     ∙ (λ i. filter (keeps later) rows ++ (own i ++ others i))
 
-drop_is : (epoch place : ℕ) (region : Region) (later : List Step) → let s : Step = record { epoch = epoch; place = place; operation = Drop region } in AllAfter s later → Runs later → Runs (s ∷ later)
+drop_is : (epoch place : ℕ) (region : Region) (later : List PlacedOperation) → let s : PlacedOperation = record { epoch = epoch; place = place; operation = Drop region } in AllAfter s later → Runs later → Runs (s ∷ later)
 drop_is epoch place region later after rest rows =
-    let s : Step = record { epoch = epoch; place = place; operation = Drop region } in
-    let others : remaining later ≡ flat_map (shown (s ∷ later)) later = sym (same_later s later later after) in
+    let s : PlacedOperation = record { epoch = epoch; place = place; operation = Drop region } in
+    let others : remaining_rows later ≡ flat_map (shown (s ∷ later)) later = sym (same_later s later later after) in
     rest (filter (λ row. not (region_has region row)) rows)
     ∙ (λ i. filter-filter (keeps later) (λ row. not (region_has region row)) (keeps (s ∷ later)) (λ row. not-or (region_has region row) (list_any (λ drop. deletes drop.operation row) later)) rows i ++ others i)
 
-step_is : (epoch place : ℕ) (operation : Operation) (later : List Step) → let s : Step = record { epoch = epoch; place = place; operation = operation } in AllAfter s later → Runs later → Runs (s ∷ later)
+step_is : (epoch place : ℕ) (operation : Operation) (later : List PlacedOperation) → let s : PlacedOperation = record { epoch = epoch; place = place; operation = operation } in AllAfter s later → Runs later → Runs (s ∷ later)
 step_is epoch place (Put new) later after rest = put_is epoch place new later after rest
 step_is epoch place (Drop region) later after rest = drop_is epoch place region later after rest
 
@@ -102,25 +102,25 @@ filter_all [] = refl
 filter_all (x ∷ xs) = ap (λ ys. x ∷ ys) (filter_all xs)
 
 -- Steps in order, run on rows, keep of them what none deletes, and add what remains of the steps.
-run_is : (steps : List Step) → InOrder steps → Runs steps
+run_is : (steps : List PlacedOperation) → InOrder steps → Runs steps
 run_is [] h = filter_all
 run_is (s ∷ later) h = step_is s.epoch s.place s.operation later h.0 (run_is later h.1)
 
 -- ---- from transactions to steps
 
-abbrev steps_from : ℕ → ℕ → List Operation → List Step
+abbrev steps_from : ℕ → ℕ → List Operation → List PlacedOperation
 steps_from epoch place operations = map (λ (p : ℕ × Operation). record { epoch = epoch; place = p.0; operation = p.1 }) (enumerate_from place operations)
 
 run_steps : (epoch place : ℕ) (operations : List Operation) (rows : List StoredRow) → fold after_operation rows operations ≡ run rows (steps_from epoch place operations)
 run_steps epoch place [] rows = refl
 run_steps epoch place (o ∷ operations) rows = run_steps epoch (place + 1) operations (after_operation rows o)
 
-run_transactions : (ts : List Transaction) (rows : List StoredRow) → fold after_transaction rows ts ≡ run rows (flat_map steps_of ts)
+run_transactions : (ts : List Transaction) (rows : List StoredRow) → fold after_transaction rows ts ≡ run rows (flat_map placed_operations ts)
 run_transactions [] rows = refl
 run_transactions (t ∷ ts) rows =
     run_transactions ts (after_transaction rows t)
-    ∙ ap (λ so_far. run so_far (flat_map steps_of ts)) (run_steps t.epoch 0 t.operations rows)
-    ∙ sym (fold-append (λ rows step. after_operation rows step.operation) rows (steps_of t) (flat_map steps_of ts))
+    ∙ ap (λ so_far. run so_far (flat_map placed_operations ts)) (run_steps t.epoch 0 t.operations rows)
+    ∙ sym (fold-append (λ rows step. after_operation rows step.operation) rows (placed_operations t) (flat_map placed_operations ts))
 
 filter_steps : (p : ℕ → Bool) (epoch place : ℕ) (operations : List Operation) → filter (λ step. p step.epoch) (steps_from epoch place operations) ≡ cond (p epoch) (steps_from epoch place operations) []
 filter_steps p epoch place [] = both (p epoch)
@@ -135,48 +135,48 @@ filter_steps p epoch place (o ∷ operations) = both (p epoch) (filter_steps p e
     both true e = ap (λ steps. record { epoch = epoch; place = place; operation = o } ∷ steps) e
     both false e = e
 
-filter_transactions : (p : ℕ → Bool) (ts : List Transaction) → filter (λ step. p step.epoch) (flat_map steps_of ts) ≡ flat_map steps_of (filter (λ t. p t.epoch) ts)
+filter_transactions : (p : ℕ → Bool) (ts : List Transaction) → filter (λ step. p step.epoch) (flat_map placed_operations ts) ≡ flat_map placed_operations (filter (λ t. p t.epoch) ts)
 filter_transactions p [] = refl
 filter_transactions p (t ∷ ts) =
-    filter-append (λ step. p step.epoch) (steps_of t) (flat_map steps_of ts)
+    filter-append (λ step. p step.epoch) (placed_operations t) (flat_map placed_operations ts)
     ∙ (λ i. filter_steps p t.epoch 0 t.operations i ++ filter_transactions p ts i)
     ∙ both (p t.epoch)
   where
-    both : (b : Bool) → cond b (steps_of t) [] ++ flat_map steps_of (filter (λ t. p t.epoch) ts) ≡ flat_map steps_of (cond b (t ∷ filter (λ t. p t.epoch) ts) (filter (λ t. p t.epoch) ts))
+    both : (b : Bool) → cond b (placed_operations t) [] ++ flat_map placed_operations (filter (λ t. p t.epoch) ts) ≡ flat_map placed_operations (cond b (t ∷ filter (λ t. p t.epoch) ts) (filter (λ t. p t.epoch) ts))
     both true = refl
     both false = refl
 
 -- ---- the steps of transactions by rising epoch are in order
 
-above_by_epoch : (a b : Step) → a.epoch < b.epoch → (comes_before a b ≡ true) × (comes_before b a ≡ false)
+above_by_epoch : (a b : PlacedOperation) → a.epoch < b.epoch → (comes_before a b ≡ true) × (comes_before b a ≡ false)
 above_by_epoch a b h = (grind (arith, nat_tests), grind (arith, nat_tests))
 
-above_by_place : (a b : Step) → a.epoch ≡ b.epoch → a.place < b.place → (comes_before a b ≡ true) × (comes_before b a ≡ false)
+above_by_place : (a b : PlacedOperation) → a.epoch ≡ b.epoch → a.place < b.place → (comes_before a b ≡ true) × (comes_before b a ≡ false)
 above_by_place a b e h = (grind (arith, nat_tests), grind (arith, nat_tests))
 
 -- a step, then the later ones of its transaction, then the steps of later transactions
-after_own : (s : Step) (place : ℕ) (operations : List Operation) (later : List Step) → s.place < place → AllByRecursion (λ l. s.epoch < l.epoch) later → AllAfter s (steps_from s.epoch place operations ++ later)
+after_own : (s : PlacedOperation) (place : ℕ) (operations : List Operation) (later : List PlacedOperation) → s.place < place → AllByRecursion (λ l. s.epoch < l.epoch) later → AllAfter s (steps_from s.epoch place operations ++ later)
 after_own s place [] [] h all = tt
 after_own s place [] (l ∷ later) h all = (above_by_epoch s l all.0, after_own s place [] later h all.1)
 after_own s place (o ∷ operations) later h all =
     (above_by_place s (record { epoch = s.epoch; place = place; operation = o }) refl h, after_own s (place + 1) operations later (omega arith) all)
 
-own_in_order : (epoch place : ℕ) (operations : List Operation) (later : List Step) → AllByRecursion (λ l. epoch < l.epoch) later → InOrder later → InOrder (steps_from epoch place operations ++ later)
+own_in_order : (epoch place : ℕ) (operations : List Operation) (later : List PlacedOperation) → AllByRecursion (λ l. epoch < l.epoch) later → InOrder later → InOrder (steps_from epoch place operations ++ later)
 own_in_order epoch place [] later all h = h
 own_in_order epoch place (o ∷ operations) later all h =
     (after_own (record { epoch = epoch; place = place; operation = o }) (place + 1) operations later (omega arith) all, own_in_order epoch (place + 1) operations later all h)
 
-later_steps : (epoch other place : ℕ) (operations : List Operation) (later : List Step) → epoch < other → AllByRecursion (λ l. epoch < l.epoch) later → AllByRecursion (λ l. epoch < l.epoch) (steps_from other place operations ++ later)
+later_steps : (epoch other place : ℕ) (operations : List Operation) (later : List PlacedOperation) → epoch < other → AllByRecursion (λ l. epoch < l.epoch) later → AllByRecursion (λ l. epoch < l.epoch) (steps_from other place operations ++ later)
 later_steps epoch other place [] later h all = all
 later_steps epoch other place (o ∷ operations) later h all = (h, later_steps epoch other (place + 1) operations later h all)
 
-later_transactions : (epoch : ℕ) (ts : List Transaction) → AllByRecursion (λ u. epoch < u.epoch) ts → AllByRecursion (λ l. epoch < l.epoch) (flat_map steps_of ts)
+later_transactions : (epoch : ℕ) (ts : List Transaction) → AllByRecursion (λ u. epoch < u.epoch) ts → AllByRecursion (λ l. epoch < l.epoch) (flat_map placed_operations ts)
 later_transactions epoch [] h = tt
-later_transactions epoch (t ∷ ts) h = later_steps epoch t.epoch 0 t.operations (flat_map steps_of ts) h.0 (later_transactions epoch ts h.1)
+later_transactions epoch (t ∷ ts) h = later_steps epoch t.epoch 0 t.operations (flat_map placed_operations ts) h.0 (later_transactions epoch ts h.1)
 
-all_in_order : (ts : List Transaction) → RisesByEpoch ts → InOrder (flat_map steps_of ts)
+all_in_order : (ts : List Transaction) → RisesByEpoch ts → InOrder (flat_map placed_operations ts)
 all_in_order [] h = tt
-all_in_order (t ∷ ts) h = own_in_order t.epoch 0 t.operations (flat_map steps_of ts) (later_transactions t.epoch ts h.0) (all_in_order ts h.1)
+all_in_order (t ∷ ts) h = own_in_order t.epoch 0 t.operations (flat_map placed_operations ts) (later_transactions t.epoch ts h.0) (all_in_order ts h.1)
 
 All-filter : (epoch : ℕ) (p : Transaction → Bool) (ts : List Transaction) → AllByRecursion (λ u. epoch < u.epoch) ts → AllByRecursion (λ u. epoch < u.epoch) (filter p ts)
 All-filter epoch p [] h = tt
@@ -195,9 +195,9 @@ RisesByEpoch-filter p (t ∷ ts) h = both (p t) (All-filter t.epoch p ts h.0) (R
     both true here rest = (here, rest)
     both false here rest = rest
 
-pub what_is_left : (s : Snapshot) (transactions : List Transaction) → RisesByEpoch transactions → visible s transactions ≡ left_by (filter (λ t. sees s t.epoch) transactions)
+pub what_is_left : (s : Snapshot) (transactions : List Transaction) → RisesByEpoch transactions → visible_rows s transactions ≡ rows_left_by (filter (λ t. sees s t.epoch) transactions)
 what_is_left s transactions h =
     let seen : List Transaction = filter (λ t. sees s t.epoch) transactions in
-    ap remaining (filter_transactions (sees s) transactions)
-    ∙ sym (run_is (flat_map steps_of seen) (all_in_order seen (RisesByEpoch-filter (λ t. sees s t.epoch) transactions h)) [])
+    ap remaining_rows (filter_transactions (sees s) transactions)
+    ∙ sym (run_is (flat_map placed_operations seen) (all_in_order seen (RisesByEpoch-filter (λ t. sees s t.epoch) transactions h)) [])
     ∙ sym (run_transactions seen [])

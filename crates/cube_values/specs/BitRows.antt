@@ -20,13 +20,13 @@ is_set words i = has_bit (slice_index words (i / 64)) (i % 64)
 unfoldable pub bits_of : List ℕ → ℕ → List Bool
 bits_of words n = map (is_set words) (range_with_len 0 n)
 
--- How many words n bits take: the last of them may be filled in part.
+-- How many words n bits take: the last of them may be filled_bits in part.
 abbrev pub word_count : ℕ → ℕ
 word_count n = n / 64 + min 1 (n % 64)
 
 -- The bits, with those from `from` up to `to` turned `on`, and the others as they were.
-abbrev pub filled : List Bool → ℕ → ℕ → Bool → List Bool
-filled bits from to on = take from bits ++ replicate (to - from) on ++ drop to bits
+abbrev pub filled_bits : List Bool → ℕ → ℕ → Bool → List Bool
+filled_bits bits from to on = take from bits ++ replicate (to - from) on ++ drop to bits
 
 -- How many of the bits are set.
 abbrev pub set_bits : List Bool → ℕ

@@ -10,3 +10,6 @@ pub mod Running
 pub mod Queries
 pub mod Answer
 pub mod BitRows
+pub mod First
+pub mod Faults
+pub mod Batches

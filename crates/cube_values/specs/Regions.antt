@@ -4,8 +4,8 @@ use Rattle.std.specs.Prelude.{Bool, false, not, ◌&&◌, List, slice_get, int_l
 use Rattle.std.specs.List.{list_any, list_all}
 use Rattle.std.specs.Option.{option_map_or}
 use Rattle.std.specs.Str.{bytes_eq}
-use Rattle.cube_values.specs.declared.operation.Test.{Test}
-use Rattle.cube_values.specs.declared.operation.Test.TheVariants.{Equal, OneOf, Between}
+use Rattle.cube_values.specs.declared.operation.ValueTest.{ValueTest}
+use Rattle.cube_values.specs.declared.operation.ValueTest.TheVariants.{Equal, OneOf, Between}
 use Rattle.cube_values.specs.declared.operation.Condition.{Condition}
 use Rattle.cube_values.specs.declared.operation.Region.{Region}
 use Rattle.cube_values.specs.declared.row.StoredRow.{StoredRow}
@@ -19,7 +19,7 @@ lies_between (Int low) (Int high) (Int n) = not (int_lt n low) && not (int_lt hi
 lies_between low high value = false
 
 -- A test passes a value.
-abbrev pub passes : Test → Value → Bool
+abbrev pub passes : ValueTest → Value → Bool
 passes (Equal wanted) value = value_eq wanted value
 passes (OneOf wanted) value = list_any (λ w. value_eq w value) wanted
 passes (Between low high) value = lies_between low high value

@@ -7,7 +7,7 @@ use Rattle.cube_values.specs.declared.row.StoredRow.{StoredRow}
 use Rattle.cube_values.specs.declared.snapshot.Snapshot.{Snapshot}
 use Rattle.cube_values.specs.Regions.{region_has}
 use Rattle.cube_values.specs.Sees.{sees}
-use Rattle.cube_values.specs.Visible.{visible, RisesByEpoch}
+use Rattle.cube_values.specs.Visible.{visible_rows, RisesByEpoch}
 
 -- A put appends its rows, a drop keeps the rows outside its region.
 abbrev pub after_operation : List StoredRow → Operation → List StoredRow
@@ -19,11 +19,11 @@ abbrev pub after_transaction : List StoredRow → Transaction → List StoredRow
 after_transaction rows t = fold after_operation rows t.operations
 
 -- What transactions leave, run one after the other from no rows.
-abbrev pub left_by : List Transaction → List StoredRow
-left_by transactions = fold after_transaction [] transactions
+abbrev pub rows_left_by : List Transaction → List StoredRow
+rows_left_by transactions = fold after_transaction [] transactions
 
 -- A snapshot sees, row for row, what the transactions that it sees leave, run in the order of their epochs.
 abbrev pub SeesWhatIsLeft : Type 0
 SeesWhatIsLeft =
     (s : Snapshot) (transactions : List Transaction) → RisesByEpoch transactions
-    → visible s transactions ≡ left_by (filter (λ t. sees s t.epoch) transactions)
+    → visible_rows s transactions ≡ rows_left_by (filter (λ t. sees s t.epoch) transactions)

@@ -9,8 +9,8 @@ abbrev pub sees : Snapshot → ℕ → Bool
 sees s epoch = nat_le epoch s.epoch && not (list_any (λ dep. dep == epoch) s.deps)
 
 -- The same as a fact.
-abbrev pub Sees : Snapshot → ℕ → Type 0
-Sees s epoch = (epoch ≤ s.epoch) × (Contains s.deps epoch → ⊥)
+abbrev pub CanSee : Snapshot → ℕ → Type 0
+CanSee s epoch = (epoch ≤ s.epoch) × (Contains s.deps epoch → ⊥)
 
 -- A reader is admissible for an epoch where it has no deps and its own epoch is at least that one, a
 -- writer where its epoch and all its deps are above it.

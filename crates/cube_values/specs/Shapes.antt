@@ -1,6 +1,7 @@
 -- Shapes of cubes that can be stored, and their bricks.
 -- Source: Cubrick (VLDB 2016), granular partitioning of the space of dimensions; the limits are this project's own.
 use Rattle.std.specs.Prelude.{ℕ, ◌+◌, ◌-◌, ◌*◌, ◌/◌, ◌^◌, ◌<◌, ◌≤◌, ◌≡◌, List, [], ◌∷◌, length, All}
+use Rattle.cube_values.specs.declared.shape.TheConstants.{MOST_BRICKS, MOST_COLUMNS}
 use Rattle.cube_values.specs.declared.shape.Size.{Size}
 use Rattle.cube_values.specs.declared.shape.Shape.{Shape}
 use Rattle.cube_values.specs.declared.shape.CubeShape.{CubeShape}
@@ -20,14 +21,14 @@ pub record IsSoundSize (s : Size) : Type 0 where
   pub fits : s.range ≤ s.cardinality
   pub small : s.cardinality < 2 ^ 32
 
--- At most sixteen dimensions, each sound, and at most 2 ^ 62 bricks.
+-- Sound dimensions, of which there are not too many, and not too many bricks.
 pub record IsSoundShape (shape : Shape) : Type 0 where
   pub sizes : All IsSoundSize shape.sizes
-  pub bricks : bricks_of shape.sizes ≤ 2 ^ 62
-  pub dims : length shape.sizes ≤ 16
+  pub bricks : bricks_of shape.sizes ≤ MOST_BRICKS
+  pub dims : length shape.sizes ≤ MOST_COLUMNS
 
--- A sound shape with a flag for each dimension and at most sixteen metrics.
+-- A sound shape with a flag for each dimension, and not too many metrics.
 pub record IsSoundCube (cube : CubeShape) : Type 0 where
   pub shape : IsSoundShape cube.shape
   pub flags : length cube.texts ≡ length cube.shape.sizes
-  pub metrics : cube.metrics ≤ 16
+  pub metrics : cube.metrics ≤ MOST_COLUMNS

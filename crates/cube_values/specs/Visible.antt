@@ -12,17 +12,17 @@ use Rattle.cube_values.specs.Regions.{region_has}
 use Rattle.cube_values.specs.Sees.{sees}
 
 -- An operation, with the epoch of its transaction and its place there.
-pub record Step : Type 0 where
+pub record PlacedOperation : Type 0 where
   pub epoch : ℕ
   pub place : ℕ
   pub operation : Operation
 
 -- The operations of a transaction, in order.
-abbrev pub steps_of : Transaction → List Step
-steps_of t = map (λ p. record { epoch = t.epoch; place = p.0; operation = p.1 }) (enumerate_from 0 t.operations)
+abbrev pub placed_operations : Transaction → List PlacedOperation
+placed_operations t = map (λ p. record { epoch = t.epoch; place = p.0; operation = p.1 }) (enumerate_from 0 t.operations)
 
--- A step comes before another by its epoch, or in one transaction by its place.
-abbrev pub comes_before : Step → Step → Bool
+-- An operation comes before another by its epoch, or in one transaction by its place.
+abbrev pub comes_before : PlacedOperation → PlacedOperation → Bool
 comes_before a b = nat_lt a.epoch b.epoch || (a.epoch == b.epoch && nat_lt a.place b.place)
 
 -- The rows that an operation puts.
@@ -35,17 +35,17 @@ abbrev pub deletes : Operation → StoredRow → Bool
 deletes (Put rows) row = false
 deletes (Drop region) row = region_has region row
 
--- A deletion hides the rows of its region that an earlier step put.
-abbrev pub hides : Step → Step → StoredRow → Bool
+-- A deletion hides the rows of its region that an earlier operation put.
+abbrev pub hides : PlacedOperation → PlacedOperation → StoredRow → Bool
 hides drop put row = deletes drop.operation row && comes_before put drop
 
--- What remains of steps: the rows that each puts, without those that one of them hides.
-abbrev pub remaining : List Step → List StoredRow
-remaining steps = flat_map (λ put. filter (λ row. not (list_any (λ drop. hides drop put row) steps)) (rows_put put.operation)) steps
+-- The rows that remain of operations: those that each puts, without those that one of them hides.
+abbrev pub remaining_rows : List PlacedOperation → List StoredRow
+remaining_rows all = flat_map (λ put. filter (λ row. not (list_any (λ drop. hides drop put row) all)) (rows_put put.operation)) all
 
--- What a snapshot sees is what remains of the steps whose epochs it sees.
-abbrev pub visible : Snapshot → List Transaction → List StoredRow
-visible s transactions = remaining (filter (λ step. sees s step.epoch) (flat_map steps_of transactions))
+-- The rows that a snapshot sees are those that remain of the operations whose epochs it sees.
+abbrev pub visible_rows : Snapshot → List Transaction → List StoredRow
+visible_rows s transactions = remaining_rows (filter (λ placed. sees s placed.epoch) (flat_map placed_operations transactions))
 
 -- Each transaction has an epoch below those that follow it.
 abbrev pub RisesByEpoch : List Transaction → Type 0

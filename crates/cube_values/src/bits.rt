@@ -3,7 +3,7 @@
 ghost use Rattle.std.specs.Prelude.{◌≡◌, ℕ, ◌+◌, ◌-◌, ◌*◌, ◌^◌, ◌<◌, ◌≤◌, ◌⊎◌, true, false, length, max, replicate, slice_set, slice_index_or, sum_by, IsOk, IfOk, OnOk, OnErr};
 ghost use Rattle.std.specs.Int.{bit_at};
 ghost use Rattle.std.specs.Int.RustNames.{count_ones};
-ghost use Rattle.cube_values.specs.BitRows.{has_bit, is_set, bits_of, word_count, filled, set_bits, IsFilled};
+ghost use Rattle.cube_values.specs.BitRows.{has_bit, is_set, bits_of, word_count, filled_bits, set_bits, IsFilled};
 
 use std::alloc::{AllocError, Global};
 use std::marker::Model;
@@ -83,7 +83,7 @@ impl Bits {
     pub fn fill(&mut self, from: u64, to: u64, on: bool)
         requires order { from ≤ to }
         requires within { to ≤ length self.old.bits }
-        ensures bits { self.new.bits ≡ filled self.old.bits from to on }
+        ensures bits { self.new.bits ≡ filled_bits self.old.bits from to on }
         ensures room { self.new.room ≡ self.old.room }
     {
         fill_bits(self.words.as_mut_slice(), from, to, on);

@@ -15,12 +15,13 @@ pub struct EpochList {
 
 impl Model for EpochList {
     ghost use Rattle.std.specs.Prelude.{ℕ, ◌≤◌, List, length};
+    ghost use Rattle.cube_values.specs.declared.epoch_list.TheConstants.EpochList.{MOST};
 
     ghost Value = { List ℕ };
 
     ghost view = { λ l. l.epochs.items };
 
-    ghost invariant = { λ l. length l.epochs.items ≤ 16 };
+    ghost invariant = { λ l. length l.epochs.items ≤ MOST };
 }
 
 impl EpochList {
@@ -38,14 +39,14 @@ impl EpochList {
 
     /// Whether no epoch can be appended.
     pub fn is_full(&self) -> bool
-        ensures { IsTrue result ↔ (length self.now ≡ 16) }
+        ensures { IsTrue result ↔ (length self.now ≡ EpochList.MOST) }
     {
         self.epochs.is_full()
     }
 
     /// Appends an epoch.
     pub fn push(&mut self, epoch: u64)
-        requires { length self.old < 16 }
+        requires { length self.old < EpochList.MOST }
         ensures { self.new ≡ self.old ++ epoch ∷ [] }
     {
         self.epochs.push(epoch);
@@ -70,7 +71,7 @@ impl EpochList {
     /// The epochs.
     pub fn as_slice(&self) -> &[u64]
         ensures items { result.now ≡ self.now }
-        ensures most { length self.now ≤ 16 }
+        ensures most { length self.now ≤ EpochList.MOST }
     {
         self.epochs.as_slice()
     }

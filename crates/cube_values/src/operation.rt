@@ -5,9 +5,9 @@ use crate::sequence::Sequence;
 use crate::text::Text;
 use crate::value::{Value, Values};
 
-/// A test on one value.
+/// A test on the value of a dimension.
 #[derive(Clone, Debug, Drop)]
-pub enum Test {
+pub enum ValueTest {
     /// The value is this one.
     Equal(Value),
     /// The value is one of these.
@@ -16,12 +16,12 @@ pub enum Test {
     Between(Value, Value),
 }
 
-/// A test on the value of one dimension.
+/// A test on the value at a place.
 #[derive(Clone, Debug, Drop)]
 pub struct Condition {
     /// The place of the dimension in its cube, from 0.
     pub place: u32,
-    pub test: Test,
+    pub test: ValueTest,
 }
 
 /// Conditions that all have to hold.

@@ -48,6 +48,3 @@ pub type Rows = Sequence<Row>;
 
 /// Rows with their cubes' names.
 pub type StoredRows = Sequence<StoredRow>;
-
-/// Rows by coordinates.
-pub type CodedRows = Sequence<CodedRow>;

@@ -2,6 +2,12 @@
 
 use crate::sequence::Sequence;
 
+/// How many dimensions a cube has at most, and how many metrics.
+pub const MOST_COLUMNS: u32 = 16;
+
+/// How many bricks a cube has at most.
+pub const MOST_BRICKS: u64 = 1 << 62;
+
 /// How many coordinates a dimension has, and how many of them lie in one range.
 #[derive(Clone, Copy, Debug, PartialEq, Eq)]
 pub struct Size {

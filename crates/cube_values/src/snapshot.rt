@@ -1,7 +1,7 @@
 //! What a statement or a transaction sees.
 
 ghost use Rattle.std.specs.Prelude.{◌≡◌, ◌↔◌, IsTrue};
-ghost use Rattle.cube_values.specs.Sees.{sees, Sees, admissible, IsAdmissible};
+ghost use Rattle.cube_values.specs.Sees.{sees, CanSee, admissible, IsAdmissible};
 
 use crate::epoch_list::EpochList;
 
@@ -19,7 +19,7 @@ impl Snapshot {
     /// Whether it sees what the epoch wrote.
     pub fn sees(&self, epoch: u64) -> bool
         ensures value { result ≡ sees self.now epoch }
-        ensures meaning { IsTrue result ↔ Sees self.now epoch }
+        ensures meaning { IsTrue result ↔ CanSee self.now epoch }
     {
         epoch <= self.epoch && !self.deps.contains(epoch)
     }

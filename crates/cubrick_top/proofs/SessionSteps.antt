@@ -10,7 +10,7 @@ use Rattle.cube_values.specs.declared.operation.Operation.{Operation}
 use Rattle.cube_values.specs.declared.operation.Transaction.{Transaction}
 use Rattle.cube_values.specs.Answer.{answer}
 use Rattle.cube_values.specs.Sees.{sees}
-use Rattle.cube_values.specs.Visible.{Step, steps_of, remaining, visible, RisesByEpoch}
+use Rattle.cube_values.specs.Visible.{PlacedOperation, placed_operations, remaining_rows, visible_rows, RisesByEpoch}
 use Rattle.cube_journal.specs.declared.reply.Reply.TheVariants.{Rows}
 use Rattle.cube_journal.specs.Replies.{numbered}
 use Rattle.cubrick_top.specs.declared.action.Action.{Action}
@@ -46,25 +46,25 @@ RisesByEpoch-front (t ∷ a) b h = (All-front t.epoch a b h.0, RisesByEpoch-fron
 -- ---- a reader does not see later transactions
 
 unseen_steps : (n epoch place : ℕ) (operations : List Operation) → n < epoch
-    → filter (λ (step : Step). sees (reader_at n) step.epoch) (map (λ (p : ℕ × Operation). record { epoch = epoch; place = p.0; operation = p.1 }) (enumerate_from place operations)) ≡ []
+    → filter (λ (step : PlacedOperation). sees (reader_at n) step.epoch) (map (λ (p : ℕ × Operation). record { epoch = epoch; place = p.0; operation = p.1 }) (enumerate_from place operations)) ≡ []
 unseen_steps n epoch place [] h = refl
 unseen_steps n epoch place (o ∷ operations) h =
     let not_seen : sees (reader_at n) epoch ≡ false = grind (arith, nat_tests) in
     rw not_seen (unseen_steps n epoch (place + 1) operations h)
 
-unseen : (n : ℕ) (ts : List Transaction) → AllByRecursion (λ t. n < t.epoch) ts → filter (λ step. sees (reader_at n) step.epoch) (flat_map steps_of ts) ≡ []
+unseen : (n : ℕ) (ts : List Transaction) → AllByRecursion (λ t. n < t.epoch) ts → filter (λ step. sees (reader_at n) step.epoch) (flat_map placed_operations ts) ≡ []
 unseen n [] h = refl
 unseen n (t ∷ ts) h =
-    filter-append (λ step. sees (reader_at n) step.epoch) (steps_of t) (flat_map steps_of ts)
+    filter-append (λ step. sees (reader_at n) step.epoch) (placed_operations t) (flat_map placed_operations ts)
     ∙ (λ i. unseen_steps n t.epoch 0 t.operations h.0 i ++ unseen n ts h.1 i)
 
-pub visible_front : (n : ℕ) (a b : List Transaction) → AllByRecursion (λ t. n < t.epoch) b → visible (reader_at n) (a ++ b) ≡ visible (reader_at n) a
+pub visible_front : (n : ℕ) (a b : List Transaction) → AllByRecursion (λ t. n < t.epoch) b → visible_rows (reader_at n) (a ++ b) ≡ visible_rows (reader_at n) a
 visible_front n a b h =
-    ap remaining (
-    ap (filter (λ step. sees (reader_at n) step.epoch)) (flat_map-append steps_of a b)
-    ∙ filter-append (λ step. sees (reader_at n) step.epoch) (flat_map steps_of a) (flat_map steps_of b)
-    ∙ ap (λ steps. filter (λ step. sees (reader_at n) step.epoch) (flat_map steps_of a) ++ steps) (unseen n b h)
-    ∙ append-nil (filter (λ step. sees (reader_at n) step.epoch) (flat_map steps_of a))
+    ap remaining_rows (
+    ap (filter (λ step. sees (reader_at n) step.epoch)) (flat_map-append placed_operations a b)
+    ∙ filter-append (λ step. sees (reader_at n) step.epoch) (flat_map placed_operations a) (flat_map placed_operations b)
+    ∙ ap (λ steps. filter (λ step. sees (reader_at n) step.epoch) (flat_map placed_operations a) ++ steps) (unseen n b h)
+    ∙ append-nil (filter (λ step. sees (reader_at n) step.epoch) (flat_map placed_operations a))
     )
 
 -- ---- one action more

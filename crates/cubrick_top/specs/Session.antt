@@ -7,7 +7,7 @@ use Rattle.cube_values.specs.declared.query.Query.{Query}
 use Rattle.cube_values.specs.declared.row.StoredRow.{StoredRow}
 use Rattle.cube_values.specs.declared.snapshot.Snapshot.{Snapshot}
 use Rattle.cube_values.specs.Answer.{answer}
-use Rattle.cube_values.specs.Visible.{visible}
+use Rattle.cube_values.specs.Visible.{visible_rows}
 use Rattle.cube_journal.specs.declared.refusal.Refusal.TheVariants.{Syntax as NoStatement}
 use Rattle.cube_journal.specs.declared.reply.Reply.{Reply}
 use Rattle.cube_journal.specs.declared.reply.Reply.TheVariants.{Rows, Stored, Refused}
@@ -32,7 +32,7 @@ reader_at epoch = record { epoch = epoch; deps = []; own = false }
 
 -- The answer to a query over what a reader at an epoch sees.
 abbrev pub rows_reply : List Transaction → ℕ → Query → Reply
-rows_reply transactions epoch query = Rows epoch (answer query (visible (reader_at epoch) transactions))
+rows_reply transactions epoch query = Rows epoch (answer query (visible_rows (reader_at epoch) transactions))
 
 -- The reply to an action before which so many rows were stored, where these are all transactions of the session.
 abbrev pub reply_to : List Transaction → ℕ → Action → Reply

@@ -53,7 +53,7 @@ fn rows_reply(
         deps: EpochList::new(),
         own: false,
     };
-    let rows = plain_history::visible(alloc, &snapshot, transactions)?;
+    let rows = plain_history::visible_rows(alloc, &snapshot, transactions)?;
     let table = plain_history::answer(alloc, query, rows.as_slice())?;
     Ok(Reply::Rows { epoch, table })
 }

@@ -9,16 +9,15 @@ use Rattle.cube_values.specs.declared.entry.Entry.{Entry}
 use Rattle.cube_values.specs.declared.entry.Entry.TheVariants.{Run, Mark}
 use Rattle.cube_values.specs.declared.snapshot.Snapshot.{Snapshot}
 use Rattle.cube_values.specs.BitRows.{set_bits}
-use Rattle.cube_values.specs.EpochsVector.{Leads, epoch_at, is_hidden_by}
+use Rattle.cube_values.specs.EpochsVector.{Leads, epoch_at, is_hidden_by, is_one_with, maker, rows_after, with_entry, with_rows_after}
 use Rattle.cube_values.specs.Sees.{sees}
-use Rattle.epochs_vector.specs.Entries.{joins, with_entry}
-use Rattle.epochs_vector.specs.Without.{epoch_of, rows_at, at_rows, staying, staying_before, others, without, ChangesNoOtherRow}
+use Rattle.epochs_vector.specs.Without.{staying, staying_before, others, without, ChangesNoOtherRow}
 use Rattle.epochs_vector.proofs.Ends.{lead_more, vector_rows}
 use Rattle.epochs_vector.proofs.VisibleRows.{in_run, past_run}
 use Rattle.epochs_vector.proofs.WhatStays.{IsLeft, one_on, others_same, others_other, lead_others, left_whole, length-staying}
 
 -- joined neighbours say what they said apart: the epochs of rows
-epoch_end : (last new : Entry) (zs : List Entry) (n from to more : ℕ) (b : Bool) → joins last new ≡ b → Leads from (last ∷ []) to → Leads to (new ∷ []) more → epoch_at ((if b then new ∷ [] else last ∷ new ∷ []) ++ zs) n ≡ epoch_at (last ∷ new ∷ zs) n
+epoch_end : (last new : Entry) (zs : List Entry) (n from to more : ℕ) (b : Bool) → is_one_with last new ≡ b → Leads from (last ∷ []) to → Leads to (new ∷ []) more → epoch_at ((if b then new ∷ [] else last ∷ new ∷ []) ++ zs) n ≡ epoch_at (last ∷ new ∷ zs) n
 epoch_end last new zs n from to more false h l m = refl
 epoch_end (Run e x) (Run f y) zs n from to more true h l m =
     let same : e ≡ f = grind (arith, nat_tests) in
@@ -32,7 +31,7 @@ epoch_end (Mark e x) (Run f y) zs n from to more true h l m = cc
 
 epoch_with : (xs : List Entry) (new : Entry) (zs : List Entry) (n from to more : ℕ) → Leads from xs to → Leads to (new ∷ []) more → epoch_at (with_entry xs new ++ zs) n ≡ epoch_at (xs ++ new ∷ zs) n
 epoch_with [] new zs n from to more l m = refl
-epoch_with (last ∷ []) new zs n from to more l m = epoch_end last new zs n from to more (joins last new) refl l m
+epoch_with (last ∷ []) new zs n from to more l m = epoch_end last new zs n from to more (is_one_with last new) refl l m
 epoch_with (Run e x ∷ next ∷ xs) new zs n from to more l m = ap (λ o. if nat_lt n x then Some e else o) (epoch_with (next ∷ xs) new zs n x to more l.1 m)
 epoch_with (Mark e x ∷ next ∷ xs) new zs n from to more l m = epoch_with (next ∷ xs) new zs n from to more l.1 m
 
@@ -46,7 +45,7 @@ twice : (a b x : Bool) → a ≡ b → (b || x) ≡ (a || (b || x))
 twice true b x e = rw (← e)
 twice false b x e = refl
 
-hidden_end : (s : Snapshot) (j n : ℕ) (last new : Entry) (zs : List Entry) (b : Bool) → joins last new ≡ b → list_any (is_hidden_by s j n) ((if b then new ∷ [] else last ∷ new ∷ []) ++ zs) ≡ list_any (is_hidden_by s j n) (last ∷ new ∷ zs)
+hidden_end : (s : Snapshot) (j n : ℕ) (last new : Entry) (zs : List Entry) (b : Bool) → is_one_with last new ≡ b → list_any (is_hidden_by s j n) ((if b then new ∷ [] else last ∷ new ∷ []) ++ zs) ≡ list_any (is_hidden_by s j n) (last ∷ new ∷ zs)
 hidden_end s j n last new zs false h = refl
 hidden_end s j n (Run e x) (Run f y) zs true h = refl
 hidden_end s j n (Mark e x) (Mark f y) zs true h =
@@ -58,7 +57,7 @@ hidden_end s j n (Mark e x) (Run f y) zs true h = cc
 
 hidden_with : (s : Snapshot) (j n : ℕ) (xs : List Entry) (new : Entry) (zs : List Entry) → list_any (is_hidden_by s j n) (with_entry xs new ++ zs) ≡ list_any (is_hidden_by s j n) (xs ++ new ∷ zs)
 hidden_with s j n [] new zs = refl
-hidden_with s j n (last ∷ []) new zs = hidden_end s j n last new zs (joins last new) refl
+hidden_with s j n (last ∷ []) new zs = hidden_end s j n last new zs (is_one_with last new) refl
 hidden_with s j n (x ∷ next ∷ xs) new zs = ap (λ b. is_hidden_by s j n x || b) (hidden_with s j n (next ∷ xs) new zs)
 
 hidden_fold : (s : Snapshot) (j n : ℕ) (ys xs : List Entry) → list_any (is_hidden_by s j n) (fold with_entry xs ys) ≡ list_any (is_hidden_by s j n) (xs ++ ys)
@@ -95,7 +94,7 @@ same_order kept i n p h k = elim (cases_lt i n) [
 ]
 
 -- a row that stays is of its epoch still
-epoch_one : (epoch : ℕ) (kept : List Bool) (entry : Entry) (xs : List Entry) (from i : ℕ) (b : Bool) → (epoch_of entry == epoch) ≡ b → IsLeft epoch kept (entry ∷ xs) from → from ≤ i → i < length kept → get_or kept i false ≡ true → (rows_at entry ≤ i → epoch_at (others epoch kept xs) (staying_before kept i) ≡ epoch_at xs i) → epoch_at (others epoch kept (entry ∷ xs)) (staying_before kept i) ≡ epoch_at (entry ∷ xs) i
+epoch_one : (epoch : ℕ) (kept : List Bool) (entry : Entry) (xs : List Entry) (from i : ℕ) (b : Bool) → (maker entry == epoch) ≡ b → IsLeft epoch kept (entry ∷ xs) from → from ≤ i → i < length kept → get_or kept i false ≡ true → (rows_after entry ≤ i → epoch_at (others epoch kept xs) (staying_before kept i) ≡ epoch_at xs i) → epoch_at (others epoch kept (entry ∷ xs)) (staying_before kept i) ≡ epoch_at (entry ∷ xs) i
 epoch_one epoch kept (Mark j at) xs from i true e k p q t later = ap (λ l. epoch_at l (staying_before kept i)) (others_same epoch kept (Mark j at) xs e) ∙ later (omega (arith, k.leads.0))
 epoch_one epoch kept (Mark j at) xs from i false e k p q t later = ap (λ l. epoch_at l (staying_before kept i)) (others_other epoch kept (Mark j at) xs e) ∙ later (omega (arith, k.leads.0))
 epoch_one epoch kept (Run j end) xs from i true e k p q t later =
@@ -113,20 +112,20 @@ epoch_one epoch kept (Run j end) xs from i false e k p q t later =
 epoch_there : (epoch : ℕ) (kept : List Bool) (xs : List Entry) (from i : ℕ) → IsLeft epoch kept xs from → from ≤ i → i < length kept → get_or kept i false ≡ true → epoch_at (others epoch kept xs) (staying_before kept i) ≡ epoch_at xs i
 epoch_there epoch kept [] from i k p q t = refl
 epoch_there epoch kept (entry ∷ xs) from i k p q t =
-    epoch_one epoch kept entry xs from i (epoch_of entry == epoch) refl k p q t (λ a. epoch_there epoch kept xs (rows_at entry) i (one_on epoch kept entry xs from k).next a q t)
+    epoch_one epoch kept entry xs from i (maker entry == epoch) refl k p q t (λ a. epoch_there epoch kept xs (rows_after entry) i (one_on epoch kept entry xs from k).next a q t)
 
 -- a row that stays is hidden by the same marks
-hidden_one : (s : Snapshot) (epoch : ℕ) (kept : List Bool) (j i : ℕ) (entry : Entry) → i < length kept → rows_at entry ≤ length kept → get_or kept i false ≡ true → is_hidden_by s j (staying_before kept i) (at_rows entry (staying_before kept (rows_at entry))) ≡ is_hidden_by s j i entry
+hidden_one : (s : Snapshot) (epoch : ℕ) (kept : List Bool) (j i : ℕ) (entry : Entry) → i < length kept → rows_after entry ≤ length kept → get_or kept i false ≡ true → is_hidden_by s j (staying_before kept i) (with_rows_after entry (staying_before kept (rows_after entry))) ≡ is_hidden_by s j i entry
 hidden_one s epoch kept j i (Run e end) q h t = refl
 hidden_one s epoch kept j i (Mark e at) q h t = ap (λ b. sees s e && (nat_lt j e || (j == e && b))) (same_order kept i at q h t)
 
-unseen_mark : (s : Snapshot) (epoch j i : ℕ) (entry : Entry) → sees s epoch ≡ false → (epoch_of entry == epoch) ≡ true → is_hidden_by s j i entry ≡ false
+unseen_mark : (s : Snapshot) (epoch j i : ℕ) (entry : Entry) → sees s epoch ≡ false → (maker entry == epoch) ≡ true → is_hidden_by s j i entry ≡ false
 unseen_mark s epoch j i (Run e end) u b = refl
 unseen_mark s epoch j i (Mark e at) u b =
     let same : e ≡ epoch = grind (arith, nat_tests) in
     ap (λ x. x && (nat_lt j e || (j == e && nat_lt i at))) (ap (sees s) same ∙ u)
 
-hidden_step : (s : Snapshot) (epoch : ℕ) (kept : List Bool) (j i : ℕ) (entry : Entry) (xs : List Entry) (b : Bool) → (epoch_of entry == epoch) ≡ b → sees s epoch ≡ false → i < length kept → rows_at entry ≤ length kept → get_or kept i false ≡ true → list_any (is_hidden_by s j (staying_before kept i)) (others epoch kept xs) ≡ list_any (is_hidden_by s j i) xs → list_any (is_hidden_by s j (staying_before kept i)) (others epoch kept (entry ∷ xs)) ≡ list_any (is_hidden_by s j i) (entry ∷ xs)
+hidden_step : (s : Snapshot) (epoch : ℕ) (kept : List Bool) (j i : ℕ) (entry : Entry) (xs : List Entry) (b : Bool) → (maker entry == epoch) ≡ b → sees s epoch ≡ false → i < length kept → rows_after entry ≤ length kept → get_or kept i false ≡ true → list_any (is_hidden_by s j (staying_before kept i)) (others epoch kept xs) ≡ list_any (is_hidden_by s j i) xs → list_any (is_hidden_by s j (staying_before kept i)) (others epoch kept (entry ∷ xs)) ≡ list_any (is_hidden_by s j i) (entry ∷ xs)
 hidden_step s epoch kept j i entry xs true e u q h t later =
     ap (list_any (is_hidden_by s j (staying_before kept i))) (others_same epoch kept entry xs e) ∙ later ∙ ap (λ b. b || list_any (is_hidden_by s j i) xs) (sym (unseen_mark s epoch j i entry u e))
 hidden_step s epoch kept j i entry xs false e u q h t later =
@@ -136,7 +135,7 @@ hidden_there : (s : Snapshot) (epoch : ℕ) (kept : List Bool) (j i : ℕ) (xs :
 hidden_there s epoch kept j i [] from k u q t = refl
 hidden_there s epoch kept j i (entry ∷ xs) from k u q t =
     let n = one_on epoch kept entry xs from k in
-    hidden_step s epoch kept j i entry xs (epoch_of entry == epoch) refl u q n.within t (hidden_there s epoch kept j i xs (rows_at entry) n.next u q t)
+    hidden_step s epoch kept j i entry xs (maker entry == epoch) refl u q n.within t (hidden_there s epoch kept j i xs (rows_after entry) n.next u q t)
 
 -- so a snapshot that does not see the epoch sees it or not as before
 alike_at : (s : Snapshot) (o : Option ℕ) (f g : ℕ → Bool) → ((j : ℕ) → f j ≡ g j) → option_map_or (λ j. sees s j && not (f j)) o false ≡ option_map_or (λ j. sees s j && not (g j)) o false

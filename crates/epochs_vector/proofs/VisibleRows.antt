@@ -9,32 +9,31 @@ use Rattle.std.proofs.lemmas.List.FromFn.{length-map-range_with_len, get_or-map-
 use Rattle.cube_values.specs.declared.entry.Entry.{Entry}
 use Rattle.cube_values.specs.declared.entry.Entry.TheVariants.{Run, Mark}
 use Rattle.cube_values.specs.declared.snapshot.Snapshot.{Snapshot}
-use Rattle.cube_values.specs.BitRows.{filled}
-use Rattle.cube_values.specs.EpochsVector.{Leads, epoch_at, is_hidden_by, sees_row}
+use Rattle.cube_values.specs.BitRows.{filled_bits}
+use Rattle.cube_values.specs.EpochsVector.{Leads, epoch_at, is_hidden_by, rows_of, sees_row}
 use Rattle.cube_values.specs.Sees.{sees}
 use Rattle.epochs_vector.specs.declared.limit.Limit.{Limit}
 use Rattle.epochs_vector.specs.Limits.{is_below}
 use Rattle.epochs_vector.specs.Seen.{is_shown, seen_rows, ShowsRun}
-use Rattle.epochs_vector.specs.Entries.{rows_of}
 
 -- a list that is filled in part
-pub long_filled : (xs : List Bool) (from to : ℕ) (on : Bool) → from ≤ to → to ≤ length xs → length (filled xs from to on) ≡ length xs
+pub long_filled : (xs : List Bool) (from to : ℕ) (on : Bool) → from ≤ to → to ≤ length xs → length (filled_bits xs from to on) ≡ length xs
 long_filled xs from to on p q = simp (length-append, length-replicate, length-drop) (omega (arith, length-take-le from xs (omega arith)))
 
-pub at_below : (xs : List Bool) (from to : ℕ) (on : Bool) → from ≤ to → to ≤ length xs → (i : ℕ) → i < from → get_or (filled xs from to on) i false ≡ get_or xs i false
+pub at_below : (xs : List Bool) (from to : ℕ) (on : Bool) → from ≤ to → to ≤ length xs → (i : ℕ) → i < from → get_or (filled_bits xs from to on) i false ≡ get_or xs i false
 at_below xs from to on p q i h =
     let e = length-take-le from xs (omega arith) in
     let m = length-append (take from xs) (replicate (to - from) on) in
     get_or_append_left (take from xs ++ replicate (to - from) on) (drop to xs) false i (omega arith) ∙ get_or_append_left (take from xs) (replicate (to - from) on) false i (omega arith) ∙ get_or-take from xs i false h
 
-pub at_inside : (xs : List Bool) (from to : ℕ) (on : Bool) → to ≤ length xs → (i : ℕ) → from ≤ i → i < to → get_or (filled xs from to on) i false ≡ on
+pub at_inside : (xs : List Bool) (from to : ℕ) (on : Bool) → to ≤ length xs → (i : ℕ) → from ≤ i → i < to → get_or (filled_bits xs from to on) i false ≡ on
 at_inside xs from to on q i p h =
     let e = length-take-le from xs (omega arith) in
     let m = length-append (take from xs) (replicate (to - from) on) in
     let r = length-replicate (to - from) on in
     get_or_append_left (take from xs ++ replicate (to - from) on) (drop to xs) false i (omega arith) ∙ get_or-append_right (take from xs) (replicate (to - from) on) from i false e p ∙ get_or-replicate (to - from) (i - from) on false (omega arith)
 
-pub at_above : (xs : List Bool) (from to : ℕ) (on : Bool) → from ≤ to → to ≤ length xs → (i : ℕ) → to ≤ i → get_or (filled xs from to on) i false ≡ get_or xs i false
+pub at_above : (xs : List Bool) (from to : ℕ) (on : Bool) → from ≤ to → to ≤ length xs → (i : ℕ) → to ≤ i → get_or (filled_bits xs from to on) i false ≡ get_or xs i false
 at_above xs from to on p q i h =
     let e = length-take-le from xs (omega arith) in
     let m = length-append (take from xs) (replicate (to - from) on) in
@@ -45,9 +44,9 @@ at_above xs from to on p q i h =
 both : (a b : Bool) (x : Bool) → a ≡ true → b ≡ x → (a && not b) ≡ not x
 both a b x p q = rw (p, q)
 
-pub run_shown : (s : Snapshot) (limit : Limit) (j from first end : ℕ) (old new : List Bool) → new ≡ filled old first end true → from ≤ first → first ≤ end → end ≤ length old → sees s j ≡ true → ((i : ℕ) → from ≤ i → i < end → is_below limit j i ≡ nat_lt i first) → ((i : ℕ) → from ≤ i → get_or old i false ≡ false) → ShowsRun s limit j from end old new
+pub run_shown : (s : Snapshot) (limit : Limit) (j from first end : ℕ) (old new : List Bool) → new ≡ filled_bits old first end true → from ≤ first → first ≤ end → end ≤ length old → sees s j ≡ true → ((i : ℕ) → from ≤ i → i < end → is_below limit j i ≡ nat_lt i first) → ((i : ℕ) → from ≤ i → get_or old i false ≡ false) → ShowsRun s limit j from end old new
 run_shown s limit j from first end old new e low high within seen below clear =
-    let at : (i : ℕ) → get_or new i false ≡ get_or (filled old first end true) i false = λ i. ap (λ (l : List Bool). get_or l i false) e in
+    let at : (i : ℕ) → get_or new i false ≡ get_or (filled_bits old first end true) i false = λ i. ap (λ (l : List Bool). get_or l i false) e in
     record {
       long = ap length e ∙ long_filled old first end true high within;
       inside = λ i p q. at i ∙ elim (cases_lt i first) [

@@ -8,10 +8,9 @@ use Rattle.std.proofs.lemmas.List.FromFn.{length-map-range_with_len, get_or-map-
 use Rattle.std.proofs.lemmas.List.Sums.{count_by_more_yes, count_by_more_no}
 use Rattle.cube_values.specs.declared.entry.Entry.{Entry}
 use Rattle.cube_values.specs.declared.entry.Entry.TheVariants.{Run, Mark}
-use Rattle.cube_values.specs.BitRows.{filled, set_bits}
-use Rattle.cube_values.specs.EpochsVector.{Leads, IsVector}
-use Rattle.epochs_vector.specs.Entries.{rows_of, with_entry}
-use Rattle.epochs_vector.specs.Without.{epoch_of, rows_at, at_rows, stays, staying, staying_before, others, without}
+use Rattle.cube_values.specs.BitRows.{filled_bits, set_bits}
+use Rattle.cube_values.specs.EpochsVector.{IsVector, Leads, maker, rows_after, rows_of, with_entry, with_rows_after}
+use Rattle.epochs_vector.specs.Without.{stays, staying, staying_before, others, without}
 use Rattle.epochs_vector.proofs.Ends.{vector_rows, vector_more}
 use Rattle.epochs_vector.proofs.VisibleRows.{in_run, past_run, lead_up, long_filled, at_below, at_inside, at_above}
 
@@ -39,10 +38,10 @@ pub record IsLeft (epoch : ℕ) (kept : List Bool) (left : List Entry) (from : �
 
 -- one entry on
 pub record IsNext (epoch : ℕ) (kept : List Bool) (entry : Entry) (rest : List Entry) (from : ℕ) : Type 0 where
-  pub order : from ≤ rows_at entry
-  pub within : rows_at entry ≤ length kept
-  pub next : IsLeft epoch kept rest (rows_at entry)
-  pub here : (i : ℕ) → from ≤ i → i < rows_at entry → get_or kept i false ≡ not (epoch_of entry == epoch)
+  pub order : from ≤ rows_after entry
+  pub within : rows_after entry ≤ length kept
+  pub next : IsLeft epoch kept rest (rows_after entry)
+  pub here : (i : ℕ) → from ≤ i → i < rows_after entry → get_or kept i false ≡ not (maker entry == epoch)
 
 pub one_on : (epoch : ℕ) (kept : List Bool) (entry : Entry) (rest : List Entry) (from : ℕ) → IsLeft epoch kept (entry ∷ rest) from → IsNext epoch kept entry rest from
 one_on epoch kept (Run j end) rest from k =
@@ -69,16 +68,16 @@ one_on epoch kept (Mark j at) rest from k =
     }
 
 -- the rows that stay, past an entry of another epoch and past one of the epoch
-pub counted_other : (epoch : ℕ) (kept : List Bool) (entry : Entry) (rest : List Entry) (from : ℕ) → IsNext epoch kept entry rest from → (epoch_of entry == epoch) ≡ false → staying_before kept (rows_at entry) ≡ staying_before kept from + (rows_at entry - from)
+pub counted_other : (epoch : ℕ) (kept : List Bool) (entry : Entry) (rest : List Entry) (from : ℕ) → IsNext epoch kept entry rest from → (maker entry == epoch) ≡ false → staying_before kept (rows_after entry) ≡ staying_before kept from + (rows_after entry - from)
 counted_other epoch kept entry rest from n b =
-    all_stay kept from (rows_at entry - from) (rows_at entry) (omega (arith, n.order)) n.within (λ i p q. n.here i p q ∙ ap not b)
+    all_stay kept from (rows_after entry - from) (rows_after entry) (omega (arith, n.order)) n.within (λ i p q. n.here i p q ∙ ap not b)
 
-pub counted_same : (epoch : ℕ) (kept : List Bool) (entry : Entry) (rest : List Entry) (from : ℕ) → IsNext epoch kept entry rest from → (epoch_of entry == epoch) ≡ true → staying_before kept (rows_at entry) ≡ staying_before kept from
+pub counted_same : (epoch : ℕ) (kept : List Bool) (entry : Entry) (rest : List Entry) (from : ℕ) → IsNext epoch kept entry rest from → (maker entry == epoch) ≡ true → staying_before kept (rows_after entry) ≡ staying_before kept from
 counted_same epoch kept entry rest from n b =
-    none_stays kept from (rows_at entry - from) (rows_at entry) (omega (arith, n.order)) n.within (λ i p q. n.here i p q ∙ ap not b)
+    none_stays kept from (rows_after entry - from) (rows_after entry) (omega (arith, n.order)) n.within (λ i p q. n.here i p q ∙ ap not b)
 
 -- the others' entries lead to the rows that stay
-lead_one : (kept : List Bool) (entry : Entry) (rest : List Entry) (ys : List Entry) (epoch from rows : ℕ) → IsLeft epoch kept (entry ∷ rest) from → (b : Bool) → (epoch_of entry == epoch) ≡ b → Leads (staying_before kept (rows_at entry)) ys rows → Leads (staying_before kept from) (map (λ e. at_rows e (staying_before kept (rows_at e))) (cond (not b) (entry ∷ []) []) ++ ys) rows
+lead_one : (kept : List Bool) (entry : Entry) (rest : List Entry) (ys : List Entry) (epoch from rows : ℕ) → IsLeft epoch kept (entry ∷ rest) from → (b : Bool) → (maker entry == epoch) ≡ b → Leads (staying_before kept (rows_after entry)) ys rows → Leads (staying_before kept from) (map (λ e. with_rows_after e (staying_before kept (rows_after e))) (cond (not b) (entry ∷ []) []) ++ ys) rows
 lead_one kept (Run j end) rest ys epoch from rows k false e l =
     let n = one_on epoch kept (Run j end) rest from k in
     (omega (arith, k.leads.0, counted_other epoch kept (Run j end) rest from n e), l)
@@ -101,7 +100,7 @@ lead_others epoch kept [] from k = ap set_bits (take_all from kept (omega (arith
 lead_others epoch kept (entry ∷ xs) from k =
     let P : List Entry → Type 0 = λ l. Leads (staying_before kept from) l (set_bits kept) in
     let n = one_on epoch kept entry xs from k in
-    subst P (split_one (λ e. at_rows e (staying_before kept (rows_at e))) (not (epoch_of entry == epoch)) entry (filter (λ e. not (epoch_of e == epoch)) xs)) (lead_one kept entry xs (others epoch kept xs) epoch from (set_bits kept) k (epoch_of entry == epoch) refl (lead_others epoch kept xs (rows_at entry) n.next))
+    subst P (split_one (λ e. with_rows_after e (staying_before kept (rows_after e))) (not (maker entry == epoch)) entry (filter (λ e. not (maker e == epoch)) xs)) (lead_one kept entry xs (others epoch kept xs) epoch from (set_bits kept) k (maker entry == epoch) refl (lead_others epoch kept xs (rows_after entry) n.next))
 
 -- entries put one after another after a vector
 vector_fold : (ys xs : List Entry) (rows more : ℕ) → IsVector xs rows → Leads rows ys more → IsVector (fold with_entry xs ys) more
@@ -166,19 +165,19 @@ same_there xs ys at d e = ap (λ n. get_or xs n d) (omega arith) ∙ sym (get_or
 pub out_next : (epoch : ℕ) (kept : List Bool) (old items : List Entry) (keep : List Bool) (at len from rows : ℕ) (d entry : Entry) → at < length old → get_or items at d ≡ entry → IsTakenOut epoch kept old items keep at len from rows → IsNext epoch kept entry (drop (at + 1) old) from
 out_next epoch kept old items keep at len from rows d entry h e k = at_head epoch kept old at from d entry h (sym (same_there items old at d k.rest) ∙ e) k.left
 
-pub others_same : (epoch : ℕ) (kept : List Bool) (entry : Entry) (rest : List Entry) → (epoch_of entry == epoch) ≡ true → others epoch kept (entry ∷ rest) ≡ others epoch kept rest
+pub others_same : (epoch : ℕ) (kept : List Bool) (entry : Entry) (rest : List Entry) → (maker entry == epoch) ≡ true → others epoch kept (entry ∷ rest) ≡ others epoch kept rest
 others_same epoch kept entry rest b = rw b
 
-pub others_other : (epoch : ℕ) (kept : List Bool) (entry : Entry) (rest : List Entry) → (epoch_of entry == epoch) ≡ false → others epoch kept (entry ∷ rest) ≡ at_rows entry (staying_before kept (rows_at entry)) ∷ others epoch kept rest
+pub others_other : (epoch : ℕ) (kept : List Bool) (entry : Entry) (rest : List Entry) → (maker entry == epoch) ≡ false → others epoch kept (entry ∷ rest) ≡ with_rows_after entry (staying_before kept (rows_after entry)) ∷ others epoch kept rest
 others_other epoch kept entry rest b = rw b
 
 -- past an entry of the epoch
-pub out_same : (epoch : ℕ) (kept : List Bool) (old items : List Entry) (keep new : List Bool) (at len from rows : ℕ) (d entry : Entry) → at < length old → get_or items at d ≡ entry → (epoch_of entry == epoch) ≡ true → IsTakenOut epoch kept old items keep at len from rows → new ≡ filled keep from (rows_at entry) false → IsTakenOut epoch kept old items new (at + 1) len (rows_at entry) rows
+pub out_same : (epoch : ℕ) (kept : List Bool) (old items : List Entry) (keep new : List Bool) (at len from rows : ℕ) (d entry : Entry) → at < length old → get_or items at d ≡ entry → (maker entry == epoch) ≡ true → IsTakenOut epoch kept old items keep at len from rows → new ≡ filled_bits keep from (rows_after entry) false → IsTakenOut epoch kept old items new (at + 1) len (rows_after entry) rows
 out_same epoch kept old items keep new at len from rows d entry h e b k f =
     let n = out_next epoch kept old items keep at len from rows d entry h e k in
     let x : drop at old ≡ entry ∷ drop (at + 1) old = drop_more old at d h ∙ ap (λ y. y ∷ drop (at + 1) old) (sym (same_there items old at d k.rest) ∙ e) in
-    let w : rows_at entry ≤ length keep = omega (arith, n.within, k.long) in
-    let there : (i : ℕ) → get_or new i false ≡ get_or (filled keep from (rows_at entry) false) i false = λ i. ap (λ (l : List Bool). get_or l i false) f in
+    let w : rows_after entry ≤ length keep = omega (arith, n.within, k.long) in
+    let there : (i : ℕ) → get_or new i false ≡ get_or (filled_bits keep from (rows_after entry) false) i false = λ i. ap (λ (l : List Bool). get_or l i false) f in
     record {
       left = n.next;
       rest = drop_more_same items old at k.rest;
@@ -186,21 +185,21 @@ out_same epoch kept old items keep new at len from rows d entry h e b k f =
       counted = k.counted ∙ sym (counted_same epoch kept entry (drop (at + 1) old) from n b);
       below = omega (arith, k.below, n.order);
       front = ap (fold with_entry (take len items)) (sym (ap (others epoch kept) x ∙ others_same epoch kept entry (drop (at + 1) old) b)) ∙ k.front;
-      long = ap length f ∙ long_filled keep from (rows_at entry) false n.order w ∙ k.long;
+      long = ap length f ∙ long_filled keep from (rows_after entry) false n.order w ∙ k.long;
       done = λ i p. there i ∙ elim (cases_lt i from) [
-        | inl a ↦ at_below keep from (rows_at entry) false n.order w i a ∙ k.done i a
-        | inr a ↦ at_inside keep from (rows_at entry) false w i a p ∙ sym (n.here i a p ∙ ap not b)
+        | inl a ↦ at_below keep from (rows_after entry) false n.order w i a ∙ k.done i a
+        | inr a ↦ at_inside keep from (rows_after entry) false w i a p ∙ sym (n.here i a p ∙ ap not b)
       ];
-      full = λ i p q. there i ∙ at_above keep from (rows_at entry) false n.order w i p ∙ k.full i (omega (arith, n.order)) q;
+      full = λ i p q. there i ∙ at_above keep from (rows_after entry) false n.order w i p ∙ k.full i (omega (arith, n.order)) q;
     }
 
 -- past an entry of another epoch
-pub out_other : (epoch : ℕ) (kept : List Bool) (old items new : List Entry) (keep : List Bool) (at len more from rows : ℕ) (d entry : Entry) → at < length old → get_or items at d ≡ entry → (epoch_of entry == epoch) ≡ false → IsTakenOut epoch kept old items keep at len from rows → take more new ≡ with_entry (take len items) (at_rows entry (rows + (rows_at entry - from))) → ((n : ℕ) → len < n → drop n new ≡ drop n items) → more ≤ len + 1 → IsTakenOut epoch kept old new keep (at + 1) more (rows_at entry) (rows + (rows_at entry - from))
+pub out_other : (epoch : ℕ) (kept : List Bool) (old items new : List Entry) (keep : List Bool) (at len more from rows : ℕ) (d entry : Entry) → at < length old → get_or items at d ≡ entry → (maker entry == epoch) ≡ false → IsTakenOut epoch kept old items keep at len from rows → take more new ≡ with_entry (take len items) (with_rows_after entry (rows + (rows_after entry - from))) → ((n : ℕ) → len < n → drop n new ≡ drop n items) → more ≤ len + 1 → IsTakenOut epoch kept old new keep (at + 1) more (rows_after entry) (rows + (rows_after entry - from))
 out_other epoch kept old items new keep at len more from rows d entry h e b k f r m =
     let n = out_next epoch kept old items keep at len from rows d entry h e k in
     let x : drop at old ≡ entry ∷ drop (at + 1) old = drop_more old at d h ∙ ap (λ y. y ∷ drop (at + 1) old) (sym (same_there items old at d k.rest) ∙ e) in
-    let c : rows + (rows_at entry - from) ≡ staying_before kept (rows_at entry) = ap (λ y. y + (rows_at entry - from)) k.counted ∙ sym (counted_other epoch kept entry (drop (at + 1) old) from n b) in
-    let o : others epoch kept (drop at old) ≡ at_rows entry (rows + (rows_at entry - from)) ∷ others epoch kept (drop (at + 1) old) = ap (others epoch kept) x ∙ others_other epoch kept entry (drop (at + 1) old) b ∙ ap (λ y. at_rows entry y ∷ others epoch kept (drop (at + 1) old)) (sym c) in
+    let c : rows + (rows_after entry - from) ≡ staying_before kept (rows_after entry) = ap (λ y. y + (rows_after entry - from)) k.counted ∙ sym (counted_other epoch kept entry (drop (at + 1) old) from n b) in
+    let o : others epoch kept (drop at old) ≡ with_rows_after entry (rows + (rows_after entry - from)) ∷ others epoch kept (drop (at + 1) old) = ap (others epoch kept) x ∙ others_other epoch kept entry (drop (at + 1) old) b ∙ ap (λ y. with_rows_after entry y ∷ others epoch kept (drop (at + 1) old)) (sym c) in
     record {
       left = n.next;
       rest = r (at + 1) (omega (arith, k.within)) ∙ drop_more_same items old at k.rest;

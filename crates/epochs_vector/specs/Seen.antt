@@ -4,10 +4,9 @@ use Rattle.std.specs.List.{range_with_len}
 use Rattle.std.specs.Option.{option_map_or}
 use Rattle.cube_values.specs.declared.entry.Entry.{Entry}
 use Rattle.cube_values.specs.declared.snapshot.Snapshot.{Snapshot}
-use Rattle.cube_values.specs.EpochsVector.{sees_row}
+use Rattle.cube_values.specs.EpochsVector.{rows_of, sees_row}
 use Rattle.cube_values.specs.Sees.{sees}
 use Rattle.epochs_vector.specs.declared.limit.Limit.{Limit}
-use Rattle.epochs_vector.specs.Entries.{rows_of}
 use Rattle.epochs_vector.specs.Limits.{is_below}
 
 -- For each row of a vector, whether a snapshot sees it.

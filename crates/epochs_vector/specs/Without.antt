@@ -4,27 +4,10 @@ use Rattle.std.specs.Prelude.{◌≡◌, ℕ, ◌<◌, Bool, true, false, not, �
 use Rattle.std.specs.List.{range_with_len}
 use Rattle.std.specs.Option.{option_map_or}
 use Rattle.cube_values.specs.declared.entry.Entry.{Entry}
-use Rattle.cube_values.specs.declared.entry.Entry.TheVariants.{Run, Mark}
 use Rattle.cube_values.specs.declared.snapshot.Snapshot.{Snapshot}
 use Rattle.cube_values.specs.BitRows.{set_bits}
-use Rattle.cube_values.specs.EpochsVector.{IsVector, epoch_at, sees_row}
+use Rattle.cube_values.specs.EpochsVector.{IsVector, epoch_at, maker, rows_after, rows_of, sees_row, with_entry, with_rows_after}
 use Rattle.cube_values.specs.Sees.{sees}
-use Rattle.epochs_vector.specs.Entries.{rows_of, with_entry}
-
--- The epoch that made an entry.
-abbrev pub epoch_of : Entry → ℕ
-epoch_of (Run epoch end) = epoch
-epoch_of (Mark epoch at) = epoch
-
--- How many rows there are after an entry.
-abbrev pub rows_at : Entry → ℕ
-rows_at (Run epoch end) = end
-rows_at (Mark epoch at) = at
-
--- The entry with so many rows after it.
-abbrev pub at_rows : Entry → ℕ → Entry
-at_rows (Run epoch end) rows = Run epoch rows
-at_rows (Mark epoch at) rows = Mark epoch rows
 
 -- Row i stays: it is of no run of the epoch.
 abbrev pub stays : ℕ → List Entry → ℕ → Bool
@@ -40,7 +23,7 @@ staying_before kept n = set_bits (take n kept)
 
 -- The entries of the other epochs, each with its rows counted over those that stay.
 abbrev pub others : ℕ → List Bool → List Entry → List Entry
-others epoch kept entries = map (λ e. at_rows e (staying_before kept (rows_at e))) (filter (λ e. not (epoch_of e == epoch)) entries)
+others epoch kept entries = map (λ e. with_rows_after e (staying_before kept (rows_after e))) (filter (λ e. not (maker e == epoch)) entries)
 
 -- The vector without the epoch: the others' entries one after another, where neighbours become one.
 abbrev pub without : ℕ → List Entry → List Entry

@@ -1,28 +1,9 @@
 //! Entries in a `Vec`, where neighbours that say the same thing are one entry.
 
 ghost use Rattle.std.specs.Prelude.{◌≡◌, ◌+◌, ◌<◌, ◌≤◌, vec_len, vec_capacity};
-ghost use Rattle.epochs_vector.specs.Entries.{joins, with_entry};
+ghost use Rattle.cube_values.specs.EpochsVector.{with_entry};
 
 use cube_values::Entry;
-
-/// Whether the two are one entry where they are neighbours.
-pub fn are_one(a: Entry, b: Entry) -> bool
-    ensures { result ≡ joins a b }
-{
-    match a {
-        Entry::Run { epoch, .. } => match b {
-            Entry::Run { epoch: next, .. } => epoch == next,
-            Entry::Mark { .. } => false,
-        },
-        Entry::Mark { epoch, at } => match b {
-            Entry::Run { .. } => false,
-            Entry::Mark {
-                epoch: next,
-                at: more,
-            } => epoch == next && at == more,
-        },
-    }
-}
 
 /// Puts an entry at the end, in the place of the last where the two are one. It takes no memory.
 pub fn put_last(entries: &mut Vec<Entry>, new: Entry)
@@ -32,7 +13,7 @@ pub fn put_last(entries: &mut Vec<Entry>, new: Entry)
     ensures len { vec_len entries.new ≤ vec_len entries.old + 1 }
 {
     let len = entries.len();
-    if len > 0 && are_one(entries[len - 1], new) {
+    if len > 0 && entries[len - 1].is_one_with(new) {
         entries[len - 1] = new;
     } else {
         entries.push_reserved(new);

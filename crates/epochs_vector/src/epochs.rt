@@ -2,9 +2,8 @@
 
 ghost use Rattle.std.specs.Prelude.{◌≡◌, ◌+◌, ◌^◌, ◌<◌, ◌≤◌, true, [], length, replicate, vec_capacity, OnOk, OnErr, IsOk, IfOk};
 ghost use Rattle.cube_values.specs.BitRows.{set_bits};
-ghost use Rattle.cube_values.specs.EpochsVector.{IsVector};
+ghost use Rattle.cube_values.specs.EpochsVector.{IsVector, rows_of, with_entry};
 ghost use Rattle.cube_values.specs.declared.entry.Entry.TheVariants.{Run, Mark};
-ghost use Rattle.epochs_vector.specs.Entries.{rows_of, with_entry};
 ghost use Rattle.epochs_vector.specs.Seen.{seen_rows};
 ghost use Rattle.epochs_vector.specs.Changed.{LeavesVector};
 ghost use Rattle.epochs_vector.specs.Without.{staying, without};

@@ -2,15 +2,12 @@
 #![tactic(auto)]
 
 mod entry_list;
-mod entry_parts;
 mod epochs;
 mod law;
 mod limit;
 mod shown;
 mod without;
 
-pub use entry_list::are_one;
-pub use entry_parts::{maker, numbered, rows_after};
 pub use epochs::Epochs;
 pub use law::removal_changes_no_other_row;
 pub use limit::Limit;

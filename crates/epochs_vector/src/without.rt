@@ -2,12 +2,9 @@
 
 ghost use Rattle.std.specs.Prelude.{◌≡◌, ℕ, ◌+◌, ◌<◌, ◌≤◌, true, length, take, drop, replicate};
 ghost use Rattle.cube_values.specs.BitRows.{set_bits};
-ghost use Rattle.cube_values.specs.EpochsVector.{IsVector};
-ghost use Rattle.epochs_vector.specs.Entries.{with_entry};
+ghost use Rattle.cube_values.specs.EpochsVector.{IsVector, with_entry};
 ghost use Rattle.epochs_vector.specs.Without.{staying, without};
 
-use crate::entry_list::are_one;
-use crate::entry_parts::{maker, numbered, rows_after};
 use cube_values::{Bits, Entry};
 
 /// How many entries and rows are left.
@@ -32,12 +29,12 @@ pub fn take_out(entries: &mut [Entry], epoch: u64, keep: &mut Bits) -> Left
     let mut from = 0;
     for at in 0..entries.len() {
         let entry = entries[at];
-        let to = rows_after(entry);
-        if maker(entry) == epoch {
+        let to = entry.rows_after();
+        if entry.maker() == epoch {
             keep.fill(from, to, false);
         } else {
             rows += to - from;
-            len = put_at(entries, len, numbered(entry, rows));
+            len = put_at(entries, len, entry.with_rows_after(rows));
         }
         from = to;
     }
@@ -53,7 +50,7 @@ fn put_at(entries: &mut [Entry], len: usize, new: Entry) -> usize
     ensures within { result ≤ len + 1 }
     ensures long { length entries.new ≡ length entries.old }
 {
-    if len > 0 && are_one(entries[len - 1], new) {
+    if len > 0 && entries[len - 1].is_one_with(new) {
         entries[len - 1] = new;
         len
     } else {

@@ -10,7 +10,7 @@ mod running;
 mod tables;
 
 pub use regions::region_has;
-pub use running::visible;
+pub use running::visible_rows;
 pub use tables::answer;
 
 #[cfg(test)]

@@ -5,7 +5,7 @@ ghost use Rattle.std.specs.List.{list_any, list_all};
 ghost use Rattle.cube_values.specs.Values.{value_eq};
 ghost use Rattle.cube_values.specs.Regions.{lies_between, passes, holds_of, region_has};
 
-use cube_values::{Condition, Region, StoredRow, Test, Value};
+use cube_values::{Condition, Region, StoredRow, Value, ValueTest};
 
 /// Whether a region has a row.
 pub fn region_has(region: &Region, stored: &StoredRow) -> bool
@@ -29,13 +29,13 @@ fn holds_of(dims: &[Value], condition: &Condition) -> bool
     }
 }
 
-fn passes(test: &Test, value: &Value) -> bool
+fn passes(test: &ValueTest, value: &Value) -> bool
     ensures { result ≡ passes test.now value.now }
 {
     match test {
-        Test::Equal(wanted) => wanted == value,
-        Test::OneOf(wanted) => is_one_of(wanted.as_slice(), value),
-        Test::Between(low, high) => lies_between(low, high, value),
+        ValueTest::Equal(wanted) => wanted == value,
+        ValueTest::OneOf(wanted) => is_one_of(wanted.as_slice(), value),
+        ValueTest::Between(low, high) => lies_between(low, high, value),
     }
 }
 

@@ -3,8 +3,8 @@
 ghost use Rattle.std.specs.Prelude.{◌≡◌, ◌++◌, not, map, filter, fold, IfOk};
 ghost use Rattle.cube_values.specs.Regions.{region_has};
 ghost use Rattle.cube_values.specs.Sees.{sees};
-ghost use Rattle.cube_values.specs.Visible.{visible, RisesByEpoch};
-ghost use Rattle.cube_values.specs.Running.{after_operation, after_transaction, left_by};
+ghost use Rattle.cube_values.specs.Visible.{visible_rows, RisesByEpoch};
+ghost use Rattle.cube_values.specs.Running.{after_operation, after_transaction, rows_left_by};
 
 use crate::regions::region_has;
 use cube_values::{
@@ -14,25 +14,25 @@ use std::alloc::{AllocError, Global};
 
 /// The rows that a snapshot sees, in the order of epoch, place and index. No row is copied. The
 /// transactions rise by epoch. The only error is that memory runs out.
-pub fn visible<'a>(
+pub fn visible_rows<'a>(
     alloc: Global,
     snapshot: &Snapshot,
     transactions: &'a [Transaction],
 ) -> Result<Vec<&'a StoredRow>, AllocError>
     requires { RisesByEpoch transactions.now }
-    ensures { IfOk result (λ rows. map (λ r. r.now) rows.items ≡ visible snapshot.now transactions.now) }
+    ensures { IfOk result (λ rows. map (λ r. r.now) rows.items ≡ visible_rows snapshot.now transactions.now) }
 {
     visible_is_what_running_leaves();
-    left_by(alloc, snapshot, transactions)
+    rows_left_by(alloc, snapshot, transactions)
 }
 
 /// What the transactions that a snapshot sees leave, run one after the other.
-fn left_by<'a>(
+fn rows_left_by<'a>(
     alloc: Global,
     snapshot: &Snapshot,
     transactions: &'a [Transaction],
 ) -> Result<Vec<&'a StoredRow>, AllocError>
-    ensures { IfOk result (λ rows. map (λ r. r.now) rows.items ≡ left_by (filter (λ t. sees snapshot.now t.epoch) transactions.now)) }
+    ensures { IfOk result (λ rows. map (λ r. r.now) rows.items ≡ rows_left_by (filter (λ t. sees snapshot.now t.epoch) transactions.now)) }
 {
     let mut rows = Vec::new(alloc);
     for transaction in transactions {

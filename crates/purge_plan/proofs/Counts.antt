@@ -8,8 +8,7 @@ use Rattle.std.proofs.lemmas.List.Sums.{count_by_more_yes, sum_by-append}
 use Rattle.cube_values.specs.declared.entry.Entry.{Entry}
 use Rattle.cube_values.specs.declared.entry.Entry.TheVariants.{Run, Mark}
 use Rattle.cube_values.specs.BitRows.{set_bits}
-use Rattle.cube_values.specs.EpochsVector.{Leads, IsVector}
-use Rattle.epochs_vector.specs.Entries.{rows_of}
+use Rattle.cube_values.specs.EpochsVector.{IsVector, Leads, rows_of}
 use Rattle.epochs_vector.specs.Without.{staying_before}
 use Rattle.epochs_vector.proofs.Ends.{vector_rows}
 use Rattle.purge_plan.specs.Purged.{is_kept, kept, counted, purged}

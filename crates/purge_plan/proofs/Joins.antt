@@ -3,22 +3,21 @@ use Rattle.std.proofs.Common.{◌≡◌, ℕ, ◌+◌, ◌<◌, ◌≤◌, ◌==
 use Rattle.std.proofs.lemmas.Bool.Decides.{nat_tests}
 use Rattle.cube_values.specs.declared.entry.Entry.{Entry}
 use Rattle.cube_values.specs.declared.entry.Entry.TheVariants.{Run, Mark}
-use Rattle.cube_values.specs.EpochsVector.{Leads, AreApart, NeighboursApart, IsVector}
-use Rattle.epochs_vector.specs.Entries.{rows_after, rows_of, joins, with_entry}
+use Rattle.cube_values.specs.EpochsVector.{IsVector, Leads, NeighboursApart, is_one_with, rows_from, rows_of, with_entry}
 use Rattle.epochs_vector.proofs.Ends.{vector_rows, vector_more}
 use Rattle.purge_plan.specs.Purged.{are_old_runs, joined, with_joined, with_counted}
 
 -- the list with one more entry, where it is joined with the last and where it comes after it
-pub put_over : (p : ℕ) (xs : List Entry) (n : ℕ) (d new : Entry) → length xs ≡ n + 1 → (joins (get_or xs n d) new || are_old_runs p (get_or xs n d) new) ≡ true → slice_set xs n (joined (get_or xs n d) new) ≡ with_joined p xs new
+pub put_over : (p : ℕ) (xs : List Entry) (n : ℕ) (d new : Entry) → length xs ≡ n + 1 → (is_one_with (get_or xs n d) new || are_old_runs p (get_or xs n d) new) ≡ true → slice_set xs n (joined (get_or xs n d) new) ≡ with_joined p xs new
 put_over p [] n d new l h = absurd (omega arith)
-put_over p (x ∷ []) zero d new l h = let f : (joins x new || are_old_runs p x new) ≡ true = h in rw f
+put_over p (x ∷ []) zero d new l h = let f : (is_one_with x new || are_old_runs p x new) ≡ true = h in rw f
 put_over p (x ∷ []) (suc n) d new l h = absurd (omega arith)
 put_over p (x ∷ y ∷ xs) zero d new l h = absurd (omega arith)
 put_over p (x ∷ y ∷ xs) (suc n) d new l h = ap (λ t. x ∷ t) (put_over p (y ∷ xs) n d new (omega arith) h)
 
-pub put_after : (p : ℕ) (xs : List Entry) (n : ℕ) (d new : Entry) → length xs ≡ n + 1 → (joins (get_or xs n d) new || are_old_runs p (get_or xs n d) new) ≡ false → xs ++ new ∷ [] ≡ with_joined p xs new
+pub put_after : (p : ℕ) (xs : List Entry) (n : ℕ) (d new : Entry) → length xs ≡ n + 1 → (is_one_with (get_or xs n d) new || are_old_runs p (get_or xs n d) new) ≡ false → xs ++ new ∷ [] ≡ with_joined p xs new
 put_after p [] n d new l h = absurd (omega arith)
-put_after p (x ∷ []) zero d new l h = let f : (joins x new || are_old_runs p x new) ≡ false = h in rw f
+put_after p (x ∷ []) zero d new l h = let f : (is_one_with x new || are_old_runs p x new) ≡ false = h in rw f
 put_after p (x ∷ []) (suc n) d new l h = absurd (omega arith)
 put_after p (x ∷ y ∷ xs) zero d new l h = absurd (omega arith)
 put_after p (x ∷ y ∷ xs) (suc n) d new l h = ap (λ t. x ∷ t) (put_after p (y ∷ xs) n d new (omega arith) h)
@@ -28,7 +27,7 @@ put_first p [] new l = refl
 put_first p (x ∷ xs) new l = absurd (omega arith)
 
 -- the rows that it leads to
-rows_end : (p from : ℕ) (last new : Entry) (b : Bool) → (joins last new || are_old_runs p last new) ≡ b → rows_after from (if b then joined last new ∷ [] else last ∷ new ∷ []) ≡ rows_after (rows_after from (last ∷ [])) (new ∷ [])
+rows_end : (p from : ℕ) (last new : Entry) (b : Bool) → (is_one_with last new || are_old_runs p last new) ≡ b → rows_from from (if b then joined last new ∷ [] else last ∷ new ∷ []) ≡ rows_from (rows_from from (last ∷ [])) (new ∷ [])
 rows_end p from (Run e x) new false h = refl
 rows_end p from (Mark e x) new false h = refl
 rows_end p from (Run e x) (Run f y) true h = refl
@@ -36,9 +35,9 @@ rows_end p from (Mark e x) (Mark f y) true h = refl
 rows_end p from (Run e x) (Mark f y) true h = cc
 rows_end p from (Mark e x) (Run f y) true h = cc
 
-rows_joined : (p from : ℕ) (xs : List Entry) (new : Entry) → rows_after from (with_joined p xs new) ≡ rows_after (rows_after from xs) (new ∷ [])
+rows_joined : (p from : ℕ) (xs : List Entry) (new : Entry) → rows_from from (with_joined p xs new) ≡ rows_from (rows_from from xs) (new ∷ [])
 rows_joined p from [] new = refl
-rows_joined p from (last ∷ []) new = rows_end p from last new (joins last new || are_old_runs p last new) refl
+rows_joined p from (last ∷ []) new = rows_end p from last new (is_one_with last new || are_old_runs p last new) refl
 rows_joined p from (Run e x ∷ next ∷ xs) new = rows_joined p x (next ∷ xs) new
 rows_joined p from (Mark e x ∷ next ∷ xs) new = rows_joined p from (next ∷ xs) new
 
@@ -46,11 +45,11 @@ rows_run : (p : ℕ) (xs : List Entry) (e end : ℕ) (b : Bool) → (end == rows
 rows_run p xs e end true h = grind (arith, nat_tests)
 rows_run p xs e end false h = rows_joined p 0 xs (Run e end)
 
-pub rows_counted : (p : ℕ) (xs : List Entry) (new : Entry) → rows_of (with_counted p xs new) ≡ rows_after (rows_of xs) (new ∷ [])
+pub rows_counted : (p : ℕ) (xs : List Entry) (new : Entry) → rows_of (with_counted p xs new) ≡ rows_from (rows_of xs) (new ∷ [])
 rows_counted p xs (Run e end) = rows_run p xs e end (end == rows_of xs) refl
 rows_counted p xs (Mark e at) = rows_joined p 0 xs (Mark e at)
 
--- entries whose epochs at or below p are all p: there a purge joins as every vector does
+-- entries whose epochs at or below p are all p: there a purge is_one_with as every vector does
 abbrev pub level : ℕ → Entry → Entry
 level p (Run e x) = Run (max p e) x
 level p (Mark e x) = Mark e x
@@ -74,7 +73,7 @@ off : (a b : Bool) → (a || false) ≡ b → a ≡ b
 off true b h = h
 off false b h = h
 
-flat_end : (p : ℕ) (last new : Entry) (b : Bool) → (joins last new || are_old_runs p last new) ≡ b → flat p (if b then joined last new ∷ [] else last ∷ new ∷ []) ≡ (if joins (level p last) (level p new) then level p new ∷ [] else level p last ∷ level p new ∷ [])
+flat_end : (p : ℕ) (last new : Entry) (b : Bool) → (is_one_with last new || are_old_runs p last new) ≡ b → flat p (if b then joined last new ∷ [] else last ∷ new ∷ []) ≡ (if is_one_with (level p last) (level p new) then level p new ∷ [] else level p last ∷ level p new ∷ [])
 flat_end p (Run e x) (Run f y) true h =
     let s : max p e ≡ max p f = same_level p e f h in
     let b = one_level p e f s in
@@ -89,7 +88,7 @@ flat_end p (Mark e x) (Run f y) false h = refl
 
 flat_joined : (p : ℕ) (xs : List Entry) (new : Entry) → flat p (with_joined p xs new) ≡ with_entry (flat p xs) (level p new)
 flat_joined p [] new = refl
-flat_joined p (last ∷ []) new = flat_end p last new (joins last new || are_old_runs p last new) refl
+flat_joined p (last ∷ []) new = flat_end p last new (is_one_with last new || are_old_runs p last new) refl
 flat_joined p (first ∷ next ∷ xs) new = ap (λ l. level p first ∷ l) (flat_joined p (next ∷ xs) new)
 
 -- what entries lead to, where a run may be empty
@@ -98,7 +97,7 @@ LeadsOn from [] to = from ≡ to
 LeadsOn from (Run e end ∷ xs) to = (from ≤ end) × LeadsOn end xs to
 LeadsOn from (Mark e at ∷ xs) to = (at ≡ from) × LeadsOn from xs to
 
-pub rows_flat : (p from : ℕ) (xs : List Entry) → rows_after from (flat p xs) ≡ rows_after from xs
+pub rows_flat : (p from : ℕ) (xs : List Entry) → rows_from from (flat p xs) ≡ rows_from from xs
 rows_flat p from [] = refl
 rows_flat p from (Run e x ∷ xs) = rows_flat p x xs
 rows_flat p from (Mark e x ∷ xs) = rows_flat p from xs
@@ -139,11 +138,15 @@ leads_flat p from [] to l = l
 leads_flat p from (Run e x ∷ xs) to l = (l.0, leads_flat p x xs to l.1)
 leads_flat p from (Mark e x ∷ xs) to l = (l.0, leads_flat p from xs to l.1)
 
-apart_level : (p : ℕ) (a b : Entry) → AreApart (level p a) (level p b) → AreApart a b
-apart_level p (Run e x) (Run f y) k = λ q. k (ap (max p) q)
+runs_level : (p e f : ℕ) (b : Bool) → (e == f) ≡ b → (max p e == max p f) ≡ false → b ≡ false
+runs_level p e f true h k = let q : e ≡ f = grind (arith, nat_tests) in grind (arith, nat_tests)
+runs_level p e f false h k = refl
+
+apart_level : (p : ℕ) (a b : Entry) → is_one_with (level p a) (level p b) ≡ false → is_one_with a b ≡ false
+apart_level p (Run e x) (Run f y) k = runs_level p e f (e == f) refl k
 apart_level p (Mark e x) (Mark f y) k = k
-apart_level p (Run e x) (Mark f y) k = tt
-apart_level p (Mark e x) (Run f y) k = tt
+apart_level p (Run e x) (Mark f y) k = refl
+apart_level p (Mark e x) (Run f y) k = refl
 
 apart_flat : (p : ℕ) (xs : List Entry) → NeighboursApart (flat p xs) → NeighboursApart xs
 apart_flat p [] k = tt

@@ -4,7 +4,7 @@ use Rattle.std.proofs.lemmas.Bool.Decides.{nat_tests}
 use Rattle.std.proofs.lemmas.List.Elements.{All-nil, All-cons, All-head, All-tail}
 use Rattle.cube_values.specs.declared.entry.Entry.{Entry}
 use Rattle.cube_values.specs.declared.entry.Entry.TheVariants.{Run, Mark}
-use Rattle.epochs_vector.specs.Entries.{joins}
+use Rattle.cube_values.specs.EpochsVector.{is_one_with}
 use Rattle.epochs_vector.specs.Without.{staying_before}
 use Rattle.purge_plan.specs.Purged.{are_old_runs, joined, with_joined, is_empty_after, with_counted, counted, kept}
 use Rattle.purge_plan.specs.Sight.{MarksAbove, LeavesNoOldMark}
@@ -35,7 +35,7 @@ above_end p last new false k m = All-cons (MarksAbove p) last (new ∷ []) k (Al
 
 above_joined : (p : ℕ) (xs : List Entry) (new : Entry) → All (MarksAbove p) xs → MarksAbove p new → All (MarksAbove p) (with_joined p xs new)
 above_joined p [] new k m = All-cons (MarksAbove p) new [] m (All-nil (MarksAbove p))
-above_joined p (last ∷ []) new k m = above_end p last new (joins last new || are_old_runs p last new) (All-head (MarksAbove p) last [] k) m
+above_joined p (last ∷ []) new k m = above_end p last new (is_one_with last new || are_old_runs p last new) (All-head (MarksAbove p) last [] k) m
 above_joined p (first ∷ next ∷ xs) new k m =
     All-cons (MarksAbove p) first (with_joined p (next ∷ xs) new) (All-head (MarksAbove p) first (next ∷ xs) k) (above_joined p (next ∷ xs) new (All-tail (MarksAbove p) first (next ∷ xs) k) m)
 

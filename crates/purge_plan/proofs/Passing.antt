@@ -9,10 +9,9 @@ use Rattle.std.proofs.lemmas.Grind.{drop_more_same}
 use Rattle.std.proofs.lemmas.List.FromFn.{get_or-map-range_with_len}
 use Rattle.cube_values.specs.declared.entry.Entry.{Entry}
 use Rattle.cube_values.specs.declared.entry.Entry.TheVariants.{Run, Mark}
-use Rattle.cube_values.specs.BitRows.{filled}
-use Rattle.cube_values.specs.EpochsVector.{Leads, IsVector, epoch_at}
-use Rattle.epochs_vector.specs.Entries.{rows_after, rows_of}
-use Rattle.epochs_vector.specs.Without.{epoch_of, rows_at, at_rows, staying_before}
+use Rattle.cube_values.specs.BitRows.{filled_bits}
+use Rattle.cube_values.specs.EpochsVector.{IsVector, Leads, epoch_at, maker, rows_after, rows_from, rows_of, with_rows_after}
+use Rattle.epochs_vector.specs.Without.{staying_before}
 use Rattle.epochs_vector.proofs.Ends.{vector_rows}
 use Rattle.epochs_vector.proofs.VisibleRows.{in_run, past_run, lead_up, long_filled, at_below, at_inside, at_above}
 use Rattle.epochs_vector.specs.declared.limit.Limit.{Limit}
@@ -28,11 +27,11 @@ pub record IsLeft (limit : Limit) (bits : List Bool) (left : List Entry) (from :
 
 -- one entry on
 pub record IsNext (limit : Limit) (bits : List Bool) (entry : Entry) (rest : List Entry) (from : ℕ) : Type 0 where
-  pub one : Leads from (entry ∷ []) (rows_at entry)
-  pub order : from ≤ rows_at entry
-  pub within : rows_at entry ≤ length bits
-  pub next : IsLeft limit bits rest (rows_at entry)
-  pub here : (i : ℕ) → from ≤ i → i < rows_at entry → get_or bits i false ≡ not (is_below limit (epoch_of entry) i)
+  pub one : Leads from (entry ∷ []) (rows_after entry)
+  pub order : from ≤ rows_after entry
+  pub within : rows_after entry ≤ length bits
+  pub next : IsLeft limit bits rest (rows_after entry)
+  pub here : (i : ℕ) → from ≤ i → i < rows_after entry → get_or bits i false ≡ not (is_below limit (maker entry) i)
 
 one_on : (limit : Limit) (bits : List Bool) (entry : Entry) (rest : List Entry) (from : ℕ) → IsLeft limit bits (entry ∷ rest) from → IsNext limit bits entry rest from
 one_on limit bits (Run j end) rest from k =
@@ -76,10 +75,10 @@ removed bits from first to k h i p q = let b : nat_lt i first ≡ true = grind (
 stays : (bits : List Bool) (from first to : ℕ) → IsParted bits from first to → from ≤ first → (i : ℕ) → first ≤ i → i < to → get_or bits i false ≡ true
 stays bits from first to k h i p q = let b : nat_lt i first ≡ false = grind (arith, nat_tests) in k i (omega arith) q ∙ ap not b
 
-cleared_more : (bits keep new : List Bool) (from first to : ℕ) → IsCleared bits keep from → IsParted bits from first to → from ≤ first → first ≤ to → to ≤ length bits → new ≡ filled keep from first false → IsCleared bits new to
+cleared_more : (bits keep new : List Bool) (from first to : ℕ) → IsCleared bits keep from → IsParted bits from first to → from ≤ first → first ≤ to → to ≤ length bits → new ≡ filled_bits keep from first false → IsCleared bits new to
 cleared_more bits keep new from first to k s low high w f =
     let u : first ≤ length keep = omega (arith, k.long) in
-    let there : (i : ℕ) → get_or new i false ≡ get_or (filled keep from first false) i false = λ i. ap (λ (l : List Bool). get_or l i false) f in
+    let there : (i : ℕ) → get_or new i false ≡ get_or (filled_bits keep from first false) i false = λ i. ap (λ (l : List Bool). get_or l i false) f in
     record {
       long = ap length f ∙ long_filled keep from first false low u ∙ k.long;
       done = λ i p. there i ∙ elim (cases_lt i from) [
@@ -153,11 +152,11 @@ purged_next p limit bits old items keep at len from rows d entry h e k =
     one_on limit bits entry (drop (at + 1) old) from (subst P (from_here p limit bits old items keep at len from rows d entry h e k) k.left)
 
 -- the rows that it adds
-rows_put : (entry : Entry) (from rows first : ℕ) → Leads from (entry ∷ []) (rows_at entry) → from ≤ first → rows_after rows (at_rows entry (rows + (rows_at entry - first)) ∷ []) ≡ rows + (rows_at entry - first)
+rows_put : (entry : Entry) (from rows first : ℕ) → Leads from (entry ∷ []) (rows_after entry) → from ≤ first → rows_from rows (with_rows_after entry (rows + (rows_after entry - first)) ∷ []) ≡ rows + (rows_after entry - first)
 rows_put (Run e end) from rows first l h = refl
 rows_put (Mark e at) from rows first l h = omega (arith, l.0)
 
-rows_still : (p : ℕ) (entry : Entry) (from rows first : ℕ) → is_old_mark p entry ≡ true → Leads from (entry ∷ []) (rows_at entry) → from ≤ first → rows ≡ rows + (rows_at entry - first)
+rows_still : (p : ℕ) (entry : Entry) (from rows first : ℕ) → is_old_mark p entry ≡ true → Leads from (entry ∷ []) (rows_after entry) → from ≤ first → rows ≡ rows + (rows_after entry - first)
 rows_still p (Run e end) from rows first b l h = cc
 rows_still p (Mark e at) from rows first b l h = omega (arith, l.0)
 
@@ -165,55 +164,55 @@ drops_old : (p : ℕ) (bits : List Bool) (entry : Entry) (xs : List Entry) → i
 drops_old p bits (Run e end) xs b = cc
 drops_old p bits (Mark e at) xs b = counted_old p bits e at xs b
 
-counts_new : (p : ℕ) (bits : List Bool) (entry : Entry) (xs : List Entry) → is_old_mark p entry ≡ false → counted p bits (entry ∷ xs) ≡ at_rows entry (staying_before bits (rows_at entry)) ∷ counted p bits xs
+counts_new : (p : ℕ) (bits : List Bool) (entry : Entry) (xs : List Entry) → is_old_mark p entry ≡ false → counted p bits (entry ∷ xs) ≡ with_rows_after entry (staying_before bits (rows_after entry)) ∷ counted p bits xs
 counts_new p bits (Run e end) xs b = refl
 counts_new p bits (Mark e at) xs b = counted_new p bits e at xs b
 
 -- what code knows of one iteration: where the rows that are kept begin, and the bits that it leaves
 pub record IsStep (limit : Limit) (entry : Entry) (from first : ℕ) (keep new : List Bool) : Type 0 where
   pub low : from ≤ first
-  pub high : first ≤ rows_at entry
-  pub below : (i : ℕ) → from ≤ i → i < rows_at entry → is_below limit (epoch_of entry) i ≡ nat_lt i first
-  pub fill : new ≡ filled keep from first false
+  pub high : first ≤ rows_after entry
+  pub below : (i : ℕ) → from ≤ i → i < rows_after entry → is_below limit (maker entry) i ≡ nat_lt i first
+  pub fill : new ≡ filled_bits keep from first false
 
-parted : (limit : Limit) (bits keep new : List Bool) (entry : Entry) (rest : List Entry) (from first : ℕ) → IsNext limit bits entry rest from → IsStep limit entry from first keep new → IsParted bits from first (rows_at entry)
+parted : (limit : Limit) (bits keep new : List Bool) (entry : Entry) (rest : List Entry) (from first : ℕ) → IsNext limit bits entry rest from → IsStep limit entry from first keep new → IsParted bits from first (rows_after entry)
 parted limit bits keep new entry rest from first n t = λ i p q. n.here i p q ∙ ap not (t.below i p q)
 
 -- past a mark that goes, and past an entry that stays
-pub purged_old : (p : ℕ) (limit : Limit) (bits : List Bool) (old items : List Entry) (keep new : List Bool) (at len from rows first : ℕ) (d entry : Entry) → at < length old → get_or items at d ≡ entry → is_old_mark p entry ≡ true → IsPurgedSoFar p limit bits old items keep at len from rows → IsStep limit entry from first keep new → IsPurgedSoFar p limit bits old items new (at + 1) len (rows_at entry) (rows + (rows_at entry - first))
+pub purged_old : (p : ℕ) (limit : Limit) (bits : List Bool) (old items : List Entry) (keep new : List Bool) (at len from rows first : ℕ) (d entry : Entry) → at < length old → get_or items at d ≡ entry → is_old_mark p entry ≡ true → IsPurgedSoFar p limit bits old items keep at len from rows → IsStep limit entry from first keep new → IsPurgedSoFar p limit bits old items new (at + 1) len (rows_after entry) (rows + (rows_after entry - first))
 purged_old p limit bits old items keep new at len from rows first d entry h e b k t =
     let n = purged_next p limit bits old items keep at len from rows d entry h e k in
     let x = from_here p limit bits old items keep at len from rows d entry h e k in
     let s = parted limit bits keep new entry (drop (at + 1) old) from first n t in
     record {
       left = n.next;
-      cleared = cleared_more bits keep new from first (rows_at entry) k.cleared s t.low t.high n.within t.fill;
+      cleared = cleared_more bits keep new from first (rows_after entry) k.cleared s t.low t.high n.within t.fill;
       placed = record {
         rest = drop_more_same items old at k.placed.rest;
         within = omega (arith, k.placed.within);
-        counted_rows = omega (arith, k.placed.counted_rows, parted_rows bits from first (rows_at entry) s t.low t.high n.within);
+        counted_rows = omega (arith, k.placed.counted_rows, parted_rows bits from first (rows_after entry) s t.low t.high n.within);
         below = omega (arith, k.placed.below, t.low, t.high);
         led = k.placed.led ∙ rows_still p entry from rows first b n.one t.low;
         front = ap (fold (with_counted p) (take len items)) (sym (ap (counted p bits) x ∙ drops_old p bits entry (drop (at + 1) old) b)) ∙ k.placed.front;
       };
     }
 
-pub purged_new : (p : ℕ) (limit : Limit) (bits : List Bool) (old items placed : List Entry) (keep new : List Bool) (at len more from rows first : ℕ) (d entry : Entry) → at < length old → get_or items at d ≡ entry → is_old_mark p entry ≡ false → IsPurgedSoFar p limit bits old items keep at len from rows → IsStep limit entry from first keep new → take more placed ≡ with_counted p (take len items) (at_rows entry (rows + (rows_at entry - first))) → ((n : ℕ) → len < n → drop n placed ≡ drop n items) → more ≤ len + 1 → IsPurgedSoFar p limit bits old placed new (at + 1) more (rows_at entry) (rows + (rows_at entry - first))
+pub purged_new : (p : ℕ) (limit : Limit) (bits : List Bool) (old items placed : List Entry) (keep new : List Bool) (at len more from rows first : ℕ) (d entry : Entry) → at < length old → get_or items at d ≡ entry → is_old_mark p entry ≡ false → IsPurgedSoFar p limit bits old items keep at len from rows → IsStep limit entry from first keep new → take more placed ≡ with_counted p (take len items) (with_rows_after entry (rows + (rows_after entry - first))) → ((n : ℕ) → len < n → drop n placed ≡ drop n items) → more ≤ len + 1 → IsPurgedSoFar p limit bits old placed new (at + 1) more (rows_after entry) (rows + (rows_after entry - first))
 purged_new p limit bits old items placed keep new at len more from rows first d entry h e b k t f r m =
     let n = purged_next p limit bits old items keep at len from rows d entry h e k in
     let x = from_here p limit bits old items keep at len from rows d entry h e k in
     let s = parted limit bits keep new entry (drop (at + 1) old) from first n t in
-    let c : rows + (rows_at entry - first) ≡ staying_before bits (rows_at entry) = omega (arith, k.placed.counted_rows, parted_rows bits from first (rows_at entry) s t.low t.high n.within) in
-    let o : counted p bits (drop at old) ≡ at_rows entry (rows + (rows_at entry - first)) ∷ counted p bits (drop (at + 1) old) = ap (counted p bits) x ∙ counts_new p bits entry (drop (at + 1) old) b ∙ ap (λ y. at_rows entry y ∷ counted p bits (drop (at + 1) old)) (sym c) in
+    let c : rows + (rows_after entry - first) ≡ staying_before bits (rows_after entry) = omega (arith, k.placed.counted_rows, parted_rows bits from first (rows_after entry) s t.low t.high n.within) in
+    let o : counted p bits (drop at old) ≡ with_rows_after entry (rows + (rows_after entry - first)) ∷ counted p bits (drop (at + 1) old) = ap (counted p bits) x ∙ counts_new p bits entry (drop (at + 1) old) b ∙ ap (λ y. with_rows_after entry y ∷ counted p bits (drop (at + 1) old)) (sym c) in
     record {
       left = n.next;
-      cleared = cleared_more bits keep new from first (rows_at entry) k.cleared s t.low t.high n.within t.fill;
+      cleared = cleared_more bits keep new from first (rows_after entry) k.cleared s t.low t.high n.within t.fill;
       placed = record {
         rest = r (at + 1) (omega (arith, k.placed.within)) ∙ drop_more_same items old at k.placed.rest;
         within = omega (arith, k.placed.within);
         counted_rows = c;
         below = omega (arith, k.placed.below, t.low, t.high);
-        led = ap rows_of f ∙ rows_counted p (take len items) (at_rows entry (rows + (rows_at entry - first))) ∙ ap (λ y. rows_after y (at_rows entry (rows + (rows_at entry - first)) ∷ [])) k.placed.led ∙ rows_put entry from rows first n.one t.low;
+        led = ap rows_of f ∙ rows_counted p (take len items) (with_rows_after entry (rows + (rows_after entry - first))) ∙ ap (λ y. rows_from y (with_rows_after entry (rows + (rows_after entry - first)) ∷ [])) k.placed.led ∙ rows_put entry from rows first n.one t.low;
         front = ap (λ l. fold (with_counted p) l (counted p bits (drop (at + 1) old))) f ∙ ap (fold (with_counted p) (take len items)) (sym o) ∙ k.placed.front;
       };
     }

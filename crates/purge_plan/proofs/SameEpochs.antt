@@ -6,8 +6,7 @@ use Rattle.std.proofs.lemmas.Bool.Decides.{nat_tests}
 use Rattle.cube_values.specs.declared.entry.Entry.{Entry}
 use Rattle.cube_values.specs.declared.entry.Entry.TheVariants.{Run, Mark}
 use Rattle.cube_values.specs.BitRows.{set_bits}
-use Rattle.cube_values.specs.EpochsVector.{Leads, IsVector, epoch_at}
-use Rattle.epochs_vector.specs.Entries.{rows_of, joins}
+use Rattle.cube_values.specs.EpochsVector.{IsVector, Leads, epoch_at, is_one_with, rows_of}
 use Rattle.epochs_vector.specs.Without.{staying_before}
 use Rattle.epochs_vector.proofs.Ends.{vector_rows}
 use Rattle.epochs_vector.proofs.VisibleRows.{in_run, past_run, lead_up}
@@ -17,7 +16,7 @@ use Rattle.purge_plan.proofs.Counts.{rises, climbs, counted_old, counted_new, le
 use Rattle.purge_plan.proofs.Joins.{level, flat, same_level, top_level, LeadsOn, rows_flat, vector_with}
 
 -- joined neighbours say what they said apart
-epoch_end : (p : ℕ) (last new : Entry) (zs : List Entry) (n from to more : ℕ) (b : Bool) → (joins last new || are_old_runs p last new) ≡ b → Leads from (level p last ∷ []) to → LeadsOn to (new ∷ []) more → epoch_at (flat p (if b then joined last new ∷ [] else last ∷ new ∷ []) ++ zs) n ≡ epoch_at (level p last ∷ level p new ∷ zs) n
+epoch_end : (p : ℕ) (last new : Entry) (zs : List Entry) (n from to more : ℕ) (b : Bool) → (is_one_with last new || are_old_runs p last new) ≡ b → Leads from (level p last ∷ []) to → LeadsOn to (new ∷ []) more → epoch_at (flat p (if b then joined last new ∷ [] else last ∷ new ∷ []) ++ zs) n ≡ epoch_at (level p last ∷ level p new ∷ zs) n
 epoch_end p last new zs n from to more false h l m = refl
 epoch_end p (Run e x) (Run f y) zs n from to more true h l m =
     let t : max p (max e f) ≡ max p f = top_level p e f (same_level p e f h) in
@@ -31,7 +30,7 @@ epoch_end p (Mark e x) (Run f y) zs n from to more true h l m = cc
 
 epoch_joined : (p : ℕ) (xs : List Entry) (new : Entry) (zs : List Entry) (n from to more : ℕ) → Leads from (flat p xs) to → LeadsOn to (new ∷ []) more → epoch_at (flat p (with_joined p xs new) ++ zs) n ≡ epoch_at (flat p xs ++ level p new ∷ zs) n
 epoch_joined p [] new zs n from to more l m = refl
-epoch_joined p (last ∷ []) new zs n from to more l m = epoch_end p last new zs n from to more (joins last new || are_old_runs p last new) refl l m
+epoch_joined p (last ∷ []) new zs n from to more l m = epoch_end p last new zs n from to more (is_one_with last new || are_old_runs p last new) refl l m
 epoch_joined p (Run e x ∷ next ∷ xs) new zs n from to more l m = ap (λ o. if nat_lt n x then Some (max p e) else o) (epoch_joined p (next ∷ xs) new zs n x to more l.1 m)
 epoch_joined p (Mark e x ∷ next ∷ xs) new zs n from to more l m = epoch_joined p (next ∷ xs) new zs n from to more l.1 m
 

@@ -7,9 +7,8 @@ use Rattle.std.proofs.lemmas.List.Folds.{list_any-append}
 use Rattle.cube_values.specs.declared.entry.Entry.{Entry}
 use Rattle.cube_values.specs.declared.entry.Entry.TheVariants.{Run, Mark}
 use Rattle.cube_values.specs.declared.snapshot.Snapshot.{Snapshot}
-use Rattle.cube_values.specs.EpochsVector.{Leads, is_hidden_by}
+use Rattle.cube_values.specs.EpochsVector.{Leads, is_hidden_by, is_one_with, rows_of}
 use Rattle.cube_values.specs.Sees.{sees}
-use Rattle.epochs_vector.specs.Entries.{rows_of, joins}
 use Rattle.epochs_vector.specs.Without.{staying_before}
 use Rattle.epochs_vector.proofs.VisibleRows.{lead_up}
 use Rattle.purge_plan.specs.Purged.{is_removed_by, are_old_runs, joined, with_joined, with_counted, counted}
@@ -37,7 +36,7 @@ twice : (a b x : Bool) → a ≡ b → (b || x) ≡ (a || (b || x))
 twice true b x e = rw (← e)
 twice false b x e = refl
 
-hidden_end : (p : ℕ) (s : Snapshot) (j n : ℕ) (last new : Entry) (zs : List Entry) (b : Bool) → (joins last new || are_old_runs p last new) ≡ b → list_any (is_hidden_by s j n) ((if b then joined last new ∷ [] else last ∷ new ∷ []) ++ zs) ≡ list_any (is_hidden_by s j n) (last ∷ new ∷ zs)
+hidden_end : (p : ℕ) (s : Snapshot) (j n : ℕ) (last new : Entry) (zs : List Entry) (b : Bool) → (is_one_with last new || are_old_runs p last new) ≡ b → list_any (is_hidden_by s j n) ((if b then joined last new ∷ [] else last ∷ new ∷ []) ++ zs) ≡ list_any (is_hidden_by s j n) (last ∷ new ∷ zs)
 hidden_end p s j n last new zs false h = refl
 hidden_end p s j n (Run e x) (Run f y) zs true h = refl
 hidden_end p s j n (Mark e x) (Mark f y) zs true h =
@@ -49,7 +48,7 @@ hidden_end p s j n (Mark e x) (Run f y) zs true h = cc
 
 hidden_joined : (p : ℕ) (s : Snapshot) (j n : ℕ) (xs : List Entry) (new : Entry) (zs : List Entry) → list_any (is_hidden_by s j n) (with_joined p xs new ++ zs) ≡ list_any (is_hidden_by s j n) (xs ++ new ∷ zs)
 hidden_joined p s j n [] new zs = refl
-hidden_joined p s j n (last ∷ []) new zs = hidden_end p s j n last new zs (joins last new || are_old_runs p last new) refl
+hidden_joined p s j n (last ∷ []) new zs = hidden_end p s j n last new zs (is_one_with last new || are_old_runs p last new) refl
 hidden_joined p s j n (x ∷ next ∷ xs) new zs = ap (λ b. is_hidden_by s j n x || b) (hidden_joined p s j n (next ∷ xs) new zs)
 
 hidden_run : (p : ℕ) (s : Snapshot) (j n : ℕ) (xs zs : List Entry) (e end : ℕ) (b : Bool) → list_any (is_hidden_by s j n) ((if b then xs else with_joined p xs (Run e end)) ++ zs) ≡ list_any (is_hidden_by s j n) (xs ++ Run e end ∷ zs)

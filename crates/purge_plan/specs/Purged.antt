@@ -6,15 +6,13 @@ use Rattle.std.specs.List.{list_any, range_with_len}
 use Rattle.std.specs.Option.{option_map_or}
 use Rattle.cube_values.specs.declared.entry.Entry.{Entry}
 use Rattle.cube_values.specs.declared.entry.Entry.TheVariants.{Run, Mark}
-use Rattle.cube_values.specs.EpochsVector.{epoch_at}
-use Rattle.epochs_vector.specs.Entries.{rows_of, joins}
-use Rattle.epochs_vector.specs.Without.{rows_at, at_rows, staying_before}
+use Rattle.cube_values.specs.EpochsVector.{epoch_at, is_one_with, mark_hides, rows_after, rows_of, with_rows_after}
+use Rattle.epochs_vector.specs.Without.{staying_before}
 
--- A mark at or below p removes row i of epoch j, whoever looks, where j is below the mark's epoch, or is
--- that epoch and the row stood before the mark.
+-- A mark at or below p removes the rows that it hides, whoever looks.
 abbrev pub is_removed_by : ℕ → ℕ → ℕ → Entry → Bool
 is_removed_by p j i (Run epoch end) = false
-is_removed_by p j i (Mark epoch at) = nat_le epoch p && (nat_lt j epoch || (j == epoch && nat_lt i at))
+is_removed_by p j i (Mark epoch at) = nat_le epoch p && mark_hides epoch at j i
 
 -- Row i is kept: no mark removes it.
 abbrev pub is_kept : ℕ → List Entry → ℕ → Bool
@@ -36,7 +34,7 @@ are_old_runs p a b = false
 
 -- The entries without the old marks, each with its rows counted over those that are kept.
 abbrev pub counted : ℕ → List Bool → List Entry → List Entry
-counted p bits entries = map (λ e. at_rows e (staying_before bits (rows_at e))) (filter (λ e. not (is_old_mark p e)) entries)
+counted p bits entries = map (λ e. with_rows_after e (staying_before bits (rows_after e))) (filter (λ e. not (is_old_mark p e)) entries)
 
 -- What two neighbours become that are joined: the greater epoch, with the rows of both.
 abbrev pub joined : Entry → Entry → Entry
@@ -47,7 +45,7 @@ joined a b = b
 -- where both are runs at or below p.
 abbrev pub with_joined : ℕ → List Entry → Entry → List Entry
 with_joined p [] new = new ∷ []
-with_joined p (last ∷ []) new = if joins last new || are_old_runs p last new then joined last new ∷ [] else last ∷ new ∷ []
+with_joined p (last ∷ []) new = if is_one_with last new || are_old_runs p last new then joined last new ∷ [] else last ∷ new ∷ []
 with_joined p (first ∷ next ∷ entries) new = first ∷ with_joined p (next ∷ entries) new
 
 -- A run is empty after entries that lead to its end already.

@@ -1,11 +1,10 @@
 //! Single entries, and entries put at the front of a list in place.
 
 ghost use Rattle.std.specs.Prelude.{◌≡◌, ℕ, ◌+◌, ◌<◌, ◌≤◌, ◌||◌, length, take, drop};
-ghost use Rattle.epochs_vector.specs.Entries.{rows_of, joins};
+ghost use Rattle.cube_values.specs.EpochsVector.{rows_of, is_one_with};
 ghost use Rattle.purge_plan.specs.Purged.{is_old_mark, are_old_runs, joined, with_joined, with_counted};
 
 use cube_values::Entry;
-use epochs_vector::are_one;
 
 /// Puts an entry after the first `len`, which lead to `rows` rows, as a purge at `epoch` does: a run
 /// that adds no row is left out, and what joins the last of them takes its place. Answers how many they
@@ -43,9 +42,9 @@ fn put_joined(entries: &mut [Entry], len: usize, new: Entry, epoch: u64) -> usiz
 
 // Whether two neighbours become one in a purge at `most`.
 fn are_joined(a: Entry, b: Entry, most: u64) -> bool
-    ensures { result ≡ (joins a b || are_old_runs most a b) }
+    ensures { result ≡ (is_one_with a b || are_old_runs most a b) }
 {
-    are_one(a, b) || are_old(a, b, most)
+    a.is_one_with(b) || are_old(a, b, most)
 }
 
 // Whether two entries are runs at or below `most`.

@@ -10,7 +10,7 @@ ghost use Rattle.purge_plan.specs.Purged.{is_removed_by, kept, purged};
 use crate::entry_list::{is_old, put};
 use crate::limit::limit_of;
 use cube_values::{Bits, Entry};
-use epochs_vector::{Limit, maker, numbered, rows_after};
+use epochs_vector::Limit;
 
 /// Purges at `epoch`. Rows that a mark at or below `epoch` hides are removed, whoever looks, and with
 /// them the marks at or below `epoch`; neighbouring runs at or below `epoch` become one run of their
@@ -47,12 +47,12 @@ fn leave(entries: &mut [Entry], epoch: u64, limit: &Limit, keep: &mut Bits) -> u
     let mut from = 0;
     for at in 0..entries.len() {
         let entry = entries[at];
-        let to = rows_after(entry);
-        let first = limit.first_shown(maker(entry), from, to);
+        let to = entry.rows_after();
+        let first = limit.first_shown(entry.maker(), from, to);
         keep.fill(from, first, false);
         let more = rows + (to - first);
         if !is_old(entry, epoch) {
-            len = put(entries, len, rows, numbered(entry, more), epoch);
+            len = put(entries, len, rows, entry.with_rows_after(more), epoch);
         }
         rows = more;
         from = to;

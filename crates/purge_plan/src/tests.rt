@@ -1,7 +1,7 @@
 //! Worked cases, and many small vectors beside a look at every row and every mark.
 
 ghost use Rattle.std.specs.Prelude.{◌≡◌, ◌≤◌, true, replicate};
-ghost use Rattle.epochs_vector.specs.Entries.{rows_of};
+ghost use Rattle.cube_values.specs.EpochsVector.{rows_of};
 ghost use Rattle.purge_plan.specs.Purged.{kept, purged};
 
 use crate::{plan, purge_changes_nothing_seen, purge_keeps_later_epochs, purge_leaves_no_old_mark};

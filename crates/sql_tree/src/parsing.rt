@@ -1,7 +1,7 @@
 //! The statement that a text spells.
 
 ghost use Rattle.std.specs.Prelude.{◌≡◌, ◌-◌, ◌≤◌, length, drop, IfOk};
-ghost use Rattle.cube_language.specs.Faults.{IfFault};
+ghost use Rattle.cube_values.specs.Faults.{IfFault};
 ghost use Rattle.cube_language.specs.Grammar.{Spells};
 ghost use Rattle.cube_language.specs.Syntax.{IsSyntaxFault};
 ghost use Rattle.cube_language.specs.Tokens.{fault_at};

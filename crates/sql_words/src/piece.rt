@@ -3,7 +3,7 @@
 ghost use Rattle.std.specs.Prelude.{◌≡◌, ◌<◌, ◌≤◌, List, drop, length, IfOk, IfSome, IfNone, IsUtf8, All};
 ghost use Rattle.std.specs.List.{position_from};
 ghost use Rattle.cube_language.specs.declared.piece.Piece.{Piece};
-ghost use Rattle.cube_language.specs.Faults.{IfFault};
+ghost use Rattle.cube_values.specs.Faults.{IfFault};
 ghost use Rattle.cube_language.specs.Pieces.{Splits, IsScript, HasScriptFault, is_long, statements_limit};
 ghost use Rattle.sql_words.specs.Fronts.{goes_on, IsBehindBody};
 ghost use Rattle.sql_words.specs.Texts.{IsTextAt, piece_bytes};

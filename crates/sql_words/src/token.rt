@@ -4,7 +4,7 @@ ghost use Rattle.std.specs.Prelude.{◌≡◌, ℕ, ◌+◌, ◌<◌, ◌≤◌,
 ghost use Rattle.std.specs.List.{prefix_len};
 ghost use Rattle.cube_language.specs.Names.{continues_name};
 ghost use Rattle.cube_language.specs.declared.token.TokenKind.TheVariants as kind;
-ghost use Rattle.cube_language.specs.Faults.{IfFault};
+ghost use Rattle.cube_values.specs.Faults.{IfFault};
 ghost use Rattle.cube_language.specs.Tokens.{AreTokens, HasTokenFault, IsFault, fault_at};
 ghost use Rattle.sql_words.specs.Fronts.{IsFront, begins_gap, begins_mark, begins_word};
 

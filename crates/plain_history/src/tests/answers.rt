@@ -5,9 +5,9 @@ ghost use Rattle.cube_values.specs.Visible.{RisesByEpoch};
 use super::histories::{
     all_of, cell, does, does_nothing, inserts, men, one, part_of, put, reader, two, visit, writer,
 };
-use crate::{answer, region_has, visible};
+use crate::{answer, region_has, visible_rows};
 use cube_values::{
-    BoundItem, EpochList, Field, Operation, Query, Sequence, Snapshot, StoredRow, Table, Test,
+    BoundItem, EpochList, Field, Operation, Query, Sequence, Snapshot, StoredRow, Table, ValueTest,
     Text, Transaction, Value,
 };
 use std::alloc::{AllocError, Global};
@@ -22,7 +22,7 @@ fn ask(
 ) -> Result<Table, AllocError>
     requires { RisesByEpoch transactions.now }
 {
-    let rows = visible(alloc, snapshot, transactions)?;
+    let rows = visible_rows(alloc, snapshot, transactions)?;
     answer(alloc, query, rows.as_slice())
 }
 
@@ -238,21 +238,21 @@ fn average_near_zero(rt: HostRuntime) -> Result<(), Fail> {
 }
 
 /// Whether the row x = 3 of `t` is among the rows of a cube whose value at a place passes a test.
-fn has_three(alloc: Global, cube: &str, place: u32, test: Test) -> Result<bool, AllocError> {
+fn has_three(alloc: Global, cube: &str, place: u32, test: ValueTest) -> Result<bool, AllocError> {
     let row = cell(alloc, 3, 0)?;
     let region = part_of(alloc, cube, place, test)?;
     Ok(region_has(&region, &row))
 }
 
-fn one_and_three(alloc: Global) -> Result<Test, AllocError> {
+fn one_and_three(alloc: Global) -> Result<ValueTest, AllocError> {
     let mut values = Vec::new(alloc);
     values.push(Value::Int(1))?;
     values.push(Value::Int(3))?;
-    Ok(Test::OneOf(Sequence::from_vec(values)))
+    Ok(ValueTest::OneOf(Sequence::from_vec(values)))
 }
 
-fn between(low: i64, high: i64) -> Test {
-    Test::Between(Value::Int(low), Value::Int(high))
+fn between(low: i64, high: i64) -> ValueTest {
+    ValueTest::Between(Value::Int(low), Value::Int(high))
 }
 
 #[test]
@@ -261,8 +261,8 @@ fn tests_of_a_region(rt: HostRuntime) -> Result<(), Fail> {
     assert!(rt; has_three(alloc, "t", 0, between(3, 3))?);
     assert!(rt; !has_three(alloc, "t", 0, between(4, 9))?);
     assert!(rt; has_three(alloc, "t", 0, one_and_three(alloc)?)?);
-    assert!(rt; !has_three(alloc, "t", 0, Test::Equal(Value::Int(4)))?);
-    assert!(rt; !has_three(alloc, "t", 1, Test::Equal(Value::Int(3)))?);
-    assert!(rt; !has_three(alloc, "visits", 0, Test::Equal(Value::Int(3)))?);
+    assert!(rt; !has_three(alloc, "t", 0, ValueTest::Equal(Value::Int(4)))?);
+    assert!(rt; !has_three(alloc, "t", 1, ValueTest::Equal(Value::Int(3)))?);
+    assert!(rt; !has_three(alloc, "visits", 0, ValueTest::Equal(Value::Int(3)))?);
     Ok(())
 }

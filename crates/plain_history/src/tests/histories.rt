@@ -5,7 +5,7 @@ ghost use Rattle.cube_values.specs.Visible.{RisesByEpoch};
 
 use cube_values::{
     Condition, Conditions, EpochList, Operation, Operations, Region, Row, Sequence, Snapshot,
-    StoredRow, Test, Text, Transaction, Value, Values,
+    StoredRow, ValueTest, Text, Transaction, Value, Values,
 };
 use std::alloc::{AllocError, Global};
 
@@ -55,7 +55,7 @@ pub fn all_of(alloc: Global, cube: &str) -> Result<Region, AllocError> {
 }
 
 /// The rows of a cube whose value at a place passes a test.
-pub fn part_of(alloc: Global, cube: &str, place: u32, test: Test) -> Result<Region, AllocError> {
+pub fn part_of(alloc: Global, cube: &str, place: u32, test: ValueTest) -> Result<Region, AllocError> {
     let mut conditions = Vec::new(alloc);
     conditions.push(Condition { place, test })?;
     let cube = Text::new(alloc, cube)?;
@@ -65,7 +65,7 @@ pub fn part_of(alloc: Global, cube: &str, place: u32, test: Test) -> Result<Regi
 
 /// The rows of men.
 pub fn men(alloc: Global) -> Result<Region, AllocError> {
-    let test = Test::Equal(Value::Text(Text::new(alloc, "M")?));
+    let test = ValueTest::Equal(Value::Text(Text::new(alloc, "M")?));
     part_of(alloc, "visits", 1, test)
 }
 

@@ -1,7 +1,8 @@
 use Rattle.std.proofs.Common.{◌≡◌, ◌<◌, ◌==◌, true, false, length, get_or, refl, arith, ◌∙◌}
 use Rattle.std.proofs.lemmas.Bool.Decides.{nat_tests}
 use Rattle.cube_values.specs.declared.entry.Entry.TheVariants.{Run}
-use Rattle.epochs_vector.specs.Without.{epoch_of, staying}
+use Rattle.cube_values.specs.EpochsVector.{maker}
+use Rattle.epochs_vector.specs.Without.{staying}
 use Rattle.epochs_vector.proofs.WhatStays.{out_none, out_next, out_same, out_other, out_all}
 use Rattle.epochs_vector.proofs.without.take_out.Goals as goal
 use Rattle.epochs_vector.proofs.without.take_out.Goals.{then-maker-epoch, else-maker-epoch}
@@ -26,11 +27,11 @@ loop-at-preserved c =
     let entry = get_or l.entries l.at (Run 0 0) in
     let there : l.at < length old = omega arith in
     elim c.if-maker-epoch.branch [
-      | then-maker-epoch w ↦ let b : (epoch_of entry == c.args.epoch) ≡ true = grind (arith, nat_tests, c.maker.ensures, w.if-maker-epoch.true) in
+      | then-maker-epoch w ↦ let b : (maker entry == c.args.epoch) ≡ true = grind (arith, nat_tests, c.maker.ensures, w.if-maker-epoch.true) in
           let f = rw c.rows_after-to.ensures at w.fill.ensures.bits in
           rw (w.entries-is, w.keep-is, w.len-is, w.rows-is, c.rows_after-to.ensures) (out_same c.args.epoch kept old l.entries l.keep.bits w.fill.new.self.bits l.at l.len l.from l.rows (Run 0 0) entry there refl b l.invariant.0 f, w.fill.ensures.room ∙ l.invariant.1)
-      | else-maker-epoch w ↦ let b : (epoch_of entry == c.args.epoch) ≡ false = grind (arith, nat_tests, c.maker.ensures, w.if-maker-epoch.false) in
-          let f = rw (w.numbered.ensures, c.rows_after-to.ensures) at w.put_at-len.ensures.front in
+      | else-maker-epoch w ↦ let b : (maker entry == c.args.epoch) ≡ false = grind (arith, nat_tests, c.maker.ensures, w.if-maker-epoch.false) in
+          let f = rw (w.with_rows_after.ensures, c.rows_after-to.ensures) at w.put_at-len.ensures.front in
           rw (w.entries-is, w.keep-is, w.len-is, w.rows-is, c.rows_after-to.ensures) (out_other c.args.epoch kept old l.entries w.put_at-len.new.entries l.keep.bits l.at l.len w.put_at-len.result l.from l.rows (Run 0 0) entry there refl b l.invariant.0 f w.put_at-len.ensures.rest w.put_at-len.ensures.within, l.invariant.1)
     ]
 

@@ -36,7 +36,7 @@ loop-at-preserved c =
     } in
     elim c.if-not-is_old.branch [
       | then-not-is_old w ↦ let b : is_old_mark p entry ≡ false = grind (arith, nat_tests, c.is_old.ensures, w.if-not-is_old.true) in
-          let f = rw (w.numbered.ensures, c.rows_after-to.ensures) at w.put-len.ensures.front in
+          let f = rw (w.with_rows_after.ensures, c.rows_after-to.ensures) at w.put-len.ensures.front in
           rw (w.entries-is, w.len-is, c.rows_after-to.ensures) (purged_new p limit bits old l.entries w.put-len.new.entries l.keep.bits c.fill.new.self.bits l.at l.len w.put-len.result l.from l.rows first (Run 0 0) entry there refl b l.invariant.0 step f w.put-len.ensures.rest w.put-len.ensures.within, c.fill.ensures.room ∙ l.invariant.1)
       | else-not-is_old w ↦ let b : is_old_mark p entry ≡ true = grind (arith, nat_tests, c.is_old.ensures, w.if-not-is_old.false) in
           rw (w.entries-is, w.len-is, c.rows_after-to.ensures) (purged_old p limit bits old l.entries l.keep.bits c.fill.new.self.bits l.at l.len l.from l.rows first (Run 0 0) entry there refl b l.invariant.0 step, c.fill.ensures.room ∙ l.invariant.1)

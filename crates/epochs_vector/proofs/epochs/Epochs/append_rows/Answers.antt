@@ -1,6 +1,7 @@
 use Rattle.std.proofs.Common.{◌≡◌, ◌+◌, refl, ap, arith}
 use Rattle.cube_values.specs.declared.entry.Entry.TheVariants.{Run}
-use Rattle.epochs_vector.specs.Entries.{Vector, rows_of}
+use Rattle.cube_values.specs.EpochsVector.{rows_of}
+use Rattle.epochs_vector.specs.Entries.{Vector}
 use Rattle.epochs_vector.proofs.Ends.{vector_more, vector_rows}
 use Rattle.epochs_vector.proofs.epochs.Epochs.append_rows.Goals as goal
 

@@ -2,7 +2,8 @@ use Rattle.std.proofs.Common.{◌≡◌, List, length, true, take, drop, arith, 
 use Rattle.std.proofs.lemmas.List.{length-replicate, take_at}
 use Rattle.cube_values.specs.declared.entry.Entry.{Entry}
 use Rattle.cube_values.specs.BitRows.{set_bits}
-use Rattle.epochs_vector.specs.Entries.{Vector, rows_of}
+use Rattle.cube_values.specs.EpochsVector.{rows_of}
+use Rattle.epochs_vector.specs.Entries.{Vector}
 use Rattle.epochs_vector.specs.Without.{staying, without}
 use Rattle.epochs_vector.proofs.Ends.{vector_rows}
 use Rattle.epochs_vector.proofs.WhatStays.{vector_without}

@@ -1,5 +1,6 @@
 use Rattle.std.proofs.Common.{ap, sym, ◌∙◌}
-use Rattle.epochs_vector.specs.Entries.{Vector, rows_of}
+use Rattle.cube_values.specs.EpochsVector.{rows_of}
+use Rattle.epochs_vector.specs.Entries.{Vector}
 use Rattle.epochs_vector.proofs.Ends.{vector_rows}
 use Rattle.epochs_vector.proofs.epochs.Epochs.rows.Goals as goal
 

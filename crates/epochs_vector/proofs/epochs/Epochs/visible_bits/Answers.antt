@@ -1,6 +1,7 @@
 use Rattle.std.proofs.Common.{◌≡◌, length, false, ap, sym, ◌∙◌, arith}
 use Rattle.std.proofs.lemmas.List.{length-replicate}
-use Rattle.epochs_vector.specs.Entries.{Vector, rows_of}
+use Rattle.cube_values.specs.EpochsVector.{rows_of}
+use Rattle.epochs_vector.specs.Entries.{Vector}
 use Rattle.epochs_vector.specs.Seen.{seen_rows}
 use Rattle.epochs_vector.proofs.Ends.{vector_rows}
 use Rattle.epochs_vector.proofs.VisibleRows.{all_seen}
