@@ -10,10 +10,12 @@ pub use Rattle.cube_values.specs.Running
 pub use Rattle.cube_values.specs.Queries
 pub use Rattle.cube_values.specs.Answer
 pub use Rattle.cube_values.specs.BitRows
+pub use Rattle.cube_values.specs.First
+pub use Rattle.cube_values.specs.Faults
+pub use Rattle.cube_values.specs.Batches
 pub use Rattle.cube_language.specs.Names
 pub use Rattle.cube_language.specs.Cubes
 pub use Rattle.cube_language.specs.CubesText
-pub use Rattle.cube_values.specs.Faults
 pub use Rattle.cube_language.specs.Quotes
 pub use Rattle.cube_language.specs.Parts
 pub use Rattle.cube_language.specs.Tokens

@@ -12,9 +12,10 @@ pub use cube_language::{
     Tokens, Tuples, begins_name, continues_name, is_keyword, is_name, is_word, spells,
 };
 pub use cube_values::{
-    Bits, BoundItem, BoundItems, BoundQuery, CallError, CodedRow, CodedRows, Condition, Conditions,
-    Coords, CubeShape, Entries, Entry, EpochList, Field, Flags, Line, NameLists, Numbers,
-    Operation, Operations, Part, Parts, Query, Region, Row, Rows, Sequence, Shape, Size, Sizes,
-    Snapshot, Span, StoredRow, StoredRows, Table, Text, TextLists, Texts, Transaction,
-    Transactions, Value, Values, visible_is_what_running_leaves,
+    Bits, Bound, BoundItem, BoundItems, BoundKey, BoundKeys, BoundQuery, BoundTest, BoundTests,
+    CallError, CodedRow, CodedRows, Condition, Conditions, Coords, CubeShape, Entries, Entry,
+    EpochList, Field, Flags, Line, MOST_BRICKS, MOST_COLUMNS, NameLists, Numbers, Operation,
+    Operations, Part, Parts, Query, Region, Row, Rows, Sequence, Shape, Size, Sizes, Snapshot,
+    Span, StoredRow, StoredRows, Table, Text, TextLists, Texts, TopPlan, Transaction, Transactions,
+    Value, ValueTest, Values, visible_is_what_running_leaves,
 };
