@@ -13,6 +13,7 @@ pub use Rattle.cube_values.specs.BitRows
 pub use Rattle.cube_values.specs.First
 pub use Rattle.cube_values.specs.Faults
 pub use Rattle.cube_values.specs.Batches
+pub use Rattle.cube_values.specs.Rooms
 pub use Rattle.cube_language.specs.Names
 pub use Rattle.cube_language.specs.Cubes
 pub use Rattle.cube_language.specs.CubesText

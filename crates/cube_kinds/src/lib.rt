@@ -17,5 +17,5 @@ pub use cube_values::{
     EpochList, Field, Flags, Line, MOST_BRICKS, MOST_COLUMNS, NameLists, Numbers, Operation,
     Operations, Part, Parts, Query, Region, Row, Rows, Sequence, Shape, Size, Sizes, Snapshot,
     Span, StoredRow, StoredRows, Table, Text, TextLists, Texts, TopPlan, Transaction, Transactions,
-    Value, ValueTest, Values, visible_is_what_running_leaves,
+    Value, ValueTest, Values, grown_room, visible_is_what_running_leaves,
 };

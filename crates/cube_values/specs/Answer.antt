@@ -94,4 +94,5 @@ table_of group items rows = map (λ key. map (item_of (rows_of_key group rows ke
 
 -- The answer is the table of the rows that the query's region has.
 abbrev pub answer : Query → List StoredRow → List (List Field)
-answer query rows = table_of query.group query.items (map (λ stored. stored.row) (filter (region_has query.region) rows))
+answer query rows =
+    table_of query.group query.items (map (λ stored. stored.row) (filter (region_has query.region) rows))

@@ -1,5 +1,5 @@
 -- Batches of rows by coordinates, kept flat: all coordinates in one list and all metrics in another.
-use Rattle.std.specs.Prelude.{◌≡◌, ℕ, ◌+◌, ◌*◌, ◌≤◌, ℤ, List, [], length, map, take, drop, slice_index_or}
+use Rattle.std.specs.Prelude.{◌≡◌, ℕ, ◌*◌, ◌≤◌, ℤ, List, [], length, map, take, drop, slice_index_or}
 use Rattle.std.specs.List.{range_with_len}
 use Rattle.cube_values.specs.declared.row.CodedRow.{CodedRow}
 

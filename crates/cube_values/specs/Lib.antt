@@ -13,3 +13,4 @@ pub mod BitRows
 pub mod First
 pub mod Faults
 pub mod Batches
+pub mod Rooms

@@ -16,7 +16,8 @@ CanSee s epoch = (epoch ≤ s.epoch) × (Contains s.deps epoch → ⊥)
 -- writer where its epoch and all its deps are above it.
 abbrev pub admissible : Snapshot → ℕ → Bool
 admissible s epoch =
-    if s.own then nat_lt epoch s.epoch && list_all (λ dep. nat_lt epoch dep) s.deps else nat_le epoch s.epoch && length s.deps == 0
+    if s.own then nat_lt epoch s.epoch && list_all (λ dep. nat_lt epoch dep) s.deps
+    else nat_le epoch s.epoch && length s.deps == 0
 
 -- The same as a fact.
 abbrev pub IsAdmissible : Snapshot → ℕ → Type 0

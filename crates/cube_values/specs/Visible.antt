@@ -19,7 +19,8 @@ pub record PlacedOperation : Type 0 where
 
 -- The operations of a transaction, in order.
 abbrev pub placed_operations : Transaction → List PlacedOperation
-placed_operations t = map (λ p. record { epoch = t.epoch; place = p.0; operation = p.1 }) (enumerate_from 0 t.operations)
+placed_operations t =
+    map (λ p. record { epoch = t.epoch; place = p.0; operation = p.1 }) (enumerate_from 0 t.operations)
 
 -- An operation comes before another by its epoch, or in one transaction by its place.
 abbrev pub comes_before : PlacedOperation → PlacedOperation → Bool
@@ -41,11 +42,13 @@ hides drop put row = deletes drop.operation row && comes_before put drop
 
 -- The rows that remain of operations: those that each puts, without those that one of them hides.
 abbrev pub remaining_rows : List PlacedOperation → List StoredRow
-remaining_rows all = flat_map (λ put. filter (λ row. not (list_any (λ drop. hides drop put row) all)) (rows_put put.operation)) all
+remaining_rows all =
+    flat_map (λ put. filter (λ row. not (list_any (λ drop. hides drop put row) all)) (rows_put put.operation)) all
 
 -- The rows that a snapshot sees are those that remain of the operations whose epochs it sees.
 abbrev pub visible_rows : Snapshot → List Transaction → List StoredRow
-visible_rows s transactions = remaining_rows (filter (λ placed. sees s placed.epoch) (flat_map placed_operations transactions))
+visible_rows s transactions =
+    remaining_rows (filter (λ placed. sees s placed.epoch) (flat_map placed_operations transactions))
 
 -- Each transaction has an epoch below those that follow it.
 abbrev pub RisesByEpoch : List Transaction → Type 0

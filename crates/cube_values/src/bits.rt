@@ -215,7 +215,8 @@ fn with_bits(word: u64, low: u64, high: u64, on: bool) -> u64
     requires order { low ≤ high }
     requires within { high ≤ 64 }
     ensures inside { (i : ℕ) → low ≤ i → i < high → has_bit result i ≡ on }
-    ensures outside { (i : ℕ) → i < 64 → (i < low) ⊎ (high ≤ i) → has_bit result i ≡ has_bit word i }
+    ensures outside { (i : ℕ) → i < 64 → (i < low) ⊎ (high ≤ i)
+        → has_bit result i ≡ has_bit word i }
 {
     turn(word, low_ones(high) - low_ones(low), on)
 }

@@ -9,6 +9,7 @@ mod epoch_list;
 mod law;
 mod operation;
 mod query;
+mod room;
 mod row;
 mod sequence;
 mod shape;
@@ -29,6 +30,7 @@ pub use operation::{
     Condition, Conditions, Operation, Operations, Region, Transaction, Transactions, ValueTest,
 };
 pub use query::{BoundItem, BoundItems, BoundQuery, Query};
+pub use room::grown_room;
 pub use row::{CodedRow, Coords, Numbers, Row, Rows, StoredRow, StoredRows};
 pub use sequence::Sequence;
 pub use shape::{CubeShape, Flags, MOST_BRICKS, MOST_COLUMNS, Shape, Size, Sizes};

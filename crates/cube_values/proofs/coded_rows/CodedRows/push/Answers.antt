@@ -1,4 +1,4 @@
-use Rattle.std.proofs.Common.{◌≡◌, ◌+◌, ◌<◌, ◌++◌, ◌∷◌, [], length, ap, sym, ◌∙◌, arith}
+use Rattle.std.proofs.Common.{◌+◌, ◌<◌, ◌++◌, ◌∷◌, [], length, ap, sym, ◌∙◌, arith}
 use Rattle.cube_values.specs.Batches.{Batch, flat_rows}
 use Rattle.cube_values.proofs.FlatRows.{length_flat, long_more, part_within, rows_more}
 use Rattle.cube_values.proofs.coded_rows.CodedRows.push.Goals as goal

@@ -1,4 +1,4 @@
-use Rattle.std.proofs.Common.{length, ap, sym, ◌∙◌, arith}
+use Rattle.std.proofs.Common.{length, ap, arith}
 use Rattle.cube_values.specs.Batches.{Batch}
 use Rattle.cube_values.proofs.FlatRows.{length_flat}
 use Rattle.cube_values.proofs.coded_rows.CodedRows.room.Goals as goal
