@@ -34,10 +34,10 @@ TellsPiece told name at piece answer =
     (files : List (List ℕ × List ℕ)) (bytes : List ℕ) (n : ℕ) →
     told ≡ Some files → content_of files name ≡ Some bytes → answer ≡ Got n → IsPiece bytes at n piece
 
--- an answer that says how many bytes of a file are at the front of a piece, where the files are told
+-- an answer that says how many bytes of a file begin a piece, where the files are told
 -- and this one is there: all of them, or as many as the piece holds
-abbrev pub TellsFront : Option (List (List ℕ × List ℕ)) → List ℕ → List ℕ → ReadAnswer → Type 0
-TellsFront told name piece answer =
+abbrev pub TellsPrefix : Option (List (List ℕ × List ℕ)) → List ℕ → List ℕ → ReadAnswer → Type 0
+TellsPrefix told name piece answer =
     (files : List (List ℕ × List ℕ)) (bytes : List ℕ) (n : ℕ) →
     told ≡ Some files → content_of files name ≡ Some bytes → answer ≡ Got n →
     (n ≡ min (length piece) (length bytes)) × (take n piece ≡ take n bytes)

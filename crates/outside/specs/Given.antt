@@ -25,8 +25,8 @@ IsWithin limit (too_long size) = limit < size
 IsWithin limit (whole bytes) = length bytes ≤ limit
 
 -- the answer is this fault
-abbrev pub IsFault : Result (Vec ℕ Global) (CallError FileFault) → FileFault → Type 0
-IsFault answer fault = IsErrOf answer (Fault fault)
+abbrev pub IsFileFault : Result (Vec ℕ Global) (CallError FileFault) → FileFault → Type 0
+IsFileFault answer fault = IsErrOf answer (Fault fault)
 
 -- the answer is what the file gives, unless the shelf failed or memory ran out
 abbrev pub Shows : Result (Vec ℕ Global) (CallError FileFault) → Given → Type 0

@@ -4,3 +4,4 @@ pub mod Given
 pub mod Memory
 pub mod Output
 pub mod Told
+pub mod ShelfCalls

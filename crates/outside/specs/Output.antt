@@ -7,9 +7,9 @@ use Rattle.outside.specs.declared.answers.PutAnswer.TheVariants.{Took, Failed}
 abbrev pub Gained : Option (List ℕ) → List ℕ → Option (List ℕ) → Type 0
 Gained before bytes after = (taken : List ℕ) → before ≡ Some taken → after ≡ Some (taken ++ bytes)
 
--- a front of the bytes was gained, and not all of them
-abbrev pub GainedFront : Option (List ℕ) → List ℕ → Option (List ℕ) → Type 0
-GainedFront before bytes after = (n : ℕ) × (n < length bytes) × Gained before (take n bytes) after
+-- a prefix of the bytes was gained, and not all of them
+abbrev pub GainedPrefix : Option (List ℕ) → List ℕ → Option (List ℕ) → Type 0
+GainedPrefix before bytes after = (n : ℕ) × (n < length bytes) × Gained before (take n bytes) after
 
 -- which bytes of a piece an answer to `put` takes
 abbrev pub taken_by : PutAnswer → List ℕ → List ℕ

@@ -2,8 +2,9 @@
 
 ghost use Rattle.std.specs.Prelude.{◌≡◌, ◌≢◌, ℕ, ◌≤◌, length, take, min, Some};
 ghost use Rattle.outside.specs.Counts.{Rose};
-ghost use Rattle.outside.specs.Files.{TellsFront};
-ghost use Rattle.outside.specs.Given.{ReadsWhole, IsFault};
+ghost use Rattle.outside.specs.Files.{TellsPrefix};
+ghost use Rattle.outside.specs.Given.{ReadsWhole, IsFileFault};
+ghost use Rattle.outside.specs.ShelfCalls.{WhereKnown, AnswersBy, FillsBy};
 
 use crate::answers::{ReadAnswer, SizeAnswer};
 use crate::shelf::Shelf;
@@ -33,10 +34,13 @@ pub fn read_whole<S: Shelf>(
 ) -> Result<Vec<u8>, CallError<FileFault>>
     ensures same { S.told shelf.new ≡ S.told shelf.old }
     ensures later { S.fault_count shelf.old ≤ S.fault_count shelf.new }
-    ensures failed { IsFault result FileFault.Failed → Rose (S.fault_count shelf.old) (S.fault_count shelf.new) }
-    ensures absent { IsFault result FileFault.Absent → Rose (S.absence_count shelf.old) (S.absence_count shelf.new) }
-    ensures present { ¬ IsFault result FileFault.Absent → S.absence_count shelf.new ≡ S.absence_count shelf.old }
+    ensures failed { IsFileFault result FileFault.Failed → Rose (S.fault_count shelf.old) (S.fault_count shelf.new) }
+    ensures quiet { ¬ IsFileFault result FileFault.Failed → S.fault_count shelf.new ≡ S.fault_count shelf.old }
+    ensures absent { IsFileFault result FileFault.Absent → Rose (S.absence_count shelf.old) (S.absence_count shelf.new) }
+    ensures present { ¬ IsFileFault result FileFault.Absent → S.absence_count shelf.new ≡ S.absence_count shelf.old }
     ensures given { ReadsWhole (S.told shelf.old) name.now limit result }
+    ensures calls { WhereKnown (λ past now. AnswersBy name.now limit past now result)
+        (S.call_list shelf.old) (S.call_list shelf.new) }
 {
     let size = match shelf.size(name) {
         SizeAnswer::Size(size) => size,
@@ -62,9 +66,12 @@ fn fill<S: Shelf>(shelf: &mut S, name: &str, into: &mut [u8]) -> ReadAnswer
     ensures same { S.told shelf.new ≡ S.told shelf.old }
     ensures later { S.fault_count shelf.old ≤ S.fault_count shelf.new }
     ensures failed { result ≡ ReadAnswer.Failed → Rose (S.fault_count shelf.old) (S.fault_count shelf.new) }
+    ensures quiet { result ≢ ReadAnswer.Failed → S.fault_count shelf.new ≡ S.fault_count shelf.old }
     ensures absences { S.absence_count shelf.new ≡ S.absence_count shelf.old }
     ensures fits { (n : ℕ) → result ≡ ReadAnswer.Got n → n ≤ length into.new }
-    ensures front { TellsFront (S.told shelf.old) name.now into.new result }
+    ensures prefix { TellsPrefix (S.told shelf.old) name.now into.new result }
+    ensures calls { WhereKnown (λ past now. FillsBy name.now (length into.new) past now into.new result)
+        (S.call_list shelf.old) (S.call_list shelf.new) }
 {
     let mut filled = 0;
     'pieces: while filled < into.len() {

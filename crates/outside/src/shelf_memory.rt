@@ -1,6 +1,6 @@
 //! A shelf whose files lie in memory, for tests and for what is said of whole runs.
 
-ghost use Rattle.std.specs.Prelude.{◌≡◌, ◌≢◌, ◌↔◌, ◌-◌, ℕ, ◌≤◌, List, length, min, Some};
+ghost use Rattle.std.specs.Prelude.{◌≡◌, ◌≢◌, ◌↔◌, ◌-◌, ℕ, ◌≤◌, List, length, min, Some, None};
 ghost use Rattle.std.specs.Option.{option_copied};
 ghost use Rattle.outside.specs.Counts.{Rose, IsFailing};
 ghost use Rattle.outside.specs.Files.{content_of, IsPiece};
@@ -57,8 +57,11 @@ impl ShelfMemory {
 impl Shelf for ShelfMemory {
     ghost use Rattle.outside.specs.Files.{TellsSize, TellsPiece};
     ghost use Rattle.outside.specs.Memory.{after_size, after_read, bytes_left};
+    ghost use Rattle.outside.specs.ShelfCalls.{sized, with_call, read_call};
 
     ghost told = { λ shelf. Some shelf.files };
+
+    ghost call_list = { λ _. None };
 
     ghost fault_count = { λ shelf. shelf.faults };
 
@@ -72,8 +75,10 @@ impl Shelf for ShelfMemory {
         ensures same { Some self.new.files ≡ Some self.old.files }
         ensures later { self.old.faults ≤ self.new.faults }
         ensures failed { result ≡ SizeAnswer.Failed → Rose self.old.faults self.new.faults }
+        ensures quiet { result ≢ SizeAnswer.Failed → self.new.faults ≡ self.old.faults }
         ensures absent { result ≡ SizeAnswer.Absent → Rose self.old.absences self.new.absences }
         ensures present { result ≢ SizeAnswer.Absent → self.new.absences ≡ self.old.absences }
+        ensures call { None ≡ with_call (sized name.now result) None }
         ensures value { TellsSize (Some self.old.files) name.now result }
 
         ensures exact { result ≡ SizeAnswer.Failed ↔ IsFailing self.old.failing self.old.calls }
@@ -97,8 +102,10 @@ impl Shelf for ShelfMemory {
         ensures same { Some self.new.files ≡ Some self.old.files }
         ensures later { self.old.faults ≤ self.new.faults }
         ensures failed { result ≡ ReadAnswer.Failed → Rose self.old.faults self.new.faults }
+        ensures quiet { result ≢ ReadAnswer.Failed → self.new.faults ≡ self.old.faults }
         ensures absences { self.new.absences ≡ self.old.absences }
         ensures fits { (n : ℕ) → result ≡ ReadAnswer.Got n → n ≤ length into.new }
+        ensures call { None ≡ with_call (read_call name.now at into.new result) None }
         ensures piece { TellsPiece (Some self.old.files) name.now at into.new result }
 
         ensures exact { result ≡ ReadAnswer.Failed ↔ IsFailing self.old.failing self.old.calls }

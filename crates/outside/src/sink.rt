@@ -1,6 +1,6 @@
 //! The trait of what takes output.
 
-ghost use Rattle.std.specs.Prelude.{◌≡◌, ℕ, ◌≤◌, List, Option};
+ghost use Rattle.std.specs.Prelude.{◌≡◌, ◌≢◌, ℕ, ◌≤◌, List, Option};
 ghost use Rattle.outside.specs.Counts.{Rose};
 ghost use Rattle.outside.specs.Output.{Gained, TakesSome, taken_by};
 
@@ -22,6 +22,7 @@ pub trait Sink {
     fn put(&mut self, bytes: &[u8]) -> PutAnswer
         ensures later { fault_count self.old ≤ fault_count self.new }
         ensures failed { result ≡ PutAnswer.Failed → Rose (fault_count self.old) (fault_count self.new) }
+        ensures quiet { result ≢ PutAnswer.Failed → fault_count self.new ≡ fault_count self.old }
         ensures some { TakesSome result bytes.now }
         ensures gained { Gained (taken self.old) (taken_by result bytes.now) (taken self.new) };
 }

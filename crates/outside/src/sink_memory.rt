@@ -81,6 +81,7 @@ impl Sink for SinkMemory {
     fn put(&mut self, bytes: &[u8]) -> PutAnswer
         ensures later { self.old.faults ≤ self.new.faults }
         ensures failed { result ≡ PutAnswer.Failed → Rose self.old.faults self.new.faults }
+        ensures quiet { result ≢ PutAnswer.Failed → self.new.faults ≡ self.old.faults }
         ensures some { TakesSome result bytes.now }
         ensures gained { Gained (Some self.old.taken) (taken_by result bytes.now) (Some self.new.taken) }
 

@@ -46,6 +46,8 @@ impl Shelf for SmallPieces {
 
     ghost told = { λ _. None };
 
+    ghost call_list = { λ _. None };
+
     ghost fault_count = { λ shelf. shelf.faults };
 
     ghost absence_count = { λ shelf. shelf.absences };

@@ -12,7 +12,7 @@ returns-in-Failed-clause-err g c =
 pub pieces-preserved : goal.pieces-preserved
 pieces-preserved g c = record {
   within = grind (arith, common_steps);
-  later = omega (arith, c.pieces.invariant.later);
+  quiet = grind (arith, common_steps);
   gained =
       let bytes = c.args.bytes.now in
       let rest = between_to_end bytes c.pieces.taken (length bytes) (omega arith) in

@@ -1,11 +1,11 @@
-use Rattle.std.proofs.Common.{◌≤◌, ◌-◌, length, take}
+use Rattle.std.proofs.Common.{◌≡◌, ◌≤◌, ◌-◌, length, take}
 use Rattle.outside.specs.Output.{Gained}
 use Rattle.outside.proofs.writing.put_whole.Given as goal
 
 abbrev pub invariant-pieces : goal.invariant-pieces
 invariant-pieces g l = record {
   within : l.taken ≤ length l.bytes;
-  later : g.K.Sink.fault_count l.fn.sink ≤ g.K.Sink.fault_count l.sink;
+  quiet : g.K.Sink.fault_count l.sink ≡ g.K.Sink.fault_count l.fn.sink;
   gained : Gained (g.K.Sink.taken l.fn.sink) (take l.taken l.bytes) (g.K.Sink.taken l.sink);
 }
 
