@@ -40,6 +40,8 @@ impl<'a, R: Files> Shelf for FileShelf<'a, R> {
 
     ghost told = { λ _. None };
 
+    ghost call_list = { λ _. None };
+
     ghost fault_count = { λ shelf. shelf.faults };
 
     ghost absence_count = { λ shelf. shelf.absences };

@@ -11,6 +11,7 @@ use Rattle.cube_language.specs.Pieces.{IsScript, HasScriptFault}
 use Rattle.cube_language.specs.Syntax.{IsSyntaxFault}
 use Rattle.outside.specs.Counts.{Rose}
 use Rattle.outside.specs.Given.{Given, missing, too_long, whole}
+use Rattle.outside.specs.ShelfCalls.{ShelfCall}
 use Rattle.cubrick_top.specs.declared.action.Action.{Action}
 use Rattle.cubrick_top.specs.declared.fault.BuiltPart.TheVariants.{Script as Scripts}
 use Rattle.cubrick_top.specs.declared.fault.Fault.{Fault}
@@ -81,10 +82,10 @@ module _ (one : TextsHaveOneOutcome) where
   ending cubes_name script_name cubes script (Some OutputFault) gained rb rn pb pn d h actions k ends r quiet o silent = absurd (silent o)
   ending cubes_name script_name cubes script (Some NoMemory) gained rb rn pb pn d h actions k ends r quiet o silent = inr refl
 
-  pub served : (told : Option (List (List ℕ × List ℕ))) (taken after : Option (List ℕ)) (cubes_name script_name : List ℕ) (fault : Option Fault) (read_before read_now put_before put_now : ℕ)
-      → IsReady told cubes_name script_name → Runs told taken after cubes_name script_name fault
+  pub served : (told : Option (List (List ℕ × List ℕ))) (calls now_calls : Option (List ShelfCall)) (taken after : Option (List ℕ)) (cubes_name script_name : List ℕ) (fault : Option Fault) (read_before read_now put_before put_now : ℕ)
+      → IsReady told cubes_name script_name → Runs told calls now_calls taken after cubes_name script_name fault
       → ReadFaultCounted fault read_before read_now → (Rose read_before read_now → ⊥) → OutputFaultCounted fault put_before put_now → (Rose put_before put_now → ⊥) → IsServed (status_of fault)
-  served told taken after cubes_name script_name fault rb rn pb pn ready ran r quiet o silent =
+  served told calls now_calls taken after cubes_name script_name fault rb rn pb pn ready ran r quiet o silent =
       let declared : FileDeclares ran.cubes ready.cubes = subst (λ given. FileDeclares given ready.cubes) (sym (ran.cubes_told ready.files ready.as_told)) ready.declared in
       let performed : FilePerforms ready.cubes ran.script ready.actions = subst (λ given. FilePerforms ready.cubes given ready.actions) (sym (ran.script_told ready.files ready.as_told)) ready.performed in
       ending cubes_name script_name ran.cubes ran.script fault ran.gained rb rn pb pn ready.cubes declared ready.actions performed ran.ends r quiet o silent

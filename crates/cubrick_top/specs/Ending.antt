@@ -1,5 +1,5 @@
 -- How a run ends, by what its two files gave.
-use Rattle.std.specs.Prelude.{◌≡◌, ℕ, ◌⊎◌, List, [], ◌++◌, Option, Some, None}
+use Rattle.std.specs.Prelude.{◌≡◌, ℕ, ◌<◌, ◌⊎◌, List, [], length, take, Option, Some, None}
 use Rattle.cube_language.specs.declared.decl.Decl.{Decl}
 use Rattle.cube_language.specs.CubesText.{HasCubesFault}
 use Rattle.cube_language.specs.Pieces.{HasScriptFault}
@@ -55,7 +55,7 @@ Ends cubes_name script_name cubes script (Some (Script number fault)) gained =
 Ends cubes_name script_name cubes script (Some (NotBuilt Scripts)) gained =
     (declared : List Decl) × FileDeclares cubes declared × (text : List ℕ) × (script ≡ whole text) × IsNotBuilt declared text × (gained ≡ [])
 Ends cubes_name script_name cubes script (Some OutputFault) gained =
-    (text : List ℕ) × HasText cubes script text × (rest : List ℕ) × (text ≡ gained ++ rest)
+    (text : List ℕ) × HasText cubes script text × (n : ℕ) × (n < length text) × (gained ≡ take n text)
 Ends cubes_name script_name cubes script (Some NoMemory) gained = gained ≡ []
 
 -- An end that the two files alone decide: no memory was wanted, no read failed, and the text was taken.

@@ -4,5 +4,6 @@ pub mod Scripts
 pub mod Files
 pub mod Ending
 pub mod Reading
+pub mod RunCalls
 pub mod Runs
 pub mod Parts

@@ -1,5 +1,5 @@
 -- What reading the two files of a run comes to, and which counts rise with which fault.
-use Rattle.std.specs.Prelude.{◌≡◌, ℕ, ◌≤◌, List, Option, Some, None, Result, Ok, Err}
+use Rattle.std.specs.Prelude.{◌≡◌, ℕ, List, Option, Some, None, Result, Ok, Err}
 use Rattle.std.specs.Global.{Vec}
 use Rattle.cube_language.specs.declared.decl.Decl.{Decl}
 use Rattle.cube_language.specs.CubesText.{HasCubesFault}
@@ -7,6 +7,7 @@ use Rattle.cube_language.specs.Pieces.{HasScriptFault}
 use Rattle.outside.specs.Counts.{Rose}
 use Rattle.outside.specs.Files.{content_of}
 use Rattle.outside.specs.Given.{Given, given_by, IsWithin, missing, too_long, whole}
+use Rattle.outside.specs.ShelfCalls.{ShelfCall, GivesBy, FailsBy, WhereKnown}
 use Rattle.cubrick_top.specs.declared.action.Action.{Action}
 use Rattle.cubrick_top.specs.declared.fault.BuiltPart.TheVariants.{Script as Scripts}
 use Rattle.cubrick_top.specs.declared.fault.Fault.{Fault}
@@ -19,15 +20,15 @@ abbrev pub AbsenceCounted : Option Fault → ℕ → ℕ → Type 0
 AbsenceCounted (Some (Absent name)) before now = Rose before now
 AbsenceCounted fault before now = now ≡ before
 
--- The shelf's count of faults has risen where a file could not be read.
+-- The shelf's count of faults rises exactly with the fault that a file could not be read.
 abbrev pub ReadFaultCounted : Option Fault → ℕ → ℕ → Type 0
 ReadFaultCounted (Some (ReadFailed name)) before now = Rose before now
-ReadFaultCounted fault before now = before ≤ now
+ReadFaultCounted fault before now = now ≡ before
 
--- The sink's count of faults has risen where the text could not be written.
+-- The sink's count of faults rises exactly with the fault that the text could not be written.
 abbrev pub OutputFaultCounted : Option Fault → ℕ → ℕ → Type 0
 OutputFaultCounted (Some OutputFault) before now = Rose before now
-OutputFaultCounted fault before now = before ≤ now
+OutputFaultCounted fault before now = now ≡ before
 
 -- What a file gives is what the shelf tells of it, where it tells its files.
 abbrev pub GivenAsTold : Option (List (List ℕ × List ℕ)) → ℕ → List ℕ → Given → Type 0
@@ -74,15 +75,37 @@ ShowsScript cubes name given (Err (NotBuilt Scripts)) = (text : List ℕ) × (gi
 ShowsScript cubes name given (Err NoMemory) = Unit {0}
 ShowsScript cubes name given (Err fault) = ⊥
 
--- Something was given, as told, of a size above the limit or bytes within it, and it shows in the result.
-pub record ReadsCubes (told : Option (List (List ℕ × List ℕ))) (name : List ℕ) (limit : ℕ) (result : Result (Vec Decl) Fault) : Type 0 where
+-- The calls by which a file gave this, or those by which the shelf failed. Where memory ran out they may be any.
+abbrev pub CallsShow : List ℕ → ℕ → Given → Option Fault → List ShelfCall → List ShelfCall → Type 0
+CallsShow name limit given (Some (ReadFailed failed)) past now = FailsBy name limit past now
+CallsShow name limit given (Some NoMemory) past now = Unit {0}
+CallsShow name limit given fault past now = GivesBy name limit past now given
+
+-- Something was given, as told and by these calls, of a size above the limit or bytes within it, and it shows in the
+-- result.
+pub record ReadsCubes
+    (told : Option (List (List ℕ × List ℕ)))
+    (before after : Option (List ShelfCall))
+    (name : List ℕ)
+    (limit : ℕ)
+    (result : Result (Vec Decl) Fault)
+    : Type 0 where
   pub given : Given
   pub told_so : GivenAsTold told limit name given
+  pub by_calls : WhereKnown (CallsShow name limit given (fault_in result)) before after
   pub within : IsWithin limit given
   pub shown : ShowsCubes name given result
 
-pub record ReadsScript (told : Option (List (List ℕ × List ℕ))) (cubes : List Decl) (name : List ℕ) (limit : ℕ) (result : Result (Vec Action) Fault) : Type 0 where
+pub record ReadsScript
+    (told : Option (List (List ℕ × List ℕ)))
+    (before after : Option (List ShelfCall))
+    (cubes : List Decl)
+    (name : List ℕ)
+    (limit : ℕ)
+    (result : Result (Vec Action) Fault)
+    : Type 0 where
   pub given : Given
   pub told_so : GivenAsTold told limit name given
+  pub by_calls : WhereKnown (CallsShow name limit given (fault_in result)) before after
   pub within : IsWithin limit given
   pub shown : ShowsScript cubes name given result

@@ -35,7 +35,8 @@ pub fn read_cubes<H: Shelf>(alloc: Global, shelf: &mut H, name: &str) -> Result<
     ensures same { H.told shelf.new ≡ H.told shelf.old }
     ensures absences { AbsenceCounted (fault_in result) (H.absence_count shelf.old) (H.absence_count shelf.new) }
     ensures faults { ReadFaultCounted (fault_in result) (H.fault_count shelf.old) (H.fault_count shelf.new) }
-    ensures reads { ReadsCubes (H.told shelf.old) name.now cubes_bytes result }
+    ensures reads { ReadsCubes (H.told shelf.old) (H.call_list shelf.old) (H.call_list shelf.new)
+        name.now cubes_bytes result }
 {
     // The name is copied first, so that an absent file is never answered as want of memory.
     let Ok(own) = Text::new(alloc, name) else {
@@ -61,7 +62,8 @@ pub fn read_script<H: Shelf>(
     ensures same { H.told shelf.new ≡ H.told shelf.old }
     ensures absences { AbsenceCounted (fault_in result) (H.absence_count shelf.old) (H.absence_count shelf.new) }
     ensures faults { ReadFaultCounted (fault_in result) (H.fault_count shelf.old) (H.fault_count shelf.new) }
-    ensures reads { ReadsScript (H.told shelf.old) cubes.now name.now script_bytes result }
+    ensures reads { ReadsScript (H.told shelf.old) (H.call_list shelf.old) (H.call_list shelf.new)
+        cubes.now name.now script_bytes result }
 {
     let Ok(own) = Text::new(alloc, name) else {
         return Err(Fault::NoMemory);

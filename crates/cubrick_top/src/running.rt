@@ -59,7 +59,8 @@ fn run_files<H: Shelf, K: Sink>(
     ensures absences { AbsenceCounted result (H.absence_count shelf.old) (H.absence_count shelf.new) }
     ensures faults { ReadFaultCounted result (H.fault_count shelf.old) (H.fault_count shelf.new) }
     ensures output { OutputFaultCounted result (K.fault_count sink.old) (K.fault_count sink.new) }
-    ensures run { Runs (H.told shelf.old) (K.taken sink.old) (K.taken sink.new) cubes.now script.now result }
+    ensures run { Runs (H.told shelf.old) (H.call_list shelf.old) (H.call_list shelf.new)
+        (K.taken sink.old) (K.taken sink.new) cubes.now script.now result }
 {
     let declared = match read_cubes(alloc, shelf, cubes) {
         Ok(declared) => declared,
@@ -92,7 +93,8 @@ fn finish_files<H: Shelf, K: Sink>(
     ensures absences { AbsenceCounted result.fault (H.absence_count shelf.old) (H.absence_count shelf.new) }
     ensures faults { ReadFaultCounted result.fault (H.fault_count shelf.old) (H.fault_count shelf.new) }
     ensures output { OutputFaultCounted result.fault (K.fault_count sink.old) (K.fault_count sink.new) }
-    ensures run { Runs (H.told shelf.old) (K.taken sink.old) (K.taken sink.new) cubes.now script.now result.fault }
+    ensures run { Runs (H.told shelf.old) (H.call_list shelf.old) (H.call_list shelf.new)
+        (K.taken sink.old) (K.taken sink.new) cubes.now script.now result.fault }
     ensures served { IsReady (H.told shelf.old) cubes.now script.now →
         (Rose (H.fault_count shelf.old) (H.fault_count shelf.new) → ⊥) →
         (Rose (K.fault_count sink.old) (K.fault_count sink.new) → ⊥) → IsServed result.status }
@@ -109,7 +111,7 @@ fn finish_files<H: Shelf, K: Sink>(
 /// sink.
 ///
 /// The status and the fault of the answer belong together ([`Fault`]). Without a fault the sink gained the
-/// whole text; after an output fault it gained a front of it, and after every other fault nothing. Want of
+/// whole text; after an output fault it gained a prefix of it, and after every other fault nothing. Want of
 /// memory may be answered at any time.
 pub fn run<H: Shelf, K: Sink>(
     alloc: Global,
@@ -122,11 +124,13 @@ pub fn run<H: Shelf, K: Sink>(
 
     // What the two files gave, and how the run ended on it.
     ensures run { (cubes_name script_name : List ℕ) → map string_bytes words.now ≡ cubes_name ∷ script_name ∷ [] →
-        Runs (H.told shelf.old) (K.taken sink.old) (K.taken sink.new) cubes_name script_name result.fault }
+        Runs (H.told shelf.old) (H.call_list shelf.old) (H.call_list shelf.new)
+        (K.taken sink.old) (K.taken sink.new) cubes_name script_name result.fault }
     ensures silent { length words.now ≢ 2 → K.taken sink.new ≡ K.taken sink.old }
+    ensures unasked { length words.now ≢ 2 → H.call_list shelf.new ≡ H.call_list shelf.old }
     ensures same { H.told shelf.new ≡ H.told shelf.old }
 
-    // Faults of the outside come only where it counted them.
+    // Faults of the outside come exactly where it counted them.
     ensures absences { AbsenceCounted result.fault (H.absence_count shelf.old) (H.absence_count shelf.new) }
     ensures faults { ReadFaultCounted result.fault (H.fault_count shelf.old) (H.fault_count shelf.new) }
     ensures output { OutputFaultCounted result.fault (K.fault_count sink.old) (K.fault_count sink.new) }

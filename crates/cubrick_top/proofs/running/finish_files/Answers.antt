@@ -11,4 +11,4 @@ returns-clause-served g c = λ ready quiet silent.
       statement = c.a_text_spells_one_statement.ensures;
       no_syntax_fault = c.a_text_spells_or_has_one_fault.ensures.either;
     } in
-    rw c.finish.ensures.status (served one (g.H.Shelf.told c.args.shelf.now) (g.K.Sink.taken c.args.sink.now) (g.K.Sink.taken c.run_files.new.sink) c.args.cubes.now c.args.script.now c.run_files.result _ _ _ _ ready c.run_files.ensures.run c.run_files.ensures.faults quiet c.run_files.ensures.output silent)
+    rw c.finish.ensures.status (served one (g.H.Shelf.told c.args.shelf.now) _ _ (g.K.Sink.taken c.args.sink.now) (g.K.Sink.taken c.run_files.new.sink) c.args.cubes.now c.args.script.now c.run_files.result _ _ _ _ ready c.run_files.ensures.run c.run_files.ensures.faults quiet c.run_files.ensures.output silent)
