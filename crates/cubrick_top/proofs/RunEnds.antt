@@ -56,6 +56,7 @@ module _ (told : Option (List (List ℕ × List ℕ))) (before between now_calls
       by_calls (NotBuilt part) past now shown h = absurd shown
       by_calls OutputFault past now shown h = absurd shown
       by_calls NoMemory past now shown h = tt
+
       ending : (fault : Fault) → ShowsCubes cubes_name r.given (Err fault) → Ends cubes_name script_name r.given (given_as_told told script_bytes script_name).0 (Some fault) []
       ending Words h = h
       ending (Absent absent) h = (inl h, refl)
@@ -84,6 +85,7 @@ module _ (told : Option (List (List ℕ × List ℕ))) (before between now_calls
       by_calls (NotBuilt part) past middle now shown first h = record { between = middle; first = first; second = h }
       by_calls OutputFault past middle now shown first h = absurd shown
       by_calls NoMemory past middle now shown first h = tt
+
       ending : (fault : Fault) → ShowsScript cubes.items script_name q.given (Err fault) → Ends cubes_name script_name r.given q.given (Some fault) []
       ending Words h = h
       ending (Absent absent) h = (inr (h.0, (cubes.items, r.shown), h.1), refl)

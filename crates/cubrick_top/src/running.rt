@@ -123,7 +123,8 @@ pub fn run<H: Shelf, K: Sink>(
     ensures words { result.fault ≡ Some Words ↔ length words.now ≢ 2 }
 
     // What the two files gave, and how the run ended on it.
-    ensures run { (cubes_name script_name : List ℕ) → map string_bytes words.now ≡ cubes_name ∷ script_name ∷ [] →
+    ensures run { (cubes_name script_name : List ℕ) →
+        map string_bytes words.now ≡ cubes_name ∷ script_name ∷ [] →
         Runs (H.told shelf.old) (H.call_list shelf.old) (H.call_list shelf.new)
         (K.taken sink.old) (K.taken sink.new) cubes_name script_name result.fault }
     ensures silent { length words.now ≢ 2 → K.taken sink.new ≡ K.taken sink.old }
@@ -136,7 +137,8 @@ pub fn run<H: Shelf, K: Sink>(
     ensures output { OutputFaultCounted result.fault (K.fault_count sink.old) (K.fault_count sink.new) }
 
     // Files that are as they have to be are run, unless the outside counted a fault or memory ran out.
-    ensures served { (cubes_name script_name : List ℕ) → map string_bytes words.now ≡ cubes_name ∷ script_name ∷ [] →
+    ensures served { (cubes_name script_name : List ℕ) →
+        map string_bytes words.now ≡ cubes_name ∷ script_name ∷ [] →
         IsReady (H.told shelf.old) cubes_name script_name →
         (Rose (H.fault_count shelf.old) (H.fault_count shelf.new) → ⊥) →
         (Rose (K.fault_count sink.old) (K.fault_count sink.new) → ⊥) → IsServed result.status }

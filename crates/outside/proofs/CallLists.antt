@@ -22,11 +22,11 @@ module _ (name : List ℕ) (before between after : Option (List ShelfCall)) (at 
       let len : length (take at old) ≡ at = length-take-le at old within in
       let long : length (take n piece) ≡ n = length-take-le n piece fits in
       let more : ReadsPrefix name past (gave name (length (take at old)) (take n piece) ∷ h.0) (take at old ++ take n piece) =
-          one_more h.2 (omega (arith, long)) in (
+      one_more h.2 (omega (arith, long)) in (
         gave name at (take n piece) ∷ h.0,
         one_call (gave name at (take n piece)) between after h.0 e h.1,
         subst (λ bytes. ReadsPrefix name past (gave name at (take n piece) ∷ h.0) bytes) (sym whole)
-        (subst (λ k. ReadsPrefix name past (gave name k (take n piece) ∷ h.0) (take at old ++ take n piece)) len more),
+            (subst (λ k. ReadsPrefix name past (gave name k (take n piece) ∷ h.0) (take at old ++ take n piece)) len more),
       )
 
   -- a read that gave nothing
@@ -40,9 +40,11 @@ module _ (name : List ℕ) (before between after : Option (List ShelfCall)) (at 
         calls = h.0;
         prefix = h.2;
         end = inr (omega (arith, len), ap (λ k. gave name k [] ∷ h.0) (sym len));
-      } in
-      (gave name at [] ∷ h.0, one_call (gave name at []) between after h.0 e h.1,
-       subst (λ bytes. ReadsToEnd name size past (gave name at [] ∷ h.0) bytes) (sym same) end)
+      } in (
+        gave name at [] ∷ h.0,
+        one_call (gave name at []) between after h.0 e h.1,
+        subst (λ bytes. ReadsToEnd name size past (gave name at [] ∷ h.0) bytes) (sym same) end,
+      )
 
   -- a read that failed
   pub calls_failed : (size : ℕ) → SoFar → at < size → at ≤ length old → after ≡ with_call (read_failed name at) between →

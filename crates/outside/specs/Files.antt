@@ -19,7 +19,8 @@ size_answer (Some bytes) = Size (length bytes)
 -- an answer to `size` that is right where the files are told, unless it is Failed
 abbrev pub TellsSize : Option (List (List ℕ × List ℕ)) → List ℕ → SizeAnswer → Type 0
 TellsSize told name answer =
-    (files : List (List ℕ × List ℕ)) → told ≡ Some files → answer ≢ NoSize → answer ≡ size_answer (content_of files name)
+    (files : List (List ℕ × List ℕ)) → told ≡ Some files → answer ≢ NoSize →
+    answer ≡ size_answer (content_of files name)
 
 -- the first n bytes of the piece are those of the file from `at` on, and there are none only at its
 -- end or for an empty piece

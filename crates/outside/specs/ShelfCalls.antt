@@ -38,7 +38,9 @@ pub data ReadsPrefix (name : List ℕ) (past : List ShelfCall) : List ShelfCall 
 pub record ReadsToEnd (name : List ℕ) (size : ℕ) (past now : List ShelfCall) (bytes : List ℕ) : Type 0 where
   pub calls : List ShelfCall
   pub prefix : ReadsPrefix name past calls bytes
-  pub end : ((length bytes ≡ size) × (now ≡ calls)) ⊎ ((length bytes < size) × (now ≡ gave name (length bytes) [] ∷ calls))
+  pub end :
+      ((length bytes ≡ size) × (now ≡ calls))
+      ⊎ ((length bytes < size) × (now ≡ gave name (length bytes) [] ∷ calls))
 
 -- a read failed before the end of a file of this size
 pub record ReadsToFault (name : List ℕ) (size : ℕ) (past now : List ShelfCall) : Type 0 where
@@ -68,7 +70,8 @@ FailsBy name limit past now =
     ⊎ ((size : ℕ) × (size ≤ limit) × ReadsToFault name size (sized name (Size size) ∷ past) now)
 
 -- the calls by which a reader with a limit comes to this answer
-abbrev pub AnswersBy : List ℕ → ℕ → List ShelfCall → List ShelfCall → Result (Vec ℕ Global) (CallError FileFault) → Type 0
+abbrev pub AnswersBy :
+    List ℕ → ℕ → List ShelfCall → List ShelfCall → Result (Vec ℕ Global) (CallError FileFault) → Type 0
 AnswersBy name limit past now (Ok bytes) = GivesBy name limit past now (whole bytes.items)
 AnswersBy name limit past now (Err (Fault Absent)) = GivesBy name limit past now missing
 AnswersBy name limit past now (Err (Fault (TooLong size))) = GivesBy name limit past now (too_long size)
@@ -76,6 +79,7 @@ AnswersBy name limit past now (Err (Fault Failed)) = FailsBy name limit past now
 AnswersBy name limit past now (Err NoMemory) = (size : ℕ) × (size ≤ limit) × (now ≡ sized name (Size size) ∷ past)
 
 -- where the calls before are known, those after are, and they are related so
-abbrev pub WhereKnown : (List ShelfCall → List ShelfCall → Type 0) → Option (List ShelfCall) → Option (List ShelfCall) → Type 0
+abbrev pub WhereKnown :
+    (List ShelfCall → List ShelfCall → Type 0) → Option (List ShelfCall) → Option (List ShelfCall) → Type 0
 WhereKnown related before after =
     (past : List ShelfCall) → before ≡ Some past → (now : List ShelfCall) × (after ≡ Some now) × related past now

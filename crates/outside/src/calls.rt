@@ -39,7 +39,8 @@ impl Calls {
 
     /// Counts a call that fails.
     pub fn count_fault(&mut self)
-        ensures after { self.new ≡ record self.old { made = next self.old.made; faults = next self.old.faults } }
+        ensures after { self.new ≡
+            record self.old { made = next self.old.made; faults = next self.old.faults } }
         ensures later { self.old.faults ≤ self.new.faults }
     {
         self.made = self.made.saturating_add(1);

@@ -34,10 +34,14 @@ pub fn read_whole<S: Shelf>(
 ) -> Result<Vec<u8>, CallError<FileFault>>
     ensures same { S.told shelf.new ≡ S.told shelf.old }
     ensures later { S.fault_count shelf.old ≤ S.fault_count shelf.new }
-    ensures failed { IsFileFault result FileFault.Failed → Rose (S.fault_count shelf.old) (S.fault_count shelf.new) }
-    ensures quiet { ¬ IsFileFault result FileFault.Failed → S.fault_count shelf.new ≡ S.fault_count shelf.old }
-    ensures absent { IsFileFault result FileFault.Absent → Rose (S.absence_count shelf.old) (S.absence_count shelf.new) }
-    ensures present { ¬ IsFileFault result FileFault.Absent → S.absence_count shelf.new ≡ S.absence_count shelf.old }
+    ensures failed { IsFileFault result FileFault.Failed →
+        Rose (S.fault_count shelf.old) (S.fault_count shelf.new) }
+    ensures quiet { ¬ IsFileFault result FileFault.Failed →
+        S.fault_count shelf.new ≡ S.fault_count shelf.old }
+    ensures absent { IsFileFault result FileFault.Absent →
+        Rose (S.absence_count shelf.old) (S.absence_count shelf.new) }
+    ensures present { ¬ IsFileFault result FileFault.Absent →
+        S.absence_count shelf.new ≡ S.absence_count shelf.old }
     ensures given { ReadsWhole (S.told shelf.old) name.now limit result }
     ensures calls { WhereKnown (λ past now. AnswersBy name.now limit past now result)
         (S.call_list shelf.old) (S.call_list shelf.new) }
@@ -60,12 +64,13 @@ pub fn read_whole<S: Shelf>(
     }
 }
 
-// Puts the first bytes of a file into a piece, as many as there are and the piece holds, and answers
-// how many.
+// Puts the first bytes of a file into a piece, as many as there are and the piece holds, and
+// answers how many.
 fn fill<S: Shelf>(shelf: &mut S, name: &str, into: &mut [u8]) -> ReadAnswer
     ensures same { S.told shelf.new ≡ S.told shelf.old }
     ensures later { S.fault_count shelf.old ≤ S.fault_count shelf.new }
-    ensures failed { result ≡ ReadAnswer.Failed → Rose (S.fault_count shelf.old) (S.fault_count shelf.new) }
+    ensures failed { result ≡ ReadAnswer.Failed →
+        Rose (S.fault_count shelf.old) (S.fault_count shelf.new) }
     ensures quiet { result ≢ ReadAnswer.Failed → S.fault_count shelf.new ≡ S.fault_count shelf.old }
     ensures absences { S.absence_count shelf.new ≡ S.absence_count shelf.old }
     ensures fits { (n : ℕ) → result ≡ ReadAnswer.Got n → n ≤ length into.new }

@@ -29,10 +29,13 @@ pub trait Shelf {
     fn size(&mut self, name: &str) -> SizeAnswer
         ensures same { told self.new ≡ told self.old }
         ensures later { fault_count self.old ≤ fault_count self.new }
-        ensures failed { result ≡ SizeAnswer.Failed → Rose (fault_count self.old) (fault_count self.new) }
+        ensures failed { result ≡ SizeAnswer.Failed →
+            Rose (fault_count self.old) (fault_count self.new) }
         ensures quiet { result ≢ SizeAnswer.Failed → fault_count self.new ≡ fault_count self.old }
-        ensures absent { result ≡ SizeAnswer.Absent → Rose (absence_count self.old) (absence_count self.new) }
-        ensures present { result ≢ SizeAnswer.Absent → absence_count self.new ≡ absence_count self.old }
+        ensures absent { result ≡ SizeAnswer.Absent →
+            Rose (absence_count self.old) (absence_count self.new) }
+        ensures present { result ≢ SizeAnswer.Absent →
+            absence_count self.new ≡ absence_count self.old }
         ensures call { call_list self.new ≡ with_call (sized name.now result) (call_list self.old) }
         ensures value { TellsSize (told self.old) name.now result };
 
@@ -41,10 +44,12 @@ pub trait Shelf {
     fn read(&mut self, name: &str, at: u64, into: &mut [u8]) -> ReadAnswer
         ensures same { told self.new ≡ told self.old }
         ensures later { fault_count self.old ≤ fault_count self.new }
-        ensures failed { result ≡ ReadAnswer.Failed → Rose (fault_count self.old) (fault_count self.new) }
+        ensures failed { result ≡ ReadAnswer.Failed →
+            Rose (fault_count self.old) (fault_count self.new) }
         ensures quiet { result ≢ ReadAnswer.Failed → fault_count self.new ≡ fault_count self.old }
         ensures absences { absence_count self.new ≡ absence_count self.old }
         ensures fits { (n : ℕ) → result ≡ ReadAnswer.Got n → n ≤ length into.new }
-        ensures call { call_list self.new ≡ with_call (read_call name.now at into.new result) (call_list self.old) }
+        ensures call { call_list self.new ≡
+            with_call (read_call name.now at into.new result) (call_list self.old) }
         ensures piece { TellsPiece (told self.old) name.now at into.new result };
 }

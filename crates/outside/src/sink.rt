@@ -21,7 +21,8 @@ pub trait Sink {
     /// Takes bytes from the front of the piece: at least one, where it has any.
     fn put(&mut self, bytes: &[u8]) -> PutAnswer
         ensures later { fault_count self.old ≤ fault_count self.new }
-        ensures failed { result ≡ PutAnswer.Failed → Rose (fault_count self.old) (fault_count self.new) }
+        ensures failed { result ≡ PutAnswer.Failed →
+            Rose (fault_count self.old) (fault_count self.new) }
         ensures quiet { result ≢ PutAnswer.Failed → fault_count self.new ≡ fault_count self.old }
         ensures some { TakesSome result bytes.now }
         ensures gained { Gained (taken self.old) (taken_by result bytes.now) (taken self.new) };

@@ -30,8 +30,10 @@ pieces-preserved g c = record {
       );
   calls =
       let fits = c.read.ensures.fits _ c.in-Got.is in
-      let whole = take-put_mid_more c.pieces.into c.read.new.into c.pieces.filled c.in-Got.n c.pieces.invariant.within fits in
-      calls_more _ _ _ _ c.pieces.filled c.pieces.into c.in-Got.n c.read.new.into _ c.pieces.invariant.calls
+      let into = c.pieces.into in
+      let at = c.pieces.filled in
+      let whole = take-put_mid_more into c.read.new.into at c.in-Got.n c.pieces.invariant.within fits in
+      calls_more _ _ _ _ at into c.in-Got.n c.read.new.into _ c.pieces.invariant.calls
       c.pieces.invariant.within (omega (arith, c.in-Got.n-test)) fits (rw c.in-Got.is at c.read.ensures.call) whole;
 }
 
@@ -53,7 +55,8 @@ returns-in-Got-eq0-clause-calls g c =
     let full : length new ≡ length into - at = grind arith in
     let same = take-put_mid_below at (length into - at) into new at (omega arith) (omega arith) in
     rw (length-put_mid_end into new at (omega arith) full)
-    (calls_ended _ _ _ _ at into (length into) _ c.pieces.invariant.calls (omega arith) (omega arith) (rw (c.in-Got-eq0.is ∙ ap Got c.in-Got-eq0.field-0-test) at c.read.ensures.call) same)
+    (calls_ended _ _ _ _ at into (length into) _ c.pieces.invariant.calls (omega arith) (omega arith)
+    (rw (c.in-Got-eq0.is ∙ ap Got c.in-Got-eq0.field-0-test) at c.read.ensures.call) same)
 
 pub returns-in-Failed-clause-calls : goal.returns-in-Failed-clause-calls
 returns-in-Failed-clause-calls g c =
@@ -62,8 +65,10 @@ returns-in-Failed-clause-calls g c =
     let new = c.read.new.into in
     let full : length new ≡ length into - at = grind arith in
     rw (length-put_mid_end into new at (omega arith) full)
-    (calls_failed _ _ _ _ at into (length into) c.pieces.invariant.calls (omega arith) (omega arith) (rw c.in-Failed.is at c.read.ensures.call))
+    (calls_failed _ _ _ _ at into (length into) c.pieces.invariant.calls (omega arith) (omega arith)
+    (rw c.in-Failed.is at c.read.ensures.call))
 
 pub returns-clause-calls : goal.returns-clause-calls
 returns-clause-calls g c =
-    calls_full _ _ _ _ c.pieces.filled c.pieces.into (length c.pieces.into) c.pieces.invariant.calls (omega arith) c.pieces.invariant.within refl
+    calls_full _ _ _ _ c.pieces.filled c.pieces.into (length c.pieces.into) c.pieces.invariant.calls (omega arith)
+    c.pieces.invariant.within refl
