@@ -11,6 +11,7 @@ mod sink_memory;
 mod writing;
 
 pub use answers::{PutAnswer, ReadAnswer, SizeAnswer};
+pub use calls::Calls;
 pub use reading::{FileFault, read_whole};
 pub use shelf::Shelf;
 pub use shelf_memory::ShelfMemory;
