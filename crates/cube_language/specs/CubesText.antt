@@ -7,6 +7,7 @@ use Rattle.std.specs.Str.Parse.{digits_value}
 use Rattle.cube_language.specs.Names.{is_name}
 use Rattle.cube_language.specs.declared.cubes_fault.CubesFault.{CubesFault}
 use Rattle.cube_language.specs.declared.cubes_fault.CubesFault.TheVariants.{NotUtf8, BadLine, DuplicateCube, TooManyCubes, Schema}
+use Rattle.cube_language.specs.declared.cubes_fault.SchemaFault.{SchemaFault}
 use Rattle.cube_language.specs.declared.decl.DimDecl.{DimDecl}
 use Rattle.cube_language.specs.declared.decl.Decl.{Decl}
 use Rattle.cube_language.specs.Cubes.{kind_text, first_repeated, schema_fault, IsStorable}
@@ -22,9 +23,13 @@ without_return (byte ∷ next ∷ bytes) = byte ∷ without_return (next ∷ byt
 abbrev pub lines_of : List ℕ → List (List ℕ)
 lines_of text = map without_return (slice_split (λ byte. byte == 10) text)
 
+-- A space or a tab parts words.
+abbrev pub parts_words : ℕ → Bool
+parts_words byte = byte == 32 || byte == 9
+
 -- The words of a line, parted by spaces and tabs.
 abbrev pub words_of : List ℕ → List (List ℕ)
-words_of line = filter (λ word. not (length word == 0)) (slice_split (λ byte. byte == 32 || byte == 9) line)
+words_of line = filter (λ word. not (length word == 0)) (slice_split parts_words line)
 
 -- The lines of a text, each by its words.
 abbrev pub word_lines : List ℕ → List (List (List ℕ))
@@ -141,13 +146,44 @@ pub record BeginsCube (lines before : List Line) (name : List ℕ) (number : ℕ
   pub whole : lines ≡ before ++ Cube name ∷ behind
   pub place : number ≡ length before + 1
 
+-- The line of this number is the first to begin a cube of a name that a cube before it has.
+pub record RepeatsCube (text : List ℕ) (number : ℕ) : Type 0 where
+  pub lines : List Line
+  pub before : List Line
+  pub name : List ℕ
+  pub formed : HasLines text lines
+  pub begins : BeginsCube lines before name number
+  pub apart : first_repeated (cube_names before) ≡ None
+  pub again : IsTrue (list_any (bytes_eq name) (cube_names before))
+
+-- Each name stands once, and the line of this number begins the cube that is one too many.
+pub record ExceedsCubes (text : List ℕ) (number : ℕ) : Type 0 where
+  pub lines : List Line
+  pub before : List Line
+  pub name : List ℕ
+  pub formed : HasLines text lines
+  pub apart : first_repeated (cube_names lines) ≡ None
+  pub begins : BeginsCube lines before name number
+  pub full : length (cube_names before) ≡ cubes_limit
+
+-- Each name stands once, the cubes are not too many, and the first that cannot be stored has this name and fault.
+pub record HasUnstorable (text name : List ℕ) (fault : SchemaFault) : Type 0 where
+  pub lines : List Line
+  pub before : List Decl
+  pub cube : Decl
+  pub behind : List Decl
+  pub formed : HasLines text lines
+  pub apart : first_repeated (cube_names lines) ≡ None
+  pub few : length (cube_names lines) ≤ cubes_limit
+  pub whole : cubes_in lines ≡ before ++ cube ∷ behind
+  pub storable : All IsStorable before
+  pub named : name ≡ cube.name
+  pub bad : schema_fault cube ≡ Some fault
+
 -- The text has this fault, the first that applies.
 abbrev pub HasCubesFault : List ℕ → CubesFault → Type 0
 HasCubesFault text (NotUtf8 at) = IsValidUpTo text at
 HasCubesFault text (BadLine number) = HasBadLine text number
-HasCubesFault text (DuplicateCube number) =
-    (lines before : List Line) × (name : List ℕ) × HasLines text lines × BeginsCube lines before name number × (first_repeated (cube_names before) ≡ None) × IsTrue (list_any (bytes_eq name) (cube_names before))
-HasCubesFault text (TooManyCubes number) =
-    (lines before : List Line) × (name : List ℕ) × HasLines text lines × (first_repeated (cube_names lines) ≡ None) × BeginsCube lines before name number × (length (cube_names before) ≡ cubes_limit)
-HasCubesFault text (Schema name fault) =
-    (lines : List Line) × (before behind : List Decl) × (cube : Decl) × HasLines text lines × (first_repeated (cube_names lines) ≡ None) × (length (cube_names lines) ≤ cubes_limit) × (cubes_in lines ≡ before ++ cube ∷ behind) × All IsStorable before × (name ≡ cube.name) × (schema_fault cube ≡ Some fault)
+HasCubesFault text (DuplicateCube number) = RepeatsCube text number
+HasCubesFault text (TooManyCubes number) = ExceedsCubes text number
+HasCubesFault text (Schema name fault) = HasUnstorable text name fault

@@ -1,4 +1,5 @@
 -- Texts in quotes.
+-- Source: SQL (ISO/IEC 9075), where a quote in a text is written twice.
 use Rattle.std.specs.Prelude.{ℕ, ◌==◌, List, [], ◌∷◌, ◌++◌, codes, if◌then◌else◌}
 use Rattle.std.specs.List.{flat_map}
 

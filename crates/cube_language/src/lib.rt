@@ -10,6 +10,7 @@ mod put;
 mod statement;
 mod syntax;
 mod token;
+mod utf8;
 
 pub use cubes_fault::{CubesFault, SchemaFault};
 pub use decl::{Decl, DimDecl, DimDecls, Names};
@@ -19,3 +20,4 @@ pub use put::{put_i64, put_i128, put_quoted, put_u64, put_u128};
 pub use statement::{Cond, Conds, Item, Items, Statement, Tuples};
 pub use syntax::Syntax;
 pub use token::{Keyword, Token, TokenFault, TokenKind, Tokens};
+pub use utf8::text_of;

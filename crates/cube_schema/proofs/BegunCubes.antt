@@ -9,7 +9,7 @@ use Rattle.cube_language.specs.declared.cubes_fault.CubesFault.TheVariants.{BadL
 use Rattle.cube_language.specs.CubesText.{Line, Skipped, Cube, Dim, Metric, IsLine, AreLines, MayFollow, AllFollow, is_cube}
 use Rattle.cube_schema.specs.declared.gather.Begun.{Begun}
 use Rattle.cube_schema.specs.declared.gather.Progress.{Progress}
-use Rattle.cube_schema.specs.Gathering.{begun_at, with_dim, with_metric, step, cubes_from}
+use Rattle.cube_schema.specs.Gathering.{begun_at, with_dim, with_metric, progress_at, cubes_from}
 use Rattle.cube_schema.specs.Reading.{line_in}
 use Rattle.cube_schema.proofs.LineForms.{line_found, line_read}
 use Rattle.cube_schema.proofs.Repeated.{or_false}
@@ -32,7 +32,7 @@ begun_from current number (line ∷ lines) = option_to_list (next_of current num
 abbrev pub IsBehind : List Line → Option Begun → Type 0
 IsBehind before current = is_some current ≡ list_any is_cube before
 
-allowed : (before : List Line) (current : Option Begun) (number : ℕ) (line : Line) → IsBehind before current → MayFollow before line → step current number (Some line) ≡ Some (next_of current number line)
+allowed : (before : List Line) (current : Option Begun) (number : ℕ) (line : Line) → IsBehind before current → MayFollow before line → progress_at current number (Some line) ≡ Some (next_of current number line)
 allowed before current number Skipped is may = refl
 allowed before current number (Cube name) is may = refl
 allowed before None number (Dim d) is may = absurd cc
@@ -40,7 +40,7 @@ allowed before (Some cube) number (Dim d) is may = refl
 allowed before None number (Metric name) is may = absurd cc
 allowed before (Some cube) number (Metric name) is may = refl
 
-refused : (before : List Line) (current : Option Begun) (number : ℕ) (line : Line) → IsBehind before current → (MayFollow before line → ⊥) → step current number (Some line) ≡ None
+refused : (before : List Line) (current : Option Begun) (number : ℕ) (line : Line) → IsBehind before current → (MayFollow before line → ⊥) → progress_at current number (Some line) ≡ None
 refused before current number Skipped is bars = absurd (bars tt)
 refused before current number (Cube name) is bars = absurd (bars tt)
 refused before None number (Dim d) is bars = refl
@@ -74,10 +74,10 @@ lines_read before current number (first ∷ words) (line ∷ lines) is are follo
     let next = next_of current number line in
     rw (line_read first line are.0, allowed before current number line is follow.0, lines_read (before ++ line ∷ []) next.current (number + 1) words lines (is_behind before current number line is) are.1 follow.1) refl
 
-bad_first : (before : List Line) (current : Option Begun) (number : ℕ) (first : List (List ℕ)) → IsBehind before current → ((line : Line) → IsLine first line → MayFollow before line → ⊥) → step current number (line_in first) ≡ None
+bad_first : (before : List Line) (current : Option Begun) (number : ℕ) (first : List (List ℕ)) → IsBehind before current → ((line : Line) → IsLine first line → MayFollow before line → ⊥) → progress_at current number (line_in first) ≡ None
 bad_first before current number first is bad = by_form (line_in first) refl
   where
-    by_form : (form : Option Line) → line_in first ≡ form → step current number form ≡ None
+    by_form : (form : Option Line) → line_in first ≡ form → progress_at current number form ≡ None
     by_form None e = refl
     by_form (Some line) e = refused before current number line is (bad line (line_found first line e))
 
@@ -85,7 +85,7 @@ bad_first before current number first is bad = by_form (line_in first) refl
 pub bad_line_read : (before : List Line) (current : Option Begun) (number : ℕ) (words : List (List (List ℕ))) (lines : List Line) (bad : List (List ℕ)) (more : List (List (List ℕ))) → IsBehind before current → AreLines words lines → AllFollow before lines
     → ((line : Line) → IsLine bad line → MayFollow (before ++ lines) line → ⊥) → cubes_from current number (words ++ bad ∷ more) ≡ Err (BadLine (number + length words))
 bad_line_read before current number [] [] bad more is are follow bars =
-    let first : step current number (line_in bad) ≡ None = bad_first before current number bad is (λ line form may. bars line form (rw (append-nil before) may)) in
+    let first : progress_at current number (line_in bad) ≡ None = bad_first before current number bad is (λ line form may. bars line form (rw (append-nil before) may)) in
     let at : number ≡ number + 0 = omega arith in
     rw first (ap (λ n. Err (BadLine n)) at)
 bad_line_read before current number [] (line ∷ lines) bad more is are follow bars = absurd are

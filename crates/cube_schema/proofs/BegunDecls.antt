@@ -8,7 +8,7 @@ use Rattle.cube_language.specs.declared.decl.Decl.{Decl}
 use Rattle.cube_language.specs.CubesText.{Line, Skipped, Cube, Dim, Metric, is_cube, dim_in, metric_in, columns_in, cube_names, cubes_in}
 use Rattle.cube_schema.specs.declared.gather.Begun.{Begun}
 use Rattle.cube_schema.specs.Gathering.{begun_at, with_dim, with_metric}
-use Rattle.cube_schema.specs.Outcomes.{names_of, decls_of}
+use Rattle.cube_schema.specs.Outcomes.{begun_names, begun_decls}
 use Rattle.cube_schema.proofs.BegunCubes.{next_of, begun_from}
 
 -- A declaration with the columns of the lines up to the next cube.
@@ -28,7 +28,7 @@ unfolding with_columns
 dims_then d line lines other = ap (λ columns. record { name = d.name; dims = d.dims ++ filter_map dim_in columns; metrics = d.metrics ++ filter_map metric_in columns }) (column line lines other)
 
 -- Behind a cube that is being read, it comes first with the columns up to the next, and then come the cubes of the lines.
-decls_behind : (cube : Begun) (number : ℕ) (lines : List Line) → decls_of (begun_from (Some cube) number lines) ≡ with_columns cube.decl lines ∷ cubes_in lines
+decls_behind : (cube : Begun) (number : ℕ) (lines : List Line) → begun_decls (begun_from (Some cube) number lines) ≡ with_columns cube.decl lines ∷ cubes_in lines
 unfolding with_columns
 decls_behind cube number [] = ap (λ d. d ∷ []) (no_columns cube.decl)
 decls_behind cube number (Skipped ∷ lines) = decls_behind cube (number + 1) lines ∙ ap (λ d. d ∷ cubes_in lines) (sym (dims_then cube.decl Skipped lines refl))
@@ -43,7 +43,7 @@ decls_behind cube number (Metric name ∷ lines) =
     ∙ ap (λ decl. decl ∷ cubes_in lines) (sym (dims_then cube.decl (Metric name) lines refl))
 
 -- The declarations are the cubes of the lines.
-pub decls_are : (number : ℕ) (lines : List Line) → decls_of (begun_from None number lines) ≡ cubes_in lines
+pub decls_are : (number : ℕ) (lines : List Line) → begun_decls (begun_from None number lines) ≡ cubes_in lines
 unfolding with_columns
 decls_are number [] = refl
 decls_are number (Skipped ∷ lines) = decls_are (number + 1) lines
@@ -51,7 +51,7 @@ decls_are number (Cube name ∷ lines) = decls_behind (begun_at number name) (nu
 decls_are number (Dim d ∷ lines) = decls_are (number + 1) lines
 decls_are number (Metric name ∷ lines) = decls_are (number + 1) lines
 
-names_behind : (cube : Begun) (number : ℕ) (lines : List Line) → names_of (begun_from (Some cube) number lines) ≡ cube.decl.name ∷ cube_names lines
+names_behind : (cube : Begun) (number : ℕ) (lines : List Line) → begun_names (begun_from (Some cube) number lines) ≡ cube.decl.name ∷ cube_names lines
 names_behind cube number [] = refl
 names_behind cube number (Skipped ∷ lines) = names_behind cube (number + 1) lines
 names_behind cube number (Cube name ∷ lines) = ap (λ names. cube.decl.name ∷ names) (names_behind (begun_at number name) (number + 1) lines)
@@ -59,7 +59,7 @@ names_behind cube number (Dim d ∷ lines) = names_behind (with_dim cube d) (num
 names_behind cube number (Metric name ∷ lines) = names_behind (with_metric cube name) (number + 1) lines
 
 -- Their names are those of the lines that begin cubes.
-pub names_are : (number : ℕ) (lines : List Line) → names_of (begun_from None number lines) ≡ cube_names lines
+pub names_are : (number : ℕ) (lines : List Line) → begun_names (begun_from None number lines) ≡ cube_names lines
 names_are number [] = refl
 names_are number (Skipped ∷ lines) = names_are (number + 1) lines
 names_are number (Cube name ∷ lines) = names_behind (begun_at number name) (number + 1) lines
@@ -91,12 +91,12 @@ pub record StandsBehind (current : Option Begun) (number : ℕ) (before : List L
   pub cube : Begun
   pub rest : List Begun
   pub whole : cubes ≡ front ++ cube ∷ rest
-  pub names : names_of front ≡ names_of (option_to_list current) ++ cube_names before
+  pub names : begun_names front ≡ begun_names (option_to_list current) ++ cube_names before
   pub line_is : cube.line ≡ number + length before
   pub name_is : cube.decl.name ≡ name
 
-further : (current : Option Begun) (number : ℕ) (line : Line) → names_of (option_to_list (next_of current number line).completed) ++ names_of (option_to_list (next_of current number line).current) ≡ names_of (option_to_list current) ++ cube_names (line ∷ [])
-further current number Skipped = sym (append-nil (names_of (option_to_list current)))
+further : (current : Option Begun) (number : ℕ) (line : Line) → begun_names (option_to_list (next_of current number line).completed) ++ begun_names (option_to_list (next_of current number line).current) ≡ begun_names (option_to_list current) ++ cube_names (line ∷ [])
+further current number Skipped = sym (append-nil (begun_names (option_to_list current)))
 further current number (Cube name) = refl
 further None number (Dim d) = refl
 further (Some cube) number (Dim d) = refl
@@ -117,7 +117,7 @@ stands_behind current number [] name lines =
       cube = c.first;
       rest = c.rest;
       whole = ap (λ cubes. option_to_list current ++ cubes) c.whole;
-      names = sym (append-nil (names_of (option_to_list current)));
+      names = sym (append-nil (begun_names (option_to_list current)));
       line_is = omega (arith, c.same_line);
       name_is = c.same_name;
     }
@@ -131,11 +131,11 @@ stands_behind current number (line ∷ before) name lines =
       cube = c.cube;
       rest = c.rest;
       whole = ap (λ cubes. completed ++ cubes) c.whole ∙ sym (append_assoc completed c.front (c.cube ∷ c.rest));
-      names = map-append name_in completed c.front ∙ ap (λ names. names_of completed ++ names) c.names
-          ∙ sym (append_assoc (names_of completed) (names_of (option_to_list next.current)) (cube_names before))
+      names = map-append name_in completed c.front ∙ ap (λ names. begun_names completed ++ names) c.names
+          ∙ sym (append_assoc (begun_names completed) (begun_names (option_to_list next.current)) (cube_names before))
           ∙ ap (λ names. names ++ cube_names before) (further current number line)
-          ∙ append_assoc (names_of (option_to_list current)) (cube_names (line ∷ [])) (cube_names before)
-          ∙ ap (λ names. names_of (option_to_list current) ++ names) (sym (names-cons line before));
+          ∙ append_assoc (begun_names (option_to_list current)) (cube_names (line ∷ [])) (cube_names before)
+          ∙ ap (λ names. begun_names (option_to_list current) ++ names) (sym (names-cons line before));
       line_is = omega (arith, c.line_is);
       name_is = c.name_is;
     }

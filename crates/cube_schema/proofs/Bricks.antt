@@ -7,8 +7,8 @@ use Rattle.std.proofs.lemmas.Bool.{cases_Bool, lt-ltb}
 use Rattle.std.proofs.lemmas.Bool.Decides.{nat_tests}
 use Rattle.cube_values.specs.Shapes.{ranges_of, bricks_of}
 use Rattle.cube_language.specs.declared.decl.DimDecl.{DimDecl}
-use Rattle.cube_language.specs.Cubes.{has_zero}
-use Rattle.cube_schema.specs.Dimensions.{size_of, sizes_of, AreNotZero}
+use Rattle.cube_language.specs.Cubes.{has_zero, size_of, sizes_of}
+use Rattle.cube_schema.specs.Dimensions.{AreNotZero}
 
 -- What no element is found to pass, the first does not pass, nor is an element found behind it.
 pub none_found : {A : Type 0} (p : A → Bool) (x : A) (xs : List A) → find p (x ∷ xs) ≡ None → (p x ≡ false) × (find p xs ≡ None)

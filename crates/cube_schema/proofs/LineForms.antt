@@ -1,11 +1,11 @@
 -- The line that words say is the one whose form they have.
-use Rattle.std.proofs.Common.{◌≡◌, ℕ, ◌<◌, ◌^◌, Bool, true, false, ◌&&◌, List, [], ◌∷◌, codes, Option, Some, None, nat_lt, refl, ap, ◌∙◌, subst, inl, inr, arith}
+use Rattle.std.proofs.Common.{◌≡◌, ℕ, ◌<◌, ◌^◌, Bool, true, false, List, [], ◌∷◌, codes, Option, Some, None, nat_lt, refl, ap, ◌∙◌, subst, inl, inr, arith}
 use Rattle.std.specs.Prelude.{IsTrue, nat_eq}
 use Rattle.std.specs.List.{starts_with}
 use Rattle.std.specs.Option.{option_map}
 use Rattle.std.specs.Str.{bytes_eq}
 use Rattle.std.specs.Str.Parse.{digits_value}
-use Rattle.std.proofs.lemmas.Bool.{cases_Bool, and_parts, lt-ltb, ltb-true}
+use Rattle.std.proofs.lemmas.Bool.{cases_Bool, lt-ltb, ltb-true}
 use Rattle.std.proofs.lemmas.Slice.Eq.{bytes_eq-Decides}
 use Rattle.cube_language.specs.Names.{is_name}
 use Rattle.cube_language.specs.declared.decl.DimDecl.{DimDecl}
@@ -60,12 +60,14 @@ kind_of true = refl
 kind_of false = refl
 
 number_found : (word : List ℕ) (n : ℕ) → number_in word ≡ Some n → IsNumberWord word n
-number_found word n e = elim (cases_Bool (is_digits word && nat_lt (digits_value 10 word) (2 ^ 32))) [
-  | inl both ↦
-      let parts = and_parts (is_digits word) (nat_lt (digits_value 10 word) (2 ^ 32)) both in
-      let same : Some (digits_value 10 word) ≡ Some n = rw both at e in
-      let is : digits_value 10 word ≡ n = cc in
-      (parts.0, is, subst (λ m. m < 2 ^ 32) is (ltb-true _ _ parts.1))
+number_found word n e = elim (cases_Bool (is_digits word)) [
+  | inl digits ↦ elim (cases_Bool (nat_lt (digits_value 10 word) (2 ^ 32))) [
+    | inl small ↦
+        let same : Some (digits_value 10 word) ≡ Some n = rw (digits, small) at e in
+        let is : digits_value 10 word ≡ n = cc in
+        (digits, is, subst (λ m. m < 2 ^ 32) is (ltb-true _ _ small))
+    | inr large ↦ let no = rw (digits, large) at e in absurd cc
+  ]
   | inr other ↦ let no = rw other at e in absurd cc
 ]
 

@@ -10,14 +10,14 @@ use Rattle.cube_language.specs.declared.cubes_fault.CubesFault.TheVariants.{BadL
 use Rattle.cube_language.specs.CubesText.{lines_of, words_of, word_lines, without_return}
 use Rattle.cube_schema.specs.declared.gather.Begun.{Begun}
 use Rattle.cube_schema.specs.declared.gather.Progress.{Progress}
-use Rattle.cube_schema.specs.Gathering.{step, behind, go_on, cubes_from, gathered}
+use Rattle.cube_schema.specs.Gathering.{progress_at, cubes_then, cubes_after, cubes_from, gathered}
 use Rattle.cube_schema.specs.Reading.{line_in}
 
 -- What was read before a line, and what is read from it on, is what the whole text gives.
 abbrev pub Reads : List ℕ → List Begun → Option Begun → ℕ → Type 0
-Reads text cubes current n = behind cubes (cubes_from current (n + 1) (drop n (word_lines text))) ≡ gathered text
+Reads text cubes current n = cubes_then cubes (cubes_from current (n + 1) (drop n (word_lines text))) ≡ gathered text
 
-behind_both : (front more : List Begun) (read : Result (List Begun) CubesFault) → behind front (behind more read) ≡ behind (front ++ more) read
+behind_both : (front more : List Begun) (read : Result (List Begun) CubesFault) → cubes_then front (cubes_then more read) ≡ cubes_then (front ++ more) read
 behind_both front more (Ok cubes) = ap Ok (sym (append_assoc front more cubes))
 behind_both front more (Err fault) = refl
 
@@ -37,7 +37,7 @@ line_at text n line piece =
     (words_fit, get_or-map words_of (lines_of text) n [] [] lines_fit ∙ ap words_of (get_or-map without_return cut n line [] piece.within ∙ ap without_return (sym piece.is)))
 
 next_line : (text line : List ℕ) (cubes : List Begun) (current : Option Begun) (n : ℕ) → IsPiece text n line → Reads text cubes current n
-    → behind cubes (go_on (n + 1) (step current (n + 1) (line_in (words_of (without_return line)))) (λ next. cubes_from next (n + 1 + 1) (drop (n + 1) (word_lines text)))) ≡ gathered text
+    → cubes_then cubes (cubes_after (n + 1) (progress_at current (n + 1) (line_in (words_of (without_return line)))) (λ next. cubes_from next (n + 1 + 1) (drop (n + 1) (word_lines text)))) ≡ gathered text
 next_line text line cubes current n piece reads =
     let at = line_at text n line piece in
     let more : suc n ≡ n + 1 = omega arith in
@@ -45,13 +45,13 @@ next_line text line cubes current n piece reads =
     rw front at reads
 
 pub one_line : (text line : List ℕ) (cubes : List Begun) (current : Option Begun) (n : ℕ) (next : Progress) → IsPiece text n line → Reads text cubes current n
-    → step current (n + 1) (line_in (words_of (without_return line))) ≡ Some next → Reads text (cubes ++ option_to_list next.completed) next.current (n + 1)
+    → progress_at current (n + 1) (line_in (words_of (without_return line))) ≡ Some next → Reads text (cubes ++ option_to_list next.completed) next.current (n + 1)
 one_line text line cubes current n next piece reads does =
     let rest = cubes_from next.current (n + 1 + 1) (drop (n + 1) (word_lines text)) in
     sym (behind_both cubes (option_to_list next.completed) rest) ∙ rw does at (next_line text line cubes current n piece reads)
 
 pub bad_line : (text line : List ℕ) (cubes : List Begun) (current : Option Begun) (n : ℕ) → IsPiece text n line → Reads text cubes current n
-    → step current (n + 1) (line_in (words_of (without_return line))) ≡ None → gathered text ≡ Err (BadLine (n + 1))
+    → progress_at current (n + 1) (line_in (words_of (without_return line))) ≡ None → gathered text ≡ Err (BadLine (n + 1))
 bad_line text line cubes current n piece reads fails = sym (rw fails at (next_line text line cubes current n piece reads))
 
 pub all_read : (text : List ℕ) (cubes : List Begun) (current : Option Begun) (n : ℕ) → length (slice_split (λ byte. byte == 10) text) ≤ n → Reads text cubes current n → gathered text ≡ Ok (cubes ++ option_to_list current)

@@ -1,5 +1,5 @@
 -- The first name that stands before already, as a loop over the names finds it.
-use Rattle.std.proofs.Common.{◌≡◌, ℕ, suc, ◌+◌, ◌<◌, Bool, true, false, not, cond, ◌||◌, List, [], ◌∷◌, ◌++◌, length, take, drop, get_or, map, Some, None, refl, sym, ap, ◌∙◌, inl, inr}
+use Rattle.std.proofs.Common.{◌≡◌, ℕ, suc, ◌+◌, ◌<◌, Bool, true, false, not, cond, ◌||◌, List, [], ◌∷◌, ◌++◌, length, take, drop, get_or, Some, None, refl, sym, ap, ◌∙◌, inl, inr}
 use Rattle.std.specs.BTreeSet.{BTreeSet, contains_by, Updates}
 use Rattle.std.specs.Borrow.{Bor}
 use Rattle.std.specs.Cmp.Lexicographic.{slice_cmp}
@@ -14,7 +14,7 @@ use Rattle.std.proofs.lemmas.List.Folds.{list_any-append}
 use Rattle.std.proofs.lemmas.Map.Text.{is_eq-slice_cmp}
 use Rattle.std.proofs.lemmas.Slice.Eq.{bytes_eq-Decides}
 use Rattle.cube_language.specs.Cubes.{repeated_after, first_repeated}
-use Rattle.cube_schema.specs.Repeats.{RepeatsAt}
+use Rattle.cube_schema.specs.Repeats.{RepeatsAt, names_lent}
 
 bytes_eq_comm : (a b : List ℕ) → bytes_eq a b ≡ bytes_eq b a
 bytes_eq_comm a b =
@@ -31,12 +31,6 @@ or_moved false false c = refl
 pub or_false : (b : Bool) → (b || false) ≡ b
 or_false true = refl
 or_false false = refl
-
-or_swap : (a b : Bool) → (a || b) ≡ (b || a)
-or_swap true true = refl
-or_swap true false = refl
-or_swap false true = refl
-or_swap false false = refl
 
 -- Behind names that each stand once, a further name is the first to stand before already if it does so.
 after-push : (before names : List (List ℕ)) (name : List ℕ) → repeated_after before names ≡ None
@@ -71,14 +65,11 @@ pub repeated-push : (names : List (List ℕ)) (name : List ℕ) → first_repeat
 repeated-push names name apart =
     after-push [] names name apart ∙ ap (λ b. cond b (Some name) None) (or_false (list_any (bytes_eq name) names))
 
-abbrev pub names_of : List (Bor (List ℕ)) → List (List ℕ)
-names_of names = map (λ name. name.now) names
-
 -- A set of names has these, and no others.
 abbrev pub HasNames : BTreeSet (Bor (List ℕ)) → List (List ℕ) → Type 0
 HasNames set names = (q : Bor (List ℕ)) → contains_by (λ k. slice_cmp nat_cmp q.now k.now) set ≡ list_any (bytes_eq q.now) names
 
-pub names_more : (names : List (Bor (List ℕ))) (i : ℕ) (d : Bor (List ℕ)) → i < length names → take (i + 1) (names_of names) ≡ take i (names_of names) ++ (get_or names i d).now ∷ []
+pub names_more : (names : List (Bor (List ℕ))) (i : ℕ) (d : Bor (List ℕ)) → i < length names → take (i + 1) (names_lent names) ≡ take i (names_lent names) ++ (get_or names i d).now ∷ []
 names_more names i d lt =
     let f : Bor (List ℕ) → List ℕ = λ name. name.now in
     take-map f (i + 1) names ∙ map_more f names i d lt ∙ ap (λ xs. xs ++ (get_or names i d).now ∷ []) (sym (take-map f i names))
@@ -106,30 +97,30 @@ not_known : (new there : Bool) → new ≡ not there → new ≡ true → there 
 not_known new true e t = absurd cc
 not_known new false e t = refl
 
-pub goes_on : (before after : BTreeSet (Bor (List ℕ))) (names : List (Bor (List ℕ))) (i : ℕ) (d : Bor (List ℕ)) (new : Bool) → i < length names → HasDistinct before (take i (names_of names))
-    → new ≡ true → new ≡ not (contains_by (λ k. slice_cmp nat_cmp (get_or names i d).now k.now) before) → Updates (λ a b. slice_cmp nat_cmp a.now b.now) before after (get_or names i d) true → HasDistinct after (take (i + 1) (names_of names))
-goes_on before after names i d new lt distinct is_new added updates =
+pub more_distinct : (before after : BTreeSet (Bor (List ℕ))) (names : List (Bor (List ℕ))) (i : ℕ) (d : Bor (List ℕ)) (new : Bool) → i < length names → HasDistinct before (take i (names_lent names))
+    → new ≡ true → new ≡ not (contains_by (λ k. slice_cmp nat_cmp (get_or names i d).now k.now) before) → Updates (λ a b. slice_cmp nat_cmp a.now b.now) before after (get_or names i d) true → HasDistinct after (take (i + 1) (names_lent names))
+more_distinct before after names i d new lt distinct is_new added updates =
     let absent = sym (distinct.has (get_or names i d)) ∙ not_known new _ added is_new in
     rw (names_more names i d lt) (record {
-      has = has-push before after (take i (names_of names)) (get_or names i d) distinct.has updates;
-      apart = repeated-push (take i (names_of names)) (get_or names i d).now distinct.apart ∙ ap (λ b. cond b (Some (get_or names i d).now) None) absent;
+      has = has-push before after (take i (names_lent names)) (get_or names i d) distinct.has updates;
+      apart = repeated-push (take i (names_lent names)) (get_or names i d).now distinct.apart ∙ ap (λ b. cond b (Some (get_or names i d).now) None) absent;
     })
 
 known : (new there : Bool) → new ≡ not there → new ≡ false → there ≡ true
 known new true e t = refl
 known new false e t = absurd cc
 
-pub stands_again : (before : BTreeSet (Bor (List ℕ))) (names : List (Bor (List ℕ))) (i : ℕ) (d : Bor (List ℕ)) (new : Bool) → i < length names → HasDistinct before (take i (names_of names))
-    → new ≡ false → new ≡ not (contains_by (λ k. slice_cmp nat_cmp (get_or names i d).now k.now) before) → RepeatsAt (names_of names) i
+pub stands_again : (before : BTreeSet (Bor (List ℕ))) (names : List (Bor (List ℕ))) (i : ℕ) (d : Bor (List ℕ)) (new : Bool) → i < length names → HasDistinct before (take i (names_lent names))
+    → new ≡ false → new ≡ not (contains_by (λ k. slice_cmp nat_cmp (get_or names i d).now k.now) before) → RepeatsAt (names_lent names) i
 stands_again before names i d new lt distinct is_old added =
     let there = sym (distinct.has (get_or names i d)) ∙ known new _ added is_old in
     let f : Bor (List ℕ) → List ℕ = λ name. name.now in
-    let name : get_or (names_of names) i [] ≡ (get_or names i d).now = get_or-map f names i d [] lt in
+    let name : get_or (names_lent names) i [] ≡ (get_or names i d).now = get_or-map f names i d [] lt in
     record { within = rw (length-map names f) lt; apart = distinct.apart; again = rw name there }
 
 -- The reference at the place is to the name that is the first to stand before already.
-pub first-at : (refs : List (Bor (List ℕ))) (place : ℕ) (found : Bor (List ℕ)) → RepeatsAt (names_of refs) place → found ≡ get_or refs place found → first_repeated (names_of refs) ≡ Some found.now
+pub first-at : (refs : List (Bor (List ℕ))) (place : ℕ) (found : Bor (List ℕ)) → RepeatsAt (names_lent refs) place → found ≡ get_or refs place found → first_repeated (names_lent refs) ≡ Some found.now
 first-at refs place found repeats is =
     let f : Bor (List ℕ) → List ℕ = λ name. name.now in
     let lt : place < length refs = rw (length-map refs f) at repeats.within in
-    repeats-first (names_of refs) place repeats ∙ ap Some (get_or-map f refs place found [] lt ∙ ap f (sym is))
+    repeats-first (names_lent refs) place repeats ∙ ap Some (get_or-map f refs place found [] lt ∙ ap f (sym is))

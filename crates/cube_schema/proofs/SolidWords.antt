@@ -9,11 +9,10 @@ use Rattle.std.proofs.lemmas.Bool.Decides.{nat_tests}
 use Rattle.std.proofs.lemmas.Fmt.{decimal_nonempty, digits_decimal, digits_value-decimal}
 use Rattle.std.proofs.lemmas.Str.Ascii.{IsAscii-nil, IsAscii-cons}
 use Rattle.cube_language.specs.Names.{continues_name, is_word, is_keyword, is_name}
-use Rattle.cube_language.specs.CubesText.{IsNumberWord, words_of, word_lines, without_return}
+use Rattle.cube_language.specs.CubesText.{IsNumberWord, words_of, word_lines, without_return, parts_words}
 use Rattle.cube_language.specs.Tokens.{is_digits}
-use Rattle.cube_schema.specs.Blanks.{is_blank}
 use Rattle.cube_schema.proofs.Ascii.{digits_are, name_continues, own}
-use Rattle.cube_schema.proofs.WordParts.{kept}
+use Rattle.cube_schema.proofs.WordParts.{word_stays}
 
 -- A byte of ASCII that ends no word.
 abbrev pub Solid : ℕ → Type 0
@@ -61,14 +60,14 @@ decimal_is_number n small =
     let digits : is_digits (decimal n) ≡ true = rw (full, digits_decimal own n fits) refl in
     (digits, digits_value-decimal own n fits, small)
 
-solid_is_no_blank : (b : ℕ) → Solid b → is_blank b ≡ false
+solid_is_no_blank : (b : ℕ) → Solid b → parts_words b ≡ false
 solid_is_no_blank b solid = let low = solid.0 in grind (arith, nat_tests)
 
-parts_then : (word rest : List ℕ) → AllByRecursion Solid word → slice_split is_blank (word ++ 32 ∷ rest) ≡ word ∷ slice_split is_blank rest
+parts_then : (word rest : List ℕ) → AllByRecursion Solid word → slice_split parts_words (word ++ 32 ∷ rest) ≡ word ∷ slice_split parts_words rest
 parts_then [] rest solid = refl
 parts_then (b ∷ word) rest solid = rw (solid_is_no_blank b solid.0) (ap (onto_first b) (parts_then word rest solid.1))
 
-part_alone : (word : List ℕ) → AllByRecursion Solid word → slice_split is_blank word ≡ word ∷ []
+part_alone : (word : List ℕ) → AllByRecursion Solid word → slice_split parts_words word ≡ word ∷ []
 part_alone [] solid = refl
 part_alone (b ∷ word) solid = rw (solid_is_no_blank b solid.0) (ap (onto_first b) (part_alone word solid.1))
 
@@ -80,10 +79,10 @@ joined (word ∷ next ∷ words) = word ++ 32 ∷ joined (next ∷ words)
 
 pub words-joined : (words : List (List ℕ)) → AllByRecursion IsSolid words → words_of (joined words) ≡ words
 words-joined [] solid = refl
-words-joined (word ∷ []) solid = rw (part_alone word solid.0.all) (kept word [] solid.0.some)
+words-joined (word ∷ []) solid = rw (part_alone word solid.0.all) (word_stays word [] solid.0.some)
 words-joined (word ∷ next ∷ words) solid =
     let rest = joined (next ∷ words) in
-    rw (parts_then word rest solid.0.all) (kept word (slice_split is_blank rest) solid.0.some ∙ ap (λ ws. word ∷ ws) (words-joined (next ∷ words) solid.1))
+    rw (parts_then word rest solid.0.all) (word_stays word (slice_split parts_words rest) solid.0.some ∙ ap (λ ws. word ∷ ws) (words-joined (next ∷ words) solid.1))
 
 solid_printed : (word rest : List ℕ) → AllByRecursion Solid word → AllByRecursion Printed rest → AllByRecursion Printed (word ++ rest)
 solid_printed [] rest solid printed = printed

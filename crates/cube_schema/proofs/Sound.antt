@@ -12,9 +12,8 @@ use Rattle.cube_language.specs.declared.decl.DimDecl.{DimDecl}
 use Rattle.cube_language.specs.declared.decl.Decl.{Decl}
 use Rattle.cube_language.specs.declared.cubes_fault.SchemaFault.{SchemaFault}
 use Rattle.cube_language.specs.declared.cubes_fault.SchemaFault.TheVariants.{DuplicateName, ZeroCardinality, RangeTooLarge, TooManyBricks, TooManyColumns}
-use Rattle.cube_language.specs.Cubes.{has_zero, has_large_range, first_some, first_repeated, column_names, duplicate_in, zero_in, large_range_in, many_bricks_in, many_columns_in, no_metric_in, IsStorable}
-use Rattle.cube_schema.specs.Dimensions.{size_of, sizes_of, AreNotZero}
-use Rattle.cube_schema.specs.Schemas.{StorableShapesAreSound}
+use Rattle.cube_language.specs.Cubes.{has_zero, has_large_range, first_some, first_repeated, column_names, duplicate_in, zero_in, large_range_in, many_bricks_in, many_columns_in, no_metric_in, IsStorable, size_of, sizes_of}
+use Rattle.cube_schema.specs.Dimensions.{AreNotZero}
 use Rattle.cube_schema.proofs.Bricks.{none_found}
 
 first_none : {A : Type 0} (found : Option A) (others : List (Option A)) → first_some (found ∷ others) ≡ None → (found ≡ None) × (first_some others ≡ None)
@@ -68,7 +67,7 @@ sound_sizes (dim ∷ dims) coords ranges small =
     let r = none_found has_large_range dim dims ranges in
     All-cons IsSoundSize (size_of dim) (sizes_of dims) (sound_size dim c.0 r.0 (All-head P dim dims small)) (sound_sizes dims c.1 r.1 (All-tail P dim dims small))
 
-pub sound_shape : StorableShapesAreSound
+pub sound_shape : (d : Decl) → IsStorable d → All (λ (dim : DimDecl). dim.cardinality < 2 ^ 32) d.dims → IsSoundShape (record { sizes = sizes_of d.dims })
 sound_shape d storable small =
     let parts = parts_of d storable in
     record { sizes = sound_sizes d.dims parts.coords parts.ranges small; bricks = parts.bricks; dims = omega (arith, parts.dims, length-map d.dims size_of) }

@@ -1,10 +1,10 @@
 -- A text declares one list of cubes or has one fault.
-use Rattle.std.proofs.Common.{◌≡◌, ℕ, zero, suc, ◌≤◌, ◌<◌, false, cond, List, length, take, Result, Ok, Err, refl, sym, ap, ◌∙◌, subst, inl, inr, IsUtf8, arith}
+use Rattle.std.proofs.Common.{◌≡◌, ℕ, cond, List, length, take, Result, Ok, Err, refl, sym, ap, ◌∙◌, subst, inl, inr, IsUtf8, arith}
 use Rattle.std.specs.Str.{IsValidUpTo, is_utf8}
 use Rattle.std.specs.Str.Lossy.{utf8_valid_len}
-use Rattle.std.proofs.lemmas.Bool.{cases_Bool, cases_lt}
+use Rattle.std.proofs.lemmas.Bool.{cases_Bool}
 use Rattle.std.proofs.lemmas.List.{take_all}
-use Rattle.std.proofs.lemmas.Str.{IsUtf8-nil, IsUtf8-from_is_utf8, is_utf8-from_IsUtf8, utf8_valid_len-IsValidUpTo}
+use Rattle.std.proofs.lemmas.Str.{IsUtf8-from_is_utf8, is_utf8-from_IsUtf8, utf8_valid_len-IsValidUpTo}
 use Rattle.cube_values.specs.declared.call_error.CallError.{CallError}
 use Rattle.cube_values.specs.declared.call_error.CallError.TheVariants.{Fault, NoMemory}
 use Rattle.cube_language.specs.declared.cubes_fault.CubesFault.{CubesFault}
@@ -12,6 +12,7 @@ use Rattle.cube_language.specs.declared.cubes_fault.CubesFault.TheVariants.{NotU
 use Rattle.cube_language.specs.declared.decl.Decl.{Decl}
 use Rattle.cube_language.specs.CubesText.{Declares, HasCubesFault}
 use Rattle.cube_values.specs.Faults.{IfFault}
+use Rattle.cube_language.proofs.ValidFronts.{utf8_or_not}
 use Rattle.cube_schema.specs.Outcomes.{outcome}
 use Rattle.cube_schema.specs.Texts.{TextsDeclareOneList, DeclaringTextsHaveNoFault, TextsHaveOneFault, TextsDeclareOrHaveFault}
 use Rattle.cube_schema.proofs.TextOutcomes.{declared_outcome, bad_outcome, duplicate_outcome, excess_outcome, schema_outcome}
@@ -40,10 +41,10 @@ declared_said text cubes d = said_utf8 text d.formed.utf8 ∙ declared_outcome t
 fault_said : (text : List ℕ) (fault : CubesFault) → HasCubesFault text fault → said text ≡ Err fault
 fault_said text (NotUtf8 at) valid = said_not_utf8 text at valid
 fault_said text (BadLine number) b = said_utf8 text b.utf8 ∙ bad_outcome text number b
-fault_said text (DuplicateCube number) f = said_utf8 text f.3.utf8 ∙ duplicate_outcome text f.0 f.1 f.2 number f.3 f.4 f.5 f.6
-fault_said text (TooManyCubes number) f = said_utf8 text f.3.utf8 ∙ excess_outcome text f.0 f.1 f.2 number f.3 f.4 f.5 f.6
+fault_said text (DuplicateCube number) f = said_utf8 text f.formed.utf8 ∙ duplicate_outcome text number f
+fault_said text (TooManyCubes number) f = said_utf8 text f.formed.utf8 ∙ excess_outcome text number f
 fault_said text (Schema name fault) f =
-    said_utf8 text f.4.utf8 ∙ schema_outcome text f.0 f.1 f.2 f.3 fault f.4 f.5 f.6 f.7 f.8 f.10 ∙ ap (λ n. Err (Schema n fault)) (sym f.9)
+    said_utf8 text f.formed.utf8 ∙ schema_outcome text name fault f ∙ ap (λ n. Err (Schema n fault)) (sym f.named)
 
 pub one_list : TextsDeclareOneList
 one_list text a b declares_a declares_b =
@@ -63,57 +64,9 @@ one_fault text a b has_a has_b =
     let said_b = fault_said text b has_b in
     cc
 
--- The longest front of at most m bytes that is UTF-8.
-record IsLongest (text : List ℕ) (m n : ℕ) : Type 0 where
-  pub within : n ≤ m
-  pub front : IsUtf8 (take n text)
-  pub longest : (k : ℕ) → n < k → k ≤ m → IsUtf8 (take k text) → ⊥
-
-longest : (text : List ℕ) (m : ℕ) → (n : ℕ) × IsLongest text m n
-longest text zero = (0, record { within = omega arith; front = IsUtf8-nil; longest = λ k above le utf8. absurd (omega arith) })
-longest text (suc m) = elim (cases_Bool (is_utf8 (take (suc m) text))) [
-  | inl utf8 ↦ (suc m, record { within = omega arith; front = IsUtf8-from_is_utf8 (take (suc m) text) utf8; longest = λ k above le more. absurd (omega arith) })
-  | inr other ↦
-      let shorter = longest text m in (
-        shorter.0,
-        record {
-          within = omega (arith, shorter.1.within);
-          front = shorter.1.front;
-          longest = λ k above le more. elim (cases_lt m k) [
-            | inl last ↦
-                let same : k ≡ suc m = omega arith in
-                let utf8 = is_utf8-from_IsUtf8 (take k text) more in
-                absurd cc
-            | inr before ↦ shorter.1.longest k above before more
-          ];
-        },
-      )
-]
-
-whole_is_not : (text : List ℕ) (k : ℕ) → is_utf8 text ≡ false → length text ≤ k → IsUtf8 (take k text) → ⊥
-whole_is_not text k other le utf8 =
-    let whole = is_utf8-from_IsUtf8 text (rw (take_all k text le) at utf8) in
-    absurd cc
-
-valid_up_to : (text : List ℕ) (n : ℕ) → is_utf8 text ≡ false → IsLongest text (length text) n → IsValidUpTo text n
-valid_up_to text n other front = elim (cases_lt n (length text)) [
-  | inl short ↦
-      record {
-        short = short;
-        front = front.front;
-        longest = λ k above utf8. elim (cases_lt (length text) k) [ inl past ↦ whole_is_not text k other (omega arith) utf8 | inr within ↦ front.longest k above within utf8 ];
-      }
-  | inr past ↦ absurd (whole_is_not text n other past front.front)
-]
-
 -- Each text declares cubes or has a fault.
 pub declares_or_has_fault : TextsDeclareOrHaveFault
-declares_or_has_fault text = elim (cases_Bool (is_utf8 text)) [
-  | inl utf8 ↦ text_view text (IsUtf8-from_is_utf8 text utf8)
-  | inr other ↦
-      let front = longest text (length text) in
-      inr (NotUtf8 front.0, valid_up_to text front.0 other front.1)
-]
+declares_or_has_fault text = elim (utf8_or_not text) [ inl utf8 ↦ text_view text utf8 | inr other ↦ inr (NotUtf8 other.0, other.1) ]
 
 pub declares_from : (text : List ℕ) (cubes : List Decl) → IsUtf8 text → outcome text ≡ Ok cubes → Declares text cubes
 declares_from text cubes utf8 gives = elim (text_view text utf8) [

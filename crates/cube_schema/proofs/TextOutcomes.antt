@@ -1,6 +1,6 @@
 -- What a text gives that declares cubes or has a fault.
 use Rattle.std.proofs.Common.{◌≡◌, ℕ, ◌+◌, ◌≤◌, List, [], ◌∷◌, ◌++◌, length, Some, None, Ok, Err, refl, sym, ap, ◌∙◌, arith}
-use Rattle.std.specs.Prelude.{IsTrue, All, slice_get}
+use Rattle.std.specs.Prelude.{All, slice_get}
 use Rattle.std.specs.List.{list_any}
 use Rattle.std.specs.Str.{bytes_eq}
 use Rattle.std.proofs.lemmas.List.{length-map}
@@ -10,10 +10,10 @@ use Rattle.cube_language.specs.declared.cubes_fault.CubesFault.TheVariants.{BadL
 use Rattle.cube_language.specs.declared.cubes_fault.SchemaFault.{SchemaFault}
 use Rattle.cube_language.specs.declared.decl.Decl.{Decl}
 use Rattle.cube_language.specs.Cubes.{IsStorable, schema_fault, first_repeated}
-use Rattle.cube_language.specs.CubesText.{Line, HasLines, Declares, HasBadLine, BeginsCube, cube_names, cubes_in, cubes_limit, word_lines}
+use Rattle.cube_language.specs.CubesText.{Line, HasLines, Declares, HasBadLine, BeginsCube, RepeatsCube, ExceedsCubes, HasUnstorable, cube_names, cubes_limit, word_lines}
 use Rattle.cube_schema.specs.declared.gather.Begun.{Begun}
 use Rattle.cube_schema.specs.Gathering.{gathered, cubes_from}
-use Rattle.cube_schema.specs.Outcomes.{names_of, decls_of, repeated_in, excess_in, unstorable_in, fault_in, unless, outcome_of, outcome}
+use Rattle.cube_schema.specs.Outcomes.{begun_names, begun_decls, repeated_in, excess_in, unstorable_in, begun_fault, cubes_unless, outcome_of, outcome}
 use Rattle.cube_schema.proofs.BegunCubes.{begun_from, lines_read, bad_line_read}
 use Rattle.cube_schema.proofs.BegunDecls.{StandsBehind, decls_are, names_are, stands_behind}
 use Rattle.cube_schema.proofs.RepeatedCubes.{none-repeated, repeated-seam}
@@ -21,7 +21,7 @@ use Rattle.cube_schema.proofs.RepeatedCubes.{none-repeated, repeated-seam}
 gathered_lines : (text : List ℕ) (lines : List Line) → HasLines text lines → gathered text ≡ Ok (begun_from None 1 lines)
 gathered_lines text lines has = lines_read [] None 1 (word_lines text) lines refl has.forms has.order
 
-by_lines : (text : List ℕ) (lines : List Line) → HasLines text lines → outcome text ≡ unless (fault_in (begun_from None 1 lines)) (decls_of (begun_from None 1 lines))
+by_lines : (text : List ℕ) (lines : List Line) → HasLines text lines → outcome text ≡ cubes_unless (begun_fault (begun_from None 1 lines)) (begun_decls (begun_from None 1 lines))
 by_lines text lines has = ap outcome_of (gathered_lines text lines has)
 
 none_repeated : (lines : List Line) → first_repeated (cube_names lines) ≡ None → repeated_in [] (begun_from None 1 lines) ≡ None
@@ -44,7 +44,7 @@ first_unstorable (first ∷ before) d behind fault all is = rw (All-head IsStora
 
 pub declared_outcome : (text : List ℕ) (cubes : List Decl) → Declares text cubes → outcome text ≡ Ok cubes
 declared_outcome text cubes d =
-    let decls : decls_of (begun_from None 1 d.lines) ≡ cubes = decls_are 1 d.lines ∙ sym d.are in
+    let decls : begun_decls (begun_from None 1 d.lines) ≡ cubes = decls_are 1 d.lines ∙ sym d.are in
     by_lines text d.lines d.formed
     ∙ rw (none_repeated d.lines d.names, none_in_excess d.lines d.few, decls, all_storable cubes d.storable) refl
 
@@ -62,29 +62,26 @@ slice_get-seam (y ∷ front) x rest = slice_get-seam front x rest
 begun_at_line : (lines before : List Line) (name : List ℕ) (number : ℕ) → BeginsCube lines before name number → StandsBehind None 1 before name (begun_from None 1 lines)
 begun_at_line lines before name number begins = rw begins.whole (stands_behind None 1 before name begins.behind)
 
-pub duplicate_outcome : (text : List ℕ) (lines before : List Line) (name : List ℕ) (number : ℕ) → HasLines text lines → BeginsCube lines before name number → first_repeated (cube_names before) ≡ None → IsTrue (list_any (bytes_eq name) (cube_names before))
-    → outcome text ≡ Err (DuplicateCube number)
-duplicate_outcome text lines before name number has begins apart again =
-    let s = begun_at_line lines before name number begins in
-    let at : s.cube.line ≡ number = omega (arith, s.line_is, begins.place) in
-    let apart_begun : first_repeated (names_of s.front) ≡ None = rw s.names apart in
-    let again_begun : list_any (bytes_eq s.cube.decl.name) (names_of s.front) ≡ _ = rw (s.name_is, s.names) again in
-    let found : repeated_in [] (begun_from None 1 lines) ≡ Some (DuplicateCube number) =
+pub duplicate_outcome : (text : List ℕ) (number : ℕ) → RepeatsCube text number → outcome text ≡ Err (DuplicateCube number)
+duplicate_outcome text number f =
+    let s = begun_at_line f.lines f.before f.name number f.begins in
+    let at : s.cube.line ≡ number = omega (arith, s.line_is, f.begins.place) in
+    let apart_begun : first_repeated (begun_names s.front) ≡ None = rw s.names f.apart in
+    let again_begun : list_any (bytes_eq s.cube.decl.name) (begun_names s.front) ≡ _ = rw (s.name_is, s.names) f.again in
+    let found : repeated_in [] (begun_from None 1 f.lines) ≡ Some (DuplicateCube number) =
     ap (repeated_in []) s.whole ∙ repeated-seam s.front s.cube s.rest apart_begun again_begun ∙ ap (λ n. Some (DuplicateCube n)) at in
-    by_lines text lines has ∙ rw found refl
+    by_lines text f.lines f.formed ∙ rw found refl
 
-pub excess_outcome : (text : List ℕ) (lines before : List Line) (name : List ℕ) (number : ℕ) → HasLines text lines → first_repeated (cube_names lines) ≡ None → BeginsCube lines before name number → length (cube_names before) ≡ cubes_limit
-    → outcome text ≡ Err (TooManyCubes number)
-excess_outcome text lines before name number has apart begins full =
-    let s = begun_at_line lines before name number begins in
-    let at : s.cube.line ≡ number = omega (arith, s.line_is, begins.place) in
+pub excess_outcome : (text : List ℕ) (number : ℕ) → ExceedsCubes text number → outcome text ≡ Err (TooManyCubes number)
+excess_outcome text number f =
+    let s = begun_at_line f.lines f.before f.name number f.begins in
+    let at : s.cube.line ≡ number = omega (arith, s.line_is, f.begins.place) in
     let name_in : Begun → List ℕ = λ cube. cube.decl.name in
-    let count : length s.front ≡ cubes_limit = sym (length-map s.front name_in) ∙ ap length s.names ∙ full in
-    let got : slice_get (begun_from None 1 lines) cubes_limit ≡ Some s.cube = (λ i. slice_get (s.whole i) (sym count i)) ∙ slice_get-seam s.front s.cube s.rest in
-    by_lines text lines has ∙ rw (none_repeated lines apart, got) (ap (λ n. Err (TooManyCubes n)) at)
+    let count : length s.front ≡ cubes_limit = sym (length-map s.front name_in) ∙ ap length s.names ∙ f.full in
+    let got : slice_get (begun_from None 1 f.lines) cubes_limit ≡ Some s.cube = (λ i. slice_get (s.whole i) (sym count i)) ∙ slice_get-seam s.front s.cube s.rest in
+    by_lines text f.lines f.formed ∙ rw (none_repeated f.lines f.apart, got) (ap (λ n. Err (TooManyCubes n)) at)
 
-pub schema_outcome : (text : List ℕ) (lines : List Line) (before behind : List Decl) (cube : Decl) (fault : SchemaFault) → HasLines text lines → first_repeated (cube_names lines) ≡ None → length (cube_names lines) ≤ cubes_limit
-    → cubes_in lines ≡ before ++ cube ∷ behind → All IsStorable before → schema_fault cube ≡ Some fault → outcome text ≡ Err (Schema cube.name fault)
-schema_outcome text lines before behind cube fault has apart few are all is =
-    by_lines text lines has
-    ∙ rw (none_repeated lines apart, none_in_excess lines few, decls_are 1 lines ∙ are, first_unstorable before cube behind fault all is) refl
+pub schema_outcome : (text name : List ℕ) (fault : SchemaFault) → (f : HasUnstorable text name fault) → outcome text ≡ Err (Schema f.cube.name fault)
+schema_outcome text name fault f =
+    by_lines text f.lines f.formed
+    ∙ rw (none_repeated f.lines f.apart, none_in_excess f.lines f.few, decls_are 1 f.lines ∙ f.whole, first_unstorable f.before f.cube f.behind fault f.storable f.bad) refl

@@ -158,15 +158,15 @@ storable_or_refuses (d ∷ cubes) = by_fault (schema_fault d) refl (storable_or_
 
 by_storable : (text : List ℕ) (lines : List Line) → HasLines text lines → first_repeated (cube_names lines) ≡ None → length (cube_names lines) ≤ cubes_limit → All IsStorable (cubes_in lines) ⊎ Refuses (cubes_in lines) → AnyCubes text ⊎ AnyFault text
 by_storable text lines has apart few (inl all) = inl (cubes_in lines, record { lines = lines; formed = has; names = apart; few = few; are = refl; storable = all })
-by_storable text lines has apart few (inr r) = inr (Schema r.cube.name r.fault, (lines, r.before, r.behind, r.cube, has, apart, few, r.whole, r.storable, refl, r.is))
+by_storable text lines has apart few (inr r) = inr (Schema r.cube.name r.fault, record { lines = lines; before = r.before; cube = r.cube; behind = r.behind; formed = has; apart = apart; few = few; whole = r.whole; storable = r.storable; named = refl; bad = r.is })
 
 by_count : (text : List ℕ) (lines : List Line) → HasLines text lines → first_repeated (cube_names lines) ≡ None → (length (cube_names lines) ≤ cubes_limit) ⊎ Exceeds lines → AnyCubes text ⊎ AnyFault text
 by_count text lines has apart (inl few) = by_storable text lines has apart few (storable_or_refuses (cubes_in lines))
-by_count text lines has apart (inr e) = inr (TooManyCubes e.number, (lines, e.before, e.name, has, apart, e.begins, e.full))
+by_count text lines has apart (inr e) = inr (TooManyCubes e.number, record { lines = lines; before = e.before; name = e.name; formed = has; apart = apart; begins = e.begins; full = e.full })
 
 by_names : (text : List ℕ) (lines : List Line) → HasLines text lines → (first_repeated (cube_names lines) ≡ None) ⊎ Repeats lines → AnyCubes text ⊎ AnyFault text
 by_names text lines has (inl apart) = by_count text lines has apart (few_or_exceeds lines [] lines refl (omega arith))
-by_names text lines has (inr r) = inr (DuplicateCube r.number, (lines, r.before, r.name, has, r.begins, r.apart, r.again))
+by_names text lines has (inr r) = inr (DuplicateCube r.number, record { lines = lines; before = r.before; name = r.name; formed = has; begins = r.begins; apart = r.apart; again = r.again })
 
 pub text_view : (text : List ℕ) → IsUtf8 text → AnyCubes text ⊎ AnyFault text
 text_view text utf8 = by_lines (lines_or_bad [] (word_lines text))

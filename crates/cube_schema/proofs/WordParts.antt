@@ -6,8 +6,8 @@ use Rattle.std.specs.List.{prefix_len, slice_split, onto_first}
 use Rattle.std.proofs.lemmas.Bool.{cases_Bool}
 use Rattle.std.proofs.lemmas.Bool.Decides.{nat_tests}
 use Rattle.std.proofs.lemmas.List.Sums.{prefix_len-le-length}
-use Rattle.cube_language.specs.CubesText.{without_return, words_of}
-use Rattle.cube_schema.specs.Blanks.{is_blank, is_in_word}
+use Rattle.cube_language.specs.CubesText.{without_return, words_of, parts_words}
+use Rattle.cube_schema.specs.Reading.{is_in_word}
 
 onto_both : (b : Bool) (x : ℕ) (xs ys : List ℕ) → x ∷ cond b xs ys ≡ cond b (x ∷ xs) (x ∷ ys)
 onto_both true x xs ys = refl
@@ -33,8 +33,8 @@ ends_in_return (byte ∷ line) =
     let n : length line ≡ length (byte ∷ line) - 1 = omega arith in
     subst (Strips (byte ∷ line)) n (stripped byte line)
 
-pub blanks_within : (bytes : List ℕ) → prefix_len is_blank bytes ≤ length bytes
-blanks_within bytes = prefix_len-le-length is_blank bytes
+pub blanks_within : (bytes : List ℕ) → prefix_len parts_words bytes ≤ length bytes
+blanks_within bytes = prefix_len-le-length parts_words bytes
 
 pub word_within : (bytes : List ℕ) → prefix_len is_in_word bytes ≤ length bytes
 word_within bytes = prefix_len-le-length is_in_word bytes
@@ -43,27 +43,27 @@ one_more : (n : ℕ) → 1 + n ≡ suc n
 one_more n = omega arith
 
 -- Blanks at the front part no words.
-words-behind : (line : List ℕ) → words_of (drop (prefix_len is_blank line) line) ≡ words_of line
+words-behind : (line : List ℕ) → words_of (drop (prefix_len parts_words line) line) ≡ words_of line
 words-behind [] = refl
-words-behind (byte ∷ line) = elim (cases_Bool (is_blank byte)) [
-  | inl blank ↦ rw (blank, one_more (prefix_len is_blank line)) (words-behind line)
+words-behind (byte ∷ line) = elim (cases_Bool (parts_words byte)) [
+  | inl blank ↦ rw (blank, one_more (prefix_len parts_words line)) (words-behind line)
   | inr other ↦
-      let none : prefix_len is_blank (byte ∷ line) ≡ 0 = rw other refl in
+      let none : prefix_len parts_words (byte ∷ line) ≡ 0 = rw other refl in
       ap (λ n. words_of (drop n (byte ∷ line))) none
 ]
 
 -- Behind the blanks at the front no blank stands first.
-no_blank : (line : List ℕ) → prefix_len is_blank (drop (prefix_len is_blank line) line) ≡ 0
+no_blank : (line : List ℕ) → prefix_len parts_words (drop (prefix_len parts_words line) line) ≡ 0
 no_blank [] = refl
-no_blank (byte ∷ line) = elim (cases_Bool (is_blank byte)) [
-  | inl blank ↦ rw (blank, one_more (prefix_len is_blank line)) (no_blank line)
+no_blank (byte ∷ line) = elim (cases_Bool (parts_words byte)) [
+  | inl blank ↦ rw (blank, one_more (prefix_len parts_words line)) (no_blank line)
   | inr other ↦
-      let none : prefix_len is_blank (byte ∷ line) ≡ 0 = rw other refl in
-      ap (λ n. prefix_len is_blank (drop n (byte ∷ line))) none ∙ none
+      let none : prefix_len parts_words (byte ∷ line) ≡ 0 = rw other refl in
+      ap (λ n. prefix_len parts_words (drop n (byte ∷ line))) none ∙ none
 ]
 
 abbrev parts : List ℕ → List (List ℕ)
-parts line = slice_split is_blank line
+parts line = slice_split parts_words line
 
 -- The part at the front, and the parts behind it.
 record Front (line : List ℕ) (n : ℕ) : Type 0 where
@@ -73,7 +73,7 @@ record Front (line : List ℕ) (n : ℕ) : Type 0 where
 
 front_of : (line : List ℕ) → Front line (prefix_len is_in_word line)
 front_of [] = record { behind = []; whole = refl; rest = refl }
-front_of (byte ∷ line) = elim (cases_Bool (is_blank byte)) [
+front_of (byte ∷ line) = elim (cases_Bool (parts_words byte)) [
   | inl blank ↦
       let none : 0 ≡ prefix_len is_in_word (byte ∷ line) = rw blank refl in
       subst (Front (byte ∷ line)) none (record { behind = parts line; whole = rw blank refl; rest = rw blank refl })
@@ -85,13 +85,13 @@ front_of (byte ∷ line) = elim (cases_Bool (is_blank byte)) [
 
 -- The words of a line, by what stands behind its blanks and its first word.
 pub record Cut (line front word behind : List ℕ) : Type 0 where
-  pub front_is : front ≡ drop (prefix_len is_blank line) line
+  pub front_is : front ≡ drop (prefix_len parts_words line) line
   pub word_is : word ≡ take (prefix_len is_in_word front) front
   pub behind_is : behind ≡ drop (prefix_len is_in_word front) front
 
-pub kept : (word : List ℕ) (behind : List (List ℕ)) → 0 < length word → filter (λ w. not (length w == 0)) (word ∷ behind) ≡ word ∷ filter (λ w. not (length w == 0)) behind
-kept [] behind some = absurd (omega arith)
-kept (byte ∷ word) behind some = let full : (suc (length word) == 0) ≡ false = grind (arith, nat_tests) in rw full refl
+pub word_stays : (word : List ℕ) (behind : List (List ℕ)) → 0 < length word → filter (λ w. not (length w == 0)) (word ∷ behind) ≡ word ∷ filter (λ w. not (length w == 0)) behind
+word_stays [] behind some = absurd (omega arith)
+word_stays (byte ∷ word) behind some = let full : (suc (length word) == 0) ≡ false = grind (arith, nat_tests) in rw full refl
 
 pub first_word : (line front word behind : List ℕ) → Cut line front word behind → 0 < length word → words_of line ≡ word ∷ words_of behind
 first_word line front word behind cut some =
@@ -100,17 +100,17 @@ first_word line front word behind cut some =
     sym (words-behind line) ∙ ap words_of (sym cut.front_is)
     ∙ ap filled f.whole
     ∙ ap (λ w. filled (w ∷ f.behind)) (sym cut.word_is)
-    ∙ kept word f.behind some
+    ∙ word_stays word f.behind some
     ∙ ap (λ ws. word ∷ ws) (sym (ap words_of cut.behind_is ∙ ap filled f.rest))
 
-nothing_left : (front : List ℕ) → prefix_len is_blank front ≡ 0 → length (take (prefix_len is_in_word front) front) ≡ 0 → words_of front ≡ []
+nothing_left : (front : List ℕ) → prefix_len parts_words front ≡ 0 → length (take (prefix_len is_in_word front) front) ≡ 0 → words_of front ≡ []
 nothing_left [] blanks none = refl
-nothing_left (byte ∷ front) blanks none = elim (cases_Bool (is_blank byte)) [
+nothing_left (byte ∷ front) blanks none = elim (cases_Bool (parts_words byte)) [
   | inl blank ↦ let more = rw blank at blanks in absurd (omega arith)
   | inr other ↦ let more = rw (other, one_more (prefix_len is_in_word front)) at none in absurd (omega arith)
 ]
 
 pub no_words : (line front word behind : List ℕ) → Cut line front word behind → length word ≡ 0 → words_of line ≡ []
 no_words line front word behind cut none =
-    let blanks : prefix_len is_blank front ≡ 0 = rw cut.front_is (no_blank line) in
+    let blanks : prefix_len parts_words front ≡ 0 = rw cut.front_is (no_blank line) in
     sym (words-behind line) ∙ ap words_of (sym cut.front_is) ∙ nothing_left front blanks (rw cut.word_is at none)

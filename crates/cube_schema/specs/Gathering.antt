@@ -21,30 +21,36 @@ with_dim cube dim = record cube { decl = record cube.decl { dims = cube.decl.dim
 abbrev pub with_metric : Begun → List ℕ → Begun
 with_metric cube name = record cube { decl = record cube.decl { metrics = cube.decl.metrics ++ name ∷ [] } }
 
--- What a line does, by its number and the cube that is being read, or None where it has no form or may not stand there.
-abbrev pub step : Option Begun → ℕ → Option Line → Option Progress
-step current number None = None
-step current number (Some Skipped) = Some (record { completed = None; current = current })
-step current number (Some (Cube name)) = Some (record { completed = current; current = Some (begun_at number name) })
-step None number (Some (Dim dim)) = None
-step (Some cube) number (Some (Dim dim)) = Some (record { completed = None; current = Some (with_dim cube dim) })
-step None number (Some (Metric name)) = None
-step (Some cube) number (Some (Metric name)) = Some (record { completed = None; current = Some (with_metric cube name) })
+-- What a line does, by its number and the cube that is being read, or None where it has no form or may not
+-- stand there.
+abbrev pub progress_at : Option Begun → ℕ → Option Line → Option Progress
+progress_at current number None = None
+progress_at current number (Some Skipped) = Some (record { completed = None; current = current })
+progress_at current number (Some (Cube name)) =
+    Some (record { completed = current; current = Some (begun_at number name) })
+progress_at None number (Some (Dim dim)) = None
+progress_at (Some cube) number (Some (Dim dim)) =
+    Some (record { completed = None; current = Some (with_dim cube dim) })
+progress_at None number (Some (Metric name)) = None
+progress_at (Some cube) number (Some (Metric name)) =
+    Some (record { completed = None; current = Some (with_metric cube name) })
 
 -- Cubes stand before others, unless these were not read.
-abbrev pub behind : List Begun → Result (List Begun) CubesFault → Result (List Begun) CubesFault
-behind front (Ok cubes) = Ok (front ++ cubes)
-behind front (Err fault) = Err fault
+abbrev pub cubes_then : List Begun → Result (List Begun) CubesFault → Result (List Begun) CubesFault
+cubes_then front (Ok cubes) = Ok (front ++ cubes)
+cubes_then front (Err fault) = Err fault
 
--- What follows a step, or the fault of the line that allows none.
-abbrev pub go_on : ℕ → Option Progress → (Option Begun → Result (List Begun) CubesFault) → Result (List Begun) CubesFault
-go_on number None rest = Err (BadLine number)
-go_on number (Some s) rest = behind (option_to_list s.completed) (rest s.current)
+-- What follows such a progress, or the fault of the line that allows none.
+abbrev pub cubes_after
+    : ℕ → Option Progress → (Option Begun → Result (List Begun) CubesFault) → Result (List Begun) CubesFault
+cubes_after number None rest = Err (BadLine number)
+cubes_after number (Some s) rest = cubes_then (option_to_list s.completed) (rest s.current)
 
 -- The cubes of lines, of which the first has this number, behind a cube that is being read, or the first bad line.
 abbrev pub cubes_from : Option Begun → ℕ → List (List (List ℕ)) → Result (List Begun) CubesFault
 cubes_from current number [] = Ok (option_to_list current)
-cubes_from current number (words ∷ lines) = go_on number (step current number (line_in words)) (λ next. cubes_from next (number + 1) lines)
+cubes_from current number (words ∷ lines) =
+    cubes_after number (progress_at current number (line_in words)) (λ next. cubes_from next (number + 1) lines)
 
 -- The cubes of a text, or its first bad line.
 abbrev pub gathered : List ℕ → Result (List Begun) CubesFault

@@ -6,4 +6,3 @@ pub mod Forms
 pub mod Gathering
 pub mod Outcomes
 pub mod Texts
-pub mod Blanks

@@ -12,17 +12,20 @@ use Rattle.cube_schema.specs.declared.gather.Begun.{Begun}
 use Rattle.cube_schema.specs.Gathering.{gathered}
 
 -- The names of cubes.
-abbrev pub names_of : List Begun → List (List ℕ)
-names_of cubes = map (λ cube. cube.decl.name) cubes
+abbrev pub begun_names : List Begun → List (List ℕ)
+begun_names cubes = map (λ cube. cube.decl.name) cubes
 
 -- The declarations of cubes.
-abbrev pub decls_of : List Begun → List Decl
-decls_of cubes = map (λ cube. cube.decl) cubes
+abbrev pub begun_decls : List Begun → List Decl
+begun_decls cubes = map (λ cube. cube.decl) cubes
 
 -- The first cube of a name that stands among these or that a cube before it has.
 abbrev pub repeated_in : List (List ℕ) → List Begun → Option CubesFault
 repeated_in before [] = None
-repeated_in before (cube ∷ cubes) = if list_any (bytes_eq cube.decl.name) before then Some (DuplicateCube cube.line) else repeated_in (cube.decl.name ∷ before) cubes
+repeated_in before (cube ∷ cubes) =
+    if list_any (bytes_eq cube.decl.name) before
+    then Some (DuplicateCube cube.line)
+    else repeated_in (cube.decl.name ∷ before) cubes
 
 -- The cube that is one too many.
 abbrev pub excess_in : List Begun → Option CubesFault
@@ -38,17 +41,17 @@ unstorable_in [] = None
 unstorable_in (d ∷ decls) = option_or (unstorable d) (unstorable_in decls)
 
 -- The first fault of cubes, or None where they can be stored.
-abbrev pub fault_in : List Begun → Option CubesFault
-fault_in cubes = first_some (repeated_in [] cubes ∷ excess_in cubes ∷ unstorable_in (decls_of cubes) ∷ [])
+abbrev pub begun_fault : List Begun → Option CubesFault
+begun_fault cubes = first_some (repeated_in [] cubes ∷ excess_in cubes ∷ unstorable_in (begun_decls cubes) ∷ [])
 
 -- Cubes, unless they have this fault.
-abbrev pub unless : Option CubesFault → List Decl → Result (List Decl) CubesFault
-unless None cubes = Ok cubes
-unless (Some fault) cubes = Err fault
+abbrev pub cubes_unless : Option CubesFault → List Decl → Result (List Decl) CubesFault
+cubes_unless None cubes = Ok cubes
+cubes_unless (Some fault) cubes = Err fault
 
 -- The declarations of cubes that were read, or the first fault.
 abbrev pub outcome_of : Result (List Begun) CubesFault → Result (List Decl) CubesFault
-outcome_of (Ok cubes) = unless (fault_in cubes) (decls_of cubes)
+outcome_of (Ok cubes) = cubes_unless (begun_fault cubes) (begun_decls cubes)
 outcome_of (Err fault) = Err fault
 
 -- What the text gives where it is UTF-8.

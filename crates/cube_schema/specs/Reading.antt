@@ -1,16 +1,21 @@
 -- Reading a cubes text line by line, up to the first fault.
-use Rattle.std.specs.Prelude.{ℕ, ◌^◌, Bool, true, false, ◌&&◌, nat_lt, nat_eq, List, [], ◌∷◌, length, codes, Option, Some, None, if◌then◌else◌}
+use Rattle.std.specs.Prelude.{◌≡◌, ℕ, ◌^◌, Bool, true, false, not, nat_lt, nat_eq, List, [], ◌∷◌, length, codes, Option, Some, None, if◌then◌else◌}
+use Rattle.std.specs.Borrow.{Bor}
 use Rattle.std.specs.List.{starts_with}
 use Rattle.std.specs.Option.{option_map}
 use Rattle.std.specs.Str.{bytes_eq}
 use Rattle.std.specs.Str.Parse.{digits_value}
 use Rattle.cube_language.specs.Names.{is_name}
 use Rattle.cube_language.specs.declared.decl.DimDecl.{DimDecl}
-use Rattle.cube_language.specs.CubesText.{Line, Skipped, Cube, Dim, Metric}
+use Rattle.cube_language.specs.CubesText.{Line, Skipped, Cube, Dim, Metric, parts_words, without_return, words_of}
 use Rattle.cube_language.specs.Tokens.{is_digits}
 
+-- A byte of a word.
+abbrev pub is_in_word : ℕ → Bool
+is_in_word byte = not (parts_words byte)
+
 infixl 10 ◌>>=◌
--- What is read next, unless a step before it failed.
+-- What is read next, unless what stood before it failed.
 abbrev pub ◌>>=◌ : {A B : Type 0} → Option A → (A → Option B) → Option B
 (Some x) >>= f = f x
 None >>= f = None
@@ -31,11 +36,20 @@ name_in word = if is_name word then Some word else None
 
 -- A kind: whether it is that of texts.
 abbrev pub kind_in : List ℕ → Option Bool
-kind_in word = if bytes_eq word (codes "text") then Some true else (if bytes_eq word (codes "int") then Some false else None)
+kind_in word =
+    if bytes_eq word (codes "text") then Some true else (if bytes_eq word (codes "int") then Some false else None)
+
+-- A number, where it has 32 bits.
+abbrev pub narrow : ℕ → Option ℕ
+narrow n = if nat_lt n (2 ^ 32) then Some n else None
 
 -- A number of 32 bits.
 abbrev pub number_in : List ℕ → Option ℕ
-number_in word = if is_digits word && nat_lt (digits_value 10 word) (2 ^ 32) then Some (digits_value 10 word) else None
+number_in word = if is_digits word then narrow (digits_value 10 word) else None
+
+-- The line has this first word, and behind it the words of what is left.
+abbrev pub HasWords : List ℕ → Bor (List ℕ) × Bor (List ℕ) → Type 0
+HasWords line read = words_of line ≡ read.0.now ∷ words_of read.1.now
 
 -- The word that is the only one.
 unfoldable pub only_word : List (List ℕ) → Option (List ℕ)
@@ -72,4 +86,10 @@ line_in (word ∷ words) =
     then Some Skipped
     else (if bytes_eq word (codes "cube")
     then option_map Cube (only_name words)
-    else (if bytes_eq word (codes "metric") then option_map Metric (only_name words) else (if bytes_eq word (codes "dim") then option_map Dim (dim_words words) else None)))
+    else (if bytes_eq word (codes "metric")
+    then option_map Metric (only_name words)
+    else (if bytes_eq word (codes "dim") then option_map Dim (dim_words words) else None)))
+
+-- What a line of a text says.
+abbrev pub line_form : List ℕ → Option Line
+line_form line = line_in (words_of (without_return line))

@@ -23,7 +23,8 @@ TextsDeclareOneList = (text : List ℕ) (a b : List Decl) → Declares text a �
 
 -- A text that declares cubes has no fault.
 abbrev pub DeclaringTextsHaveNoFault : Type 0
-DeclaringTextsHaveNoFault = (text : List ℕ) (cubes : List Decl) (fault : CubesFault) → Declares text cubes → HasCubesFault text fault → ⊥
+DeclaringTextsHaveNoFault =
+    (text : List ℕ) (cubes : List Decl) (fault : CubesFault) → Declares text cubes → HasCubesFault text fault → ⊥
 
 -- A text has one fault at most.
 abbrev pub TextsHaveOneFault : Type 0
@@ -35,4 +36,5 @@ TextsDeclareOrHaveFault = (text : List ℕ) → AnyCubes text ⊎ AnyFault text
 
 -- The canonical text of the cubes of a text declares them too.
 abbrev pub CanonicalTextsDeclare : Type 0
-CanonicalTextsDeclare = (text : List ℕ) (cubes : List Decl) → Declares text cubes → Declares (cubes_text cubes) cubes
+CanonicalTextsDeclare =
+    (text : List ℕ) (cubes : List Decl) → Declares text cubes → Declares (cubes_text cubes) cubes

@@ -1,9 +1,10 @@
 //! Why a declaration cannot be stored.
 
-ghost use Rattle.std.specs.Prelude.{◌≡◌, ◌^◌, ◌<◌, ◌||◌, false, nat_lt, length, map, find, option_copied, IfOk};
+ghost use Rattle.std.specs.Prelude.{◌≡◌, ◌^◌, ◌<◌, ◌||◌, false, nat_lt, length, find, option_copied, IfOk};
 ghost use Rattle.cube_values.specs.Shapes.{ranges_of, bricks_of};
-ghost use Rattle.cube_language.specs.Cubes.{column_names, duplicate_in, has_zero, zero_in, has_large_range, large_range_in, many_columns_in, schema_fault};
-ghost use Rattle.cube_schema.specs.Dimensions.{size_of, sizes_of, AreNotZero};
+ghost use Rattle.cube_language.specs.Cubes.{column_names, dim_names, duplicate_in, has_zero, zero_in, has_large_range, large_range_in, schema_fault, size_of, sizes_of};
+ghost use Rattle.cube_schema.specs.Dimensions.{AreNotZero};
+ghost use Rattle.cube_schema.specs.Repeats.{names_lent};
 
 use crate::repeat::first_repeat;
 use cube_language::{Decl, DimDecl, SchemaFault};
@@ -43,7 +44,7 @@ pub(crate) fn fault_of(alloc: Global, decl: &Decl) -> Result<Option<SchemaFault>
 
 /// The names of dimensions.
 fn dim_names(alloc: Global, dims: &[DimDecl]) -> Result<Vec<&str>, AllocError>
-    ensures { IfOk result (λ names. map (λ name. name.now) names.items ≡ map (λ dim. dim.name) dims.now) }
+    ensures { IfOk result (λ names. names_lent names.items ≡ dim_names dims.now) }
 {
     let mut names = Vec::new(alloc);
     'dims: for dim in dims {
@@ -53,8 +54,8 @@ fn dim_names(alloc: Global, dims: &[DimDecl]) -> Result<Vec<&str>, AllocError>
 }
 
 /// The names of the columns, dimensions first.
-fn names_of(alloc: Global, decl: &Decl) -> Result<Vec<&str>, AllocError>
-    ensures { IfOk result (λ names. map (λ name. name.now) names.items ≡ column_names decl.now) }
+fn column_names(alloc: Global, decl: &Decl) -> Result<Vec<&str>, AllocError>
+    ensures { IfOk result (λ names. names_lent names.items ≡ column_names decl.now) }
 {
     let mut names = dim_names(alloc, decl.dims.as_slice())?;
     'metrics: for name in decl.metrics.as_slice() {
@@ -66,7 +67,7 @@ fn names_of(alloc: Global, decl: &Decl) -> Result<Vec<&str>, AllocError>
 fn duplicate_in(alloc: Global, decl: &Decl) -> Result<Option<SchemaFault>, AllocError>
     ensures { IfOk result (λ found. found ≡ duplicate_in decl.now) }
 {
-    let names = names_of(alloc, decl)?;
+    let names = column_names(alloc, decl)?;
     match first_repeat(alloc, names.as_slice())? {
         Some(place) => {
             let name = Text::new(alloc, names[place])?;

@@ -2,11 +2,10 @@
 
 ghost use Rattle.std.specs.Prelude.{◌≡◌, ◌++◌, Ok, Err, Some, OnOk, IfOk};
 ghost use Rattle.std.specs.Option.{option_to_list};
-ghost use Rattle.cube_language.specs.CubesText.{without_return, words_of};
 ghost use Rattle.cube_values.specs.Faults.{IfFault};
 ghost use Rattle.cube_schema.specs.Forms.{said_by};
-ghost use Rattle.cube_schema.specs.Gathering.{begun_at, step, gathered};
-ghost use Rattle.cube_schema.specs.Reading.{line_in};
+ghost use Rattle.cube_schema.specs.Gathering.{begun_at, progress_at, gathered};
+ghost use Rattle.cube_schema.specs.Reading.{line_form};
 
 use crate::line::{Form, form_of};
 use crate::words::without_return;
@@ -43,13 +42,13 @@ fn begun_at(alloc: Global, line: u64, name: Text) -> Begun
 }
 
 /// What a form does behind the lines before it, or None where it may not stand there.
-fn step(
+fn progress_at(
     alloc: Global,
     current: Option<Begun>,
     number: u64,
     form: Form,
 ) -> Result<Option<Progress>, AllocError>
-    ensures { IfOk result (λ next. next ≡ step current number (Some (said_by form))) }
+    ensures { IfOk result (λ next. next ≡ progress_at current number (Some (said_by form))) }
 {
     match form {
         Form::Skipped => Ok(Some(Progress {
@@ -83,16 +82,16 @@ fn step(
     }
 }
 
-fn line_step(
+fn line_progress(
     alloc: Global,
     current: Option<Begun>,
     number: u64,
     line: &[u8],
 ) -> Result<Option<Progress>, AllocError>
-    ensures { IfOk result (λ next. next ≡ step current number (line_in (words_of (without_return line.now)))) }
+    ensures { IfOk result (λ next. next ≡ progress_at current number (line_form line.now)) }
 {
     match form_of(alloc, without_return(line))? {
-        Some(form) => step(alloc, current, number, form),
+        Some(form) => progress_at(alloc, current, number, form),
         None => Ok(None),
     }
 }
@@ -116,7 +115,7 @@ pub(crate) fn gather_cubes(alloc: Global, text: &[u8]) -> Result<Vec<Begun>, Cal
     let mut number = 0u64;
     'lines: for line in text.split(|byte| *byte == b'\n') {
         number += 1;
-        let Some(next) = line_step(alloc, current, number, line)? else {
+        let Some(next) = line_progress(alloc, current, number, line)? else {
             return Err(CallError::Fault(CubesFault::BadLine { line: number }));
         };
         push_some(&mut cubes, next.completed)?;

@@ -1,6 +1,5 @@
 //! What follows from the definitions, for whoever reasons with them.
 
-ghost use Rattle.cube_schema.specs.Schemas.{StorableShapesAreSound};
 ghost use Rattle.cube_schema.specs.Texts.{TextsDeclareOrHaveFault, TextsDeclareOneList, DeclaringTextsHaveNoFault, TextsHaveOneFault, CanonicalTextsDeclare};
 
 /// A text either declares one list of cubes, or has one fault.
@@ -14,10 +13,4 @@ pub fn a_text_declares_or_has_one_fault()
 /// The canonical text of cubes that a text declares declares these cubes too.
 pub fn what_is_printed_declares_its_cubes()
     ensures { CanonicalTextsDeclare }
-{}
-
-/// The shape of a declaration that can be stored is sound.
-#[tactic(auto, using(crate::proofs::Sound::sound_shape))]
-pub fn storable_declarations_have_sound_shapes()
-    ensures { StorableShapesAreSound }
 {}

@@ -1,6 +1,6 @@
 //! What the words of a line say.
 
-ghost use Rattle.std.specs.Prelude.{◌≡◌, false, nat_lt, ◌^◌, Some, None, option_copied, IsTrue, IsUtf8, IfOk, IfSome, if◌then◌else◌};
+ghost use Rattle.std.specs.Prelude.{◌≡◌, option_copied, IsTrue, IfOk, IfSome};
 ghost use Rattle.std.specs.Char.{is_ascii_digit};
 ghost use Rattle.std.specs.List.{list_all};
 ghost use Rattle.std.specs.Option.{option_map};
@@ -10,13 +10,12 @@ ghost use Rattle.cube_language.specs.Names.{is_name};
 ghost use Rattle.cube_language.specs.CubesText.{words_of};
 ghost use Rattle.cube_language.specs.Tokens.{is_digits};
 ghost use Rattle.cube_schema.specs.Forms.{said_by, dim_of};
-ghost use Rattle.cube_schema.specs.Reading.{only_word, kind_in, number_in, only_name, dim_words, line_in};
+ghost use Rattle.cube_schema.specs.Reading.{only_word, kind_in, narrow, number_in, only_name, dim_words, line_in};
 
 use crate::words::next_word;
-use cube_language::{DimDecl, is_name};
+use cube_language::{DimDecl, is_name, text_of};
 use cube_values::Text;
 use std::alloc::{AllocError, Global};
-use std::str;
 
 /// What a line says.
 #[derive(Debug, Drop)]
@@ -29,14 +28,6 @@ pub(crate) enum Form {
     Dim(DimDecl),
     /// It adds the metric of this name.
     Metric(Text),
-}
-
-/// Bytes in UTF-8 as text.
-fn text_of(bytes: &[u8]) -> &str
-    requires { IsUtf8 bytes.now }
-    ensures { result.now ≡ bytes.now }
-{
-    str::from_utf8(bytes).unwrap()
 }
 
 #[tactic(auto, using(crate::proofs::Ascii::name_is_text))]
@@ -81,7 +72,7 @@ fn is_digits(bytes: &[u8]) -> bool
 #[tactic(auto, using(crate::proofs::Ascii::digits_are_text, crate::proofs::Ascii::parsed))]
 fn parse(digits: &[u8]) -> Option<u32>
     requires { IsTrue (is_digits digits.now) }
-    ensures { result ≡ (if nat_lt (digits_value 10 digits.now) (2 ^ 32) then Some (digits_value 10 digits.now) else None) }
+    ensures { result ≡ narrow (digits_value 10 digits.now) }
 {
     text_of(digits).parse::<u32>().ok()
 }

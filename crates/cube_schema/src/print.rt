@@ -1,14 +1,13 @@
 //! The canonical text of cubes.
 
-ghost use Rattle.std.specs.Prelude.{◌≡◌, ◌++◌, decimal, OnOk, IfOk};
+ghost use Rattle.std.specs.Prelude.{◌≡◌, ◌++◌, OnOk, IfOk};
 ghost use Rattle.std.specs.List.{flat_map};
 ghost use Rattle.cube_language.specs.Cubes.{kind_text, dim_text, metric_text, cube_text, cubes_text};
 ghost use Rattle.cube_schema.specs.Texts.{AreDeclared};
 
 use crate::schema::Schema;
-use cube_language::{Decl, DimDecl};
+use cube_language::{Decl, DimDecl, put_u64};
 use cube_values::Text;
-use itoa::Buffer;
 use std::alloc::{AllocError, Global};
 
 /// The canonical text of cubes that some text declares.
@@ -34,14 +33,6 @@ fn put_cube(out: &mut Vec<u8>, decl: &Decl) -> Result<(), AllocError>
     Ok(())
 }
 
-fn put_number(out: &mut Vec<u8>, n: u32) -> Result<(), AllocError>
-    ensures { OnOk result (out.new.items ≡ out.old.items ++ decimal n) }
-{
-    let mut buffer = Buffer::new();
-    out.extend_from_slice(buffer.format(n).as_bytes())?;
-    Ok(())
-}
-
 fn kind_word(text: bool) -> &'static [u8]
     ensures { result.now ≡ kind_text text }
 {
@@ -56,9 +47,9 @@ fn put_dim(out: &mut Vec<u8>, dim: &DimDecl) -> Result<(), AllocError>
     out.extend_from_slice(b" ")?;
     out.extend_from_slice(kind_word(dim.text))?;
     out.extend_from_slice(b" ")?;
-    put_number(out, dim.cardinality)?;
+    put_u64(out, u64::from(dim.cardinality))?;
     out.extend_from_slice(b" ")?;
-    put_number(out, dim.range)?;
+    put_u64(out, u64::from(dim.range))?;
     out.extend_from_slice(b"\n")?;
     Ok(())
 }

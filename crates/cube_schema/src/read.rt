@@ -1,10 +1,11 @@
 //! Reading of a cubes text.
 
-ghost use Rattle.std.specs.Prelude.{◌≡◌, [], map, Some, None, Ok, Err, IsUtf8, OnOk, IfOk};
+ghost use Rattle.std.specs.Prelude.{◌≡◌, [], Some, None, Ok, Err, IsUtf8, OnOk, IfOk};
 ghost use Rattle.cube_language.specs.Cubes.{schema_fault};
 ghost use Rattle.cube_language.specs.CubesText.{Declares, HasCubesFault};
 ghost use Rattle.cube_values.specs.Faults.{IfFault};
-ghost use Rattle.cube_schema.specs.Outcomes.{names_of, decls_of, repeated_in, excess_in, unstorable, unstorable_in, outcome};
+ghost use Rattle.cube_schema.specs.Outcomes.{begun_names, begun_decls, repeated_in, excess_in, unstorable, unstorable_in, outcome};
+ghost use Rattle.cube_schema.specs.Repeats.{names_lent};
 
 use crate::gather::{Begun, gather_cubes};
 use crate::repeat::first_repeat;
@@ -17,8 +18,8 @@ use std::str;
 /// The most cubes of a text.
 const MOST_CUBES: usize = 16;
 
-fn names_of(alloc: Global, cubes: &[Begun]) -> Result<Vec<&str>, AllocError>
-    ensures { IfOk result (λ names. map (λ name. name.now) names.items ≡ names_of cubes.now) }
+fn begun_names(alloc: Global, cubes: &[Begun]) -> Result<Vec<&str>, AllocError>
+    ensures { IfOk result (λ names. names_lent names.items ≡ begun_names cubes.now) }
 {
     let mut names = Vec::new(alloc);
     'cubes: for cube in cubes {
@@ -31,7 +32,7 @@ fn names_of(alloc: Global, cubes: &[Begun]) -> Result<Vec<&str>, AllocError>
 fn repeated_in(alloc: Global, cubes: &[Begun]) -> Result<Option<CubesFault>, AllocError>
     ensures { IfOk result (λ found. found ≡ repeated_in [] cubes.now) }
 {
-    let names = names_of(alloc, cubes)?;
+    let names = begun_names(alloc, cubes)?;
     match first_repeat(alloc, names.as_slice())? {
         Some(place) => Ok(Some(CubesFault::DuplicateCube {
             line: cubes[place].line,
@@ -64,9 +65,9 @@ fn check_cube(alloc: Global, cube: &Begun) -> Result<Schema, CallError<CubesFaul
 }
 
 fn check_cubes(alloc: Global, cubes: &[Begun]) -> Result<Vec<Schema>, CallError<CubesFault>>
-    ensures stored { IfOk result (λ schemas. schemas.items ≡ decls_of cubes.now) }
-    ensures storable { OnOk result (unstorable_in (decls_of cubes.now) ≡ None) }
-    ensures fault { IfFault result (λ fault. unstorable_in (decls_of cubes.now) ≡ Some fault) }
+    ensures stored { IfOk result (λ schemas. schemas.items ≡ begun_decls cubes.now) }
+    ensures storable { OnOk result (unstorable_in (begun_decls cubes.now) ≡ None) }
+    ensures fault { IfFault result (λ fault. unstorable_in (begun_decls cubes.now) ≡ Some fault) }
 {
     let mut schemas = Vec::new(alloc);
     'cubes: for cube in cubes {

@@ -51,11 +51,11 @@ impl Schema {
     }
 
     /// The shape of the cube, which of its dimensions have texts, and its number of metrics.
-    pub fn cube_shape(&self) -> Result<CubeShape, AllocError>
-        ensures value { IfOk result (λ cube. cube ≡ cube_of self.now) }
-        ensures sound { IfOk result (λ cube. IsSoundCube cube) }
+    pub fn cube_shape(&self) -> &CubeShape
+        ensures value { result.now ≡ cube_of self.now }
+        ensures sound { IsSoundCube result.now }
     {
-        self.cube.clone()
+        &self.cube
     }
 
     /// The same declaration.
@@ -64,7 +64,7 @@ impl Schema {
     {
         Ok(Schema {
             decl: copy_decl(&self.decl)?,
-            cube: self.cube_shape()?,
+            cube: copy_shape(&self.cube)?,
         })
     }
 }
@@ -81,6 +81,12 @@ fn copy_decl(decl: &Decl) -> Result<Decl, AllocError>
     ensures { IfOk result (λ d. d ≡ decl.now) }
 {
     decl.clone()
+}
+
+fn copy_shape(cube: &CubeShape) -> Result<CubeShape, AllocError>
+    ensures { IfOk result (λ c. c ≡ cube.now) }
+{
+    cube.clone()
 }
 
 fn size_of(cardinality: u32, range: u32) -> Size

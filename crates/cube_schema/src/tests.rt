@@ -123,7 +123,7 @@ fn numbered(alloc: Global, front: &str, behind: &str, n: u32) -> Result<String, 
 }
 
 /// The text of the fault of a text in three parts.
-fn fault_in(alloc: Global, a: &str, b: &str, c: &str) -> Result<String, AllocError> {
+fn fault_of_parts(alloc: Global, a: &str, b: &str, c: &str) -> Result<String, AllocError> {
     let text = format!(in alloc; "{a}{b}{c}")?;
     fault_text(alloc, text.as_bytes())
 }
@@ -145,9 +145,9 @@ fn many_columns(rt: HostRuntime) -> Result<(), Fail> {
     let alloc = rt.alloc();
     let dims = numbered(alloc, "dim d", " int 1 1\n", 17)?;
     for (lines, fault) in BESIDE_MANY {
-        let before = fault_in(alloc, "cube t\n", lines, dims.as_str())?;
+        let before = fault_of_parts(alloc, "cube t\n", lines, dims.as_str())?;
         assert_eq!(rt; before.as_str(), fault);
-        let behind = fault_in(alloc, "cube t\n", dims.as_str(), lines)?;
+        let behind = fault_of_parts(alloc, "cube t\n", dims.as_str(), lines)?;
         assert_eq!(rt; behind.as_str(), fault);
     }
     Ok(())
@@ -158,11 +158,11 @@ fn sixteen_columns(rt: HostRuntime) -> Result<(), Fail> {
     let alloc = rt.alloc();
     let dims = numbered(alloc, "dim d", " int 1 1\n", 16)?;
     let metrics = numbered(alloc, "metric m", "\n", 16)?;
-    let none = fault_in(alloc, "cube t\n", dims.as_str(), metrics.as_str())?;
+    let none = fault_of_parts(alloc, "cube t\n", dims.as_str(), metrics.as_str())?;
     assert_eq!(rt; none.as_str(), "");
-    let metric = fault_in(alloc, "cube t\n", metrics.as_str(), "metric n\n")?;
+    let metric = fault_of_parts(alloc, "cube t\n", metrics.as_str(), "metric n\n")?;
     assert_eq!(rt; metric.as_str(), "Schema t TooManyColumns");
-    let no_metric = fault_in(alloc, "cube t\n", dims.as_str(), "dim e int 1 1\n")?;
+    let no_metric = fault_of_parts(alloc, "cube t\n", dims.as_str(), "dim e int 1 1\n")?;
     assert_eq!(rt; no_metric.as_str(), "Schema t TooManyColumns");
     Ok(())
 }
@@ -182,10 +182,10 @@ fn sixteen_cubes(rt: HostRuntime) -> Result<(), Fail> {
     let alloc = rt.alloc();
     let cubes = numbered(alloc, "cube c", "\nmetric m\n", 16)?;
     for (lines, fault) in BEHIND_SIXTEEN {
-        let found = fault_in(alloc, cubes.as_str(), lines, "")?;
+        let found = fault_of_parts(alloc, cubes.as_str(), lines, "")?;
         assert_eq!(rt; found.as_str(), fault);
     }
-    let first = fault_in(alloc, "cube d\n", cubes.as_str(), "")?;
+    let first = fault_of_parts(alloc, "cube d\n", cubes.as_str(), "")?;
     assert_eq!(rt; first.as_str(), "TooManyCubes 32");
     Ok(())
 }
@@ -195,9 +195,9 @@ const LONG_NAME: &str = "abcdefghabcdefghabcdefghabcdefghabcdefghabcdefghabcdefg
 
 #[test]
 fn long_names(rt: HostRuntime) -> Result<(), Fail> {
-    let none = fault_in(rt.alloc(), "cube t\nmetric ", LONG_NAME, "\n")?;
+    let none = fault_of_parts(rt.alloc(), "cube t\nmetric ", LONG_NAME, "\n")?;
     assert_eq!(rt; none.as_str(), "");
-    let longer = fault_in(rt.alloc(), "cube t\nmetric ", LONG_NAME, "n\n")?;
+    let longer = fault_of_parts(rt.alloc(), "cube t\nmetric ", LONG_NAME, "n\n")?;
     assert_eq!(rt; longer.as_str(), "BadLine 2");
     Ok(())
 }
@@ -206,12 +206,12 @@ fn long_names(rt: HostRuntime) -> Result<(), Fail> {
 fn many_names(rt: HostRuntime) -> Result<(), Fail> {
     let alloc = rt.alloc();
     let cubes = numbered(alloc, "cube n", "\n", 2000)?;
-    let too_many = fault_in(alloc, cubes.as_str(), "", "")?;
+    let too_many = fault_of_parts(alloc, cubes.as_str(), "", "")?;
     assert_eq!(rt; too_many.as_str(), "TooManyCubes 17");
-    let twice = fault_in(alloc, cubes.as_str(), "cube n1999\n", "")?;
+    let twice = fault_of_parts(alloc, cubes.as_str(), "cube n1999\n", "")?;
     assert_eq!(rt; twice.as_str(), "DuplicateCube 2001");
     let metrics = numbered(alloc, "metric n", "\n", 2000)?;
-    let metric_twice = fault_in(alloc, "cube t\n", metrics.as_str(), "metric n1999\n")?;
+    let metric_twice = fault_of_parts(alloc, "cube t\n", metrics.as_str(), "metric n1999\n")?;
     assert_eq!(rt; metric_twice.as_str(), "Schema t DuplicateName n1999");
     Ok(())
 }
@@ -219,19 +219,20 @@ fn many_names(rt: HostRuntime) -> Result<(), Fail> {
 #[test]
 fn copies_are_the_same(rt: HostRuntime) -> Result<(), Fail> {
     let alloc = rt.alloc();
-    let text: &[u8; 30] = b"cube t\ndim x int 5 2\nmetric m\n";
+    let text = b"cube t\ndim x int 5 2\ndim y text 9 3\nmetric m\ncube u\nmetric n\nmetric o\n";
     let cubes = read_cubes(alloc, text)
         .ok()
-        .ok_or("the text declares a cube")?;
+        .ok_or("the text declares cubes")?;
     let copied = copy_cubes(alloc, cubes.as_slice())?;
-    let [cube] = copied.as_slice() else {
-        return Err("the text declares one cube".into());
+    let [t, u] = copied.as_slice() else {
+        return Err("the text declares two cubes".into());
     };
-    let [dim] = cube.decl().dims.as_slice() else {
-        return Err("the cube has one dimension".into());
+    assert!(rt; t.decl() == cubes[0].decl() && u.decl() == cubes[1].decl());
+    assert!(rt; t.cube_shape() == cubes[0].cube_shape() && u.cube_shape() == cubes[1].cube_shape());
+    let [_, y] = t.cube_shape().shape.sizes.as_slice() else {
+        return Err("the first cube has two dimensions".into());
     };
-    assert_eq!(rt; dim.name.as_str(), "x");
-    assert!(rt; !dim.text && dim.cardinality == 5 && dim.range == 2);
+    assert!(rt; y.cardinality == 9 && y.range == 3 && u.cube_shape().metrics == 2);
     Ok(())
 }
 
@@ -259,7 +260,7 @@ fn checked_declarations(rt: HostRuntime) -> Result<(), Fail> {
     let decl = sales(alloc, "tax")?;
     let schema = check(alloc, &decl).ok().ok_or("it can be stored")?;
     assert!(rt; *schema.decl() == decl);
-    let cube = schema.cube_shape()?;
+    let cube = schema.cube_shape();
     assert!(rt; cube.shape == *schema.shape());
     assert_eq!(rt; cube.metrics, 1);
     Ok(())

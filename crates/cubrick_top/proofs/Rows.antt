@@ -1,16 +1,15 @@
 -- Rows that fit a cube, and places that fit their type.
-use Rattle.std.proofs.Common.{◌≡◌, ℕ, ◌≤◌, Bool, true, false, cond, ◌||◌, List, [], ◌∷◌, length, Option, Some, None, refl, subst, nat_lt, arith}
+use Rattle.std.proofs.Common.{◌≡◌, ℕ, ◌≤◌, Bool, true, false, cond, List, [], ◌∷◌, length, Some, subst, arith}
 use Rattle.std.specs.Prelude.{All}
 use Rattle.std.specs.List.{AllByRecursion}
 use Rattle.std.specs.Str.{bytes_eq}
 use Rattle.std.proofs.lemmas.Bool.{and_parts}
-use Rattle.std.proofs.lemmas.Bool.Decides.{nat_tests}
 use Rattle.std.proofs.lemmas.List.Elements.{recursion_from_All}
 use Rattle.cube_values.specs.declared.value.Value.{Value}
 use Rattle.cube_language.specs.declared.decl.DimDecl.{DimDecl}
 use Rattle.cube_language.specs.declared.decl.Decl.{Decl}
-use Rattle.cube_language.specs.declared.cubes_fault.SchemaFault.TheVariants.{TooManyColumns}
-use Rattle.cube_language.specs.Cubes.{IsStorable, first_some, duplicate_in, zero_in, large_range_in, many_bricks_in, many_columns_in, no_metric_in}
+use Rattle.cube_language.specs.Cubes.{IsStorable}
+use Rattle.cube_schema.proofs.Sound.{parts_of}
 use Rattle.cubrick_top.specs.Actions.{is_coordinate, fits_row, cube_named}
 
 -- a row that fits has a value for each dimension
@@ -20,26 +19,9 @@ fits_long (dim ∷ dims) metrics [] h = absurd cc
 fits_long (dim ∷ dims) metrics (v ∷ values) h =
     omega (arith, fits_long dims metrics values (and_parts (is_coordinate dim v) (fits_row dims metrics values) h).1)
 
-none_of : {A : Type 0} (first : Option A) (others : List (Option A)) → first_some (first ∷ others) ≡ None → first_some others ≡ None
-none_of None others h = h
-none_of (Some x) others h = absurd cc
-
-is_none : {A : Type 0} (first : Option A) (others : List (Option A)) → first_some (first ∷ others) ≡ None → first ≡ None
-is_none None others h = refl
-is_none (Some x) others h = absurd cc
-
-not_above : (n : ℕ) → nat_lt 16 n ≡ false → n ≤ 16
-not_above n h = grind (arith, nat_tests)
-
-few : (a b : Bool) (n : ℕ) → nat_lt 16 n ≡ b → cond (a || b) (Some TooManyColumns) None ≡ None → n ≤ 16
-few true b n is none = absurd cc
-few false true n is none = absurd cc
-few false false n is none = not_above n is
-
 -- a cube that can be stored has at most sixteen metrics
 pub few_metrics : (d : Decl) → IsStorable d → length d.metrics ≤ 16
-few_metrics d h =
-    few (nat_lt 16 (length d.dims)) (nat_lt 16 (length d.metrics)) (length d.metrics) refl (is_none (many_columns_in d) (no_metric_in d ∷ []) (none_of (many_bricks_in d) _ (none_of (large_range_in d) _ (none_of (zero_in d) _ (none_of (duplicate_in d) _ h)))))
+few_metrics d storable = (parts_of d storable).metrics
 
 named_storable : (cubes : List Decl) (name : List ℕ) (d : Decl) → AllByRecursion IsStorable cubes → cube_named cubes name ≡ Some d → IsStorable d
 named_storable [] name d all is = absurd cc

@@ -13,7 +13,7 @@ use crate::session::run_text;
 use cube_schema::a_text_declares_or_has_one_fault;
 use outside::{Shelf, Sink, put_whole};
 use sql_tree::{a_text_spells_one_statement, a_text_spells_or_has_one_fault};
-use sql_words::a_script_has_one_outcome;
+use sql_words::a_script_has_statements_or_one_fault;
 use std::alloc::Global;
 
 fn status_of(fault: &Option<Fault>) -> u8
@@ -100,7 +100,7 @@ fn finish_files<H: Shelf, K: Sink>(
         (Rose (K.fault_count sink.old) (K.fault_count sink.new) → ⊥) → IsServed result.status }
 {
     a_text_declares_or_has_one_fault();
-    a_script_has_one_outcome();
+    a_script_has_statements_or_one_fault();
     a_text_spells_one_statement();
     a_text_spells_or_has_one_fault();
     finish(run_files(alloc, cubes, script, shelf, sink))

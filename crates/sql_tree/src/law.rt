@@ -2,13 +2,13 @@
 
 ghost use Rattle.sql_tree.specs.Laws.{OneFault, OneStatement, PrintedSpells, StatementOrFault};
 
-use sql_words::{a_text_has_one_list_of_tokens, a_text_has_tokens_or_one_fault};
+use sql_words::a_text_has_tokens_or_one_fault;
 
 /// A text spells one statement at most.
 pub fn a_text_spells_one_statement()
     ensures { OneStatement }
 {
-    a_text_has_one_list_of_tokens();
+    a_text_has_tokens_or_one_fault();
 }
 
 /// A text spells a statement or has a fault, at one place, and not both.
@@ -16,7 +16,6 @@ pub fn a_text_spells_or_has_one_fault()
     ensures either { StatementOrFault }
     ensures one { OneFault }
 {
-    a_text_has_one_list_of_tokens();
     a_text_has_tokens_or_one_fault();
 }
 

@@ -9,6 +9,8 @@ pub mod OpenTexts
 pub mod TokensLeft
 pub mod OneFront
 pub mod TokensAreOne
+pub mod TokensExist
 pub mod TokensStand
 pub mod ScriptsAreOne
+pub mod ScriptsExist
 pub mod PieceTexts

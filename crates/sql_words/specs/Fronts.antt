@@ -1,12 +1,16 @@
 -- What stands at the front of bytes, and how far it reaches.
-use Rattle.std.specs.Prelude.{◌≡◌, ℕ, ◌+◌, ◌<◌, ◌≤◌, min, Bool, false, not, ◌||◌, ◌&&◌, ◌==◌, List, [], ◌∷◌, length, take, drop, IsTrue, if◌then◌else◌}
+use Rattle.std.specs.Prelude.{◌≡◌, ℕ, ◌+◌, ◌<◌, ◌≤◌, min, Bool, false, not, ◌||◌, ◌&&◌, ◌==◌, List, [], ◌∷◌, length, take, drop, ℤ, FitsSigned, IsTrue, if◌then◌else◌}
 use Rattle.std.specs.Char.{is_ascii_digit}
+use Rattle.std.specs.Int.{w64}
 use Rattle.std.specs.List.{list_all, prefix_len}
+use Rattle.std.specs.Str.Parse.{signed_digits_value}
 use Rattle.cube_language.specs.Names.{begins_name}
+use Rattle.cube_language.specs.declared.token.TokenFault.TheVariants.{NumberTooWide}
 use Rattle.cube_language.specs.declared.token.TokenKind.{TokenKind}
 use Rattle.cube_language.specs.Parts.{Part, is_space, is_no_quote, stays_on_line, is_blank, AreParts}
 use Rattle.cube_language.specs.Pieces.{is_end}
-use Rattle.cube_language.specs.Tokens.{IsToken, is_mark}
+use Rattle.cube_language.specs.Quotes.{opened}
+use Rattle.cube_language.specs.Tokens.{IsFault, IsToken, is_mark}
 
 -- Two dashes begin a comment.
 abbrev pub begins_comment : List ℕ → Bool
@@ -28,7 +32,9 @@ quoted_len bytes = min (prefix_len is_no_quote bytes + 1) (length bytes)
 abbrev pub part_len : List ℕ → ℕ
 part_len [] = 0
 part_len (byte ∷ bytes) =
-    if byte == 39 then 1 + quoted_len bytes else (if begins_comment (byte ∷ bytes) then prefix_len stays_on_line (byte ∷ bytes) else 1)
+    if byte == 39
+    then 1 + quoted_len bytes
+    else (if begins_comment (byte ∷ bytes) then prefix_len stays_on_line (byte ∷ bytes) else 1)
 
 -- The bytes are white space and comments, and then the rest, which begins with neither.
 pub record IsBehindGap (bytes rest : List ℕ) : Type 0 where
@@ -79,10 +85,23 @@ abbrev pub letter_len : List ℕ → ℕ
 letter_len [] = 0
 letter_len (byte ∷ bytes) = if byte == 39 then (if begins_text bytes then 2 else 0) else 1
 
+-- The bytes are a text behind its first quote, which does not end.
+abbrev pub IsOpened : List ℕ → Type 0
+IsOpened bytes = (text : List ℕ) × (bytes ≡ opened text)
+
 -- How many bytes the number at the front has.
 abbrev pub number_len : List ℕ → ℕ
 number_len [] = 0
-number_len (byte ∷ bytes) = if byte == 45 then 1 + prefix_len is_ascii_digit bytes else prefix_len is_ascii_digit (byte ∷ bytes)
+number_len (byte ∷ bytes) =
+    if byte == 45 then 1 + prefix_len is_ascii_digit bytes else prefix_len is_ascii_digit (byte ∷ bytes)
+
+-- A number has this value, of 64 bits.
+abbrev pub HasValue : List ℕ → ℤ → Type 0
+HasValue number n = (signed_digits_value 10 number ≡ n) × FitsSigned w64 n
+
+-- A number that does not fit 64 bits begins here, wherever this is.
+abbrev pub BeginsWideNumber : List ℕ → Type 0
+BeginsWideNumber bytes = IsFault bytes (NumberTooWide 0)
 
 -- A token of this kind stands at the front, and has so many bytes.
 pub record IsFront (bytes : List ℕ) (kind : TokenKind) (n : ℕ) : Type 0 where

@@ -1,17 +1,14 @@
 //! What holds of every text and its tokens, and of every script and its statements.
 
-ghost use Rattle.sql_words.specs.Laws.{OneListOfPieces, OneListOfTokens, OneScriptFault, OneTokenFault, PiecesOrFault, TokensCut, TokensOrFault, TokensStand};
+ghost use Rattle.sql_words.specs.Laws.{TextsHaveTokensOrFault, TextsHaveOneListOfTokens, TextsOfTokensHaveNoFault, TextsHaveOneTokenFault, TokensStand, TokensCut};
+ghost use Rattle.sql_words.specs.Laws.{ScriptsHavePiecesOrFault, ScriptsHaveOneListOfPieces, ScriptsOfPiecesHaveNoFault, ScriptsHaveOneFault};
 
-/// A text has one list of tokens at most.
-#[tactic(auto, using(crate::proofs::TokensAreOne::tokens_are_one))]
-pub fn a_text_has_one_list_of_tokens()
-    ensures { OneListOfTokens }
-{}
-
-/// A text has tokens or one fault among them, and not both.
+/// A text either has one list of tokens, or one fault among them.
 pub fn a_text_has_tokens_or_one_fault()
-    ensures tokens { TokensOrFault }
-    ensures fault { OneTokenFault }
+    ensures either { TextsHaveTokensOrFault }
+    ensures one_list { TextsHaveOneListOfTokens }
+    ensures no_fault { TextsOfTokensHaveNoFault }
+    ensures one_fault { TextsHaveOneTokenFault }
 {}
 
 /// Each token of a text is made of bytes of the text, and stands behind the one before.
@@ -25,9 +22,10 @@ pub fn a_text_may_be_cut_at_its_tokens()
     ensures { TokensCut }
 {}
 
-/// A script has one list of statements or one fault, and not both.
-pub fn a_script_has_one_outcome()
-    ensures pieces { OneListOfPieces }
-    ensures either { PiecesOrFault }
-    ensures fault { OneScriptFault }
+/// A script either has one list of statements, or one fault.
+pub fn a_script_has_statements_or_one_fault()
+    ensures either { ScriptsHavePiecesOrFault }
+    ensures one_list { ScriptsHaveOneListOfPieces }
+    ensures no_fault { ScriptsOfPiecesHaveNoFault }
+    ensures one_fault { ScriptsHaveOneFault }
 {}

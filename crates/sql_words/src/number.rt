@@ -1,15 +1,15 @@
 //! Numbers: digits, perhaps directly behind a minus sign.
 
-ghost use Rattle.std.specs.Prelude.{◌≡◌, ℕ, true, List, ◌++◌, IsTrue, IfSome, IfNone, IsUtf8, FitsSigned};
+ghost use Rattle.std.specs.Prelude.{◌≡◌, true, IsTrue, IfSome, IfNone, FitsSigned};
 ghost use Rattle.std.specs.Char.{is_ascii_digit};
 ghost use Rattle.std.specs.Int.{w64};
 ghost use Rattle.std.specs.List.{prefix_len};
 ghost use Rattle.std.specs.Str.Parse.{signed_digits_value};
 ghost use Rattle.cube_language.specs.declared.token.TokenKind.TheVariants as kind;
-ghost use Rattle.cube_language.specs.Tokens.{is_number, IsNumberBefore};
-ghost use Rattle.sql_words.specs.Fronts.{first_passes, begins_number, number_len, IsFront};
+ghost use Rattle.cube_language.specs.Tokens.{is_number};
+ghost use Rattle.sql_words.specs.Fronts.{first_passes, begins_number, number_len, BeginsWideNumber, HasValue, IsFront};
 
-use std::str;
+use cube_language::text_of;
 
 fn begins_digits(bytes: &[u8]) -> bool
     ensures { result ≡ first_passes is_ascii_digit bytes.now }
@@ -62,19 +62,11 @@ fn number_len(bytes: &[u8]) -> usize
     }
 }
 
-/// Bytes in UTF-8 as text.
-fn text_of(bytes: &[u8]) -> &str
-    requires { IsUtf8 bytes.now }
-    ensures { result.now ≡ bytes.now }
-{
-    str::from_utf8(bytes).unwrap()
-}
-
 /// The value of a number, or None where it is not one of 64 bits.
 #[tactic(auto, using(crate::proofs::Numbers::number_is_text, crate::proofs::Numbers::number_is_numeral))]
 fn value_of(number: &[u8]) -> Option<i64>
     requires { IsTrue (is_number number.now) }
-    ensures some { IfSome result (λ n. (signed_digits_value 10 number.now ≡ n) × FitsSigned w64 n) }
+    ensures some { IfSome result (HasValue number.now) }
     ensures none { IfNone result (FitsSigned w64 (signed_digits_value 10 number.now) → ⊥) }
 {
     text_of(number).parse::<i64>().ok()
@@ -85,7 +77,7 @@ fn value_of(number: &[u8]) -> Option<i64>
 pub(crate) fn number_first(bytes: &[u8]) -> Option<(i64, usize)>
     requires { begins_number bytes.now ≡ true }
     ensures some { IfSome result (λ number. IsFront bytes.now (kind.Number number.0) number.1) }
-    ensures none { IfNone result ((number rest : List ℕ) × (bytes.now ≡ number ++ rest) × IsNumberBefore number rest × (FitsSigned w64 (signed_digits_value 10 number) → ⊥)) }
+    ensures none { IfNone result (BeginsWideNumber bytes.now) }
 {
     let len = number_len(bytes);
     let (number, _) = bytes.split_at(len);

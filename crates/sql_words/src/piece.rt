@@ -1,12 +1,11 @@
 //! The statements of a script, by their places.
 
-ghost use Rattle.std.specs.Prelude.{◌≡◌, ◌<◌, ◌≤◌, List, drop, length, IfOk, IfSome, IfNone, IsUtf8, All};
+ghost use Rattle.std.specs.Prelude.{◌≡◌, ◌≤◌, drop, length, IfOk, IfSome, IfNone, IsUtf8};
 ghost use Rattle.std.specs.List.{position_from};
-ghost use Rattle.cube_language.specs.declared.piece.Piece.{Piece};
 ghost use Rattle.cube_values.specs.Faults.{IfFault};
-ghost use Rattle.cube_language.specs.Pieces.{Splits, IsScript, HasScriptFault, is_long, statements_limit};
+ghost use Rattle.cube_language.specs.Pieces.{IsScript, HasScriptFault, is_long};
 ghost use Rattle.sql_words.specs.Fronts.{goes_on, IsBehindBody};
-ghost use Rattle.sql_words.specs.Texts.{IsTextAt, piece_bytes};
+ghost use Rattle.sql_words.specs.Texts.{AreTextsAt, IsTextAt, SplitsInFew, SplitsInMany, piece_bytes};
 
 use crate::part::{behind_gap, part_len};
 use cube_language::{Piece, Pieces, ScriptFault};
@@ -57,9 +56,9 @@ fn behind_end(bytes: &[u8]) -> &[u8]
 /// The statements of a script by their places, or None where there are more than 65,536.
 fn pieces_of(alloc: Global, script: &[u8]) -> Result<Option<Pieces>, AllocError>
     requires { IsUtf8 script.now }
-    ensures some { IfOk result (λ found. IfSome found (λ pieces. Splits script.now pieces × (length pieces ≤ statements_limit))) }
-    ensures texts { IfOk result (λ found. IfSome found (λ pieces. All (IsTextAt script.now) pieces)) }
-    ensures none { IfOk result (λ found. IfNone found ((pieces : List Piece) × Splits script.now pieces × (statements_limit < length pieces))) }
+    ensures some { IfOk result (λ found. IfSome found (λ pieces. SplitsInFew script.now pieces)) }
+    ensures texts { IfOk result (λ found. IfSome found (λ pieces. AreTextsAt script.now pieces)) }
+    ensures none { IfOk result (λ found. IfNone found (SplitsInMany script.now)) }
 {
     let mut pieces = Pieces::new(alloc);
     let mut rest = script;
@@ -106,7 +105,7 @@ fn first_long(pieces: &[Piece]) -> Option<u64>
 /// which no more than 65,536 are kept.
 pub fn split(alloc: Global, script: &[u8]) -> Result<Pieces, CallError<ScriptFault>>
     ensures found { IfOk result (λ pieces. IsScript script.now pieces) }
-    ensures texts { IfOk result (λ pieces. All (IsTextAt script.now) pieces) }
+    ensures texts { IfOk result (λ pieces. AreTextsAt script.now pieces) }
     ensures fault { IfFault result (λ fault. HasScriptFault script.now fault) }
 {
     if let Err(fault) = str::from_utf8(script) {

@@ -1,9 +1,8 @@
 //! Texts in quotes.
 
-ghost use Rattle.std.specs.Prelude.{◌≡◌, ℕ, true, List, IfSome, IfNone};
+ghost use Rattle.std.specs.Prelude.{◌≡◌, true, IfSome, IfNone};
 ghost use Rattle.cube_language.specs.declared.token.TokenKind.TheVariants as kind;
-ghost use Rattle.cube_language.specs.Quotes.{opened};
-ghost use Rattle.sql_words.specs.Fronts.{begins_text, letter_len, IsFront};
+ghost use Rattle.sql_words.specs.Fronts.{begins_text, letter_len, IsFront, IsOpened};
 
 /// Whether a text in quotes begins here.
 pub(crate) fn begins_text(bytes: &[u8]) -> bool
@@ -38,7 +37,7 @@ fn letter_len(bytes: &[u8]) -> usize
 pub(crate) fn text_len(bytes: &[u8]) -> Option<usize>
     requires { begins_text bytes.now ≡ true }
     ensures some { IfSome result (λ n. IsFront bytes.now kind.Text n) }
-    ensures none { IfNone result ((text : List ℕ) × (bytes.now ≡ opened text)) }
+    ensures none { IfNone result (IsOpened bytes.now) }
 {
     let (_, mut rest) = bytes.split_at(1);
     'text: while !rest.is_empty() {

@@ -1,10 +1,9 @@
 //! Texts with their tokens and scripts with their statements, worked out by hand.
 
-ghost use Rattle.std.specs.Prelude.{All};
-ghost use Rattle.sql_words.specs.Texts.{IsTextAt};
+ghost use Rattle.sql_words.specs.Texts.{AreTextsAt};
 
 use crate::{
-    a_script_has_one_outcome, a_text_has_one_list_of_tokens, a_text_has_tokens_or_one_fault,
+    a_script_has_statements_or_one_fault, a_text_has_tokens_or_one_fault,
     a_text_may_be_cut_at_its_tokens, a_token_has_its_bytes, piece_text, split, token_text, tokens,
 };
 use cube_language::{Piece, TokenKind};
@@ -56,7 +55,6 @@ fn pieces_shown(alloc: Global, script: &[u8]) -> Result<String, AllocError> {
 
 #[test]
 fn texts_have_their_tokens(rt: HostRuntime) -> Result<(), Fail> {
-    a_text_has_one_list_of_tokens();
     a_text_has_tokens_or_one_fault();
     let table = [
         ("SELECT x", "word 0..6 word 7..8 "),
@@ -163,7 +161,7 @@ fn tokens_give_their_text(rt: HostRuntime) -> Result<(), Fail> {
 
 #[test]
 fn scripts_have_their_statements(rt: HostRuntime) -> Result<(), Fail> {
-    a_script_has_one_outcome();
+    a_script_has_statements_or_one_fault();
     let table: [(&[u8], &str); 35] = [
         (b"", ""),
         (b" \t\r\n", ""),
@@ -213,7 +211,7 @@ fn scripts_have_their_statements(rt: HostRuntime) -> Result<(), Fail> {
 
 /// The texts of statements, each in brackets.
 fn texts_shown(alloc: Global, script: &[u8], pieces: &[Piece]) -> Result<String, AllocError>
-    requires { All (IsTextAt script.now) pieces.now }
+    requires { AreTextsAt script.now pieces.now }
 {
     let mut shown = String::new(alloc);
     for piece in pieces {

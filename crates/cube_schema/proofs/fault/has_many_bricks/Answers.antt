@@ -1,7 +1,6 @@
 use Rattle.std.proofs.Common.{◌^◌, ap, sym, ◌∙◌}
 use Rattle.cube_values.specs.Shapes.{ranges_of}
-use Rattle.cube_language.specs.Cubes.{has_zero}
-use Rattle.cube_schema.specs.Dimensions.{size_of}
+use Rattle.cube_language.specs.Cubes.{has_zero, size_of}
 use Rattle.cube_schema.proofs.Bricks.{none_found_at, too_many}
 use Rattle.cube_schema.proofs.fault.has_many_bricks.Goals as goal
 

@@ -1,6 +1,6 @@
 use Rattle.std.proofs.Common.{◌≡◌, ◌*◌, ◌≤◌, ◌^◌, drop}
 use Rattle.cube_values.specs.Shapes.{bricks_of}
-use Rattle.cube_schema.specs.Dimensions.{sizes_of}
+use Rattle.cube_language.specs.Cubes.{sizes_of}
 use Rattle.cube_schema.proofs.fault.has_many_bricks.Given as goal
 
 abbrev pub invariant-dims : goal.invariant-dims

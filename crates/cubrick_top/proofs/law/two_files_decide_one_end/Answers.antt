@@ -7,9 +7,9 @@ returns c =
     let one : TextsHaveOneOutcome = record {
       cubes = c.a_text_declares_or_has_one_fault.ensures.one_list;
       no_cubes_fault = c.a_text_declares_or_has_one_fault.ensures.no_fault;
-      script = c.a_script_has_one_outcome.ensures.pieces;
-      no_script_fault = c.a_script_has_one_outcome.ensures.either;
+      script = c.a_script_has_statements_or_one_fault.ensures.one_list;
+      no_script_fault = c.a_script_has_statements_or_one_fault.ensures.no_fault;
       statement = c.a_text_spells_one_statement.ensures;
       no_syntax_fault = c.a_text_spells_or_has_one_fault.ensures.either;
     } in
-    one_end one c.a_text_declares_or_has_one_fault.ensures.one_fault c.a_script_has_one_outcome.ensures.fault
+    one_end one c.a_text_declares_or_has_one_fault.ensures.one_fault c.a_script_has_statements_or_one_fault.ensures.one_fault

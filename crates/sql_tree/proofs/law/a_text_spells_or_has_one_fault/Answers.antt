@@ -6,8 +6,8 @@ use Rattle.sql_tree.proofs.law.a_text_spells_or_has_one_fault.Goals as goal
 pub returns-clause-either : goal.returns-clause-either
 returns-clause-either c = λ text s at x fault.
     elim fault [
-      | inl among ↦ c.a_text_has_tokens_or_one_fault.ensures.tokens text x.0 among.0 x.1 among.1
-      | inr wrong ↦ spells_none text s at (c.a_text_has_one_list_of_tokens.ensures text) x wrong
+      | inl among ↦ c.a_text_has_tokens_or_one_fault.ensures.no_fault text x.0 among.0 x.1 among.1
+      | inr wrong ↦ spells_none text s at (c.a_text_has_tokens_or_one_fault.ensures.one_list text) x wrong
     ]
 
 pub returns-clause-one : goal.returns-clause-one
@@ -15,12 +15,12 @@ returns-clause-one c = λ text a b one other.
     elim one [
       | inl x ↦
           elim other [
-            | inl y ↦ x.2 ∙ ap fault_at (c.a_text_has_tokens_or_one_fault.ensures.fault text x.0 y.0 x.1 y.1) ∙ sym y.2
-            | inr y ↦ absurd (c.a_text_has_tokens_or_one_fault.ensures.tokens text _ x.0 y.tokens x.1)
+            | inl y ↦ x.2 ∙ ap fault_at (c.a_text_has_tokens_or_one_fault.ensures.one_fault text x.0 y.0 x.1 y.1) ∙ sym y.2
+            | inr y ↦ absurd (c.a_text_has_tokens_or_one_fault.ensures.no_fault text _ x.0 y.tokens x.1)
           ]
       | inr x ↦
           elim other [
-            | inl y ↦ absurd (c.a_text_has_tokens_or_one_fault.ensures.tokens text _ y.0 x.tokens y.1)
-            | inr y ↦ one_place text a b (c.a_text_has_one_list_of_tokens.ensures text) x y
+            | inl y ↦ absurd (c.a_text_has_tokens_or_one_fault.ensures.no_fault text _ y.0 x.tokens y.1)
+            | inr y ↦ one_place text a b (c.a_text_has_tokens_or_one_fault.ensures.one_list text) x y
           ]
     ]
