@@ -12,8 +12,8 @@ use Rattle.cube_language.specs.declared.statement.Item.{Item}
 use Rattle.cube_language.specs.declared.statement.Item.TheVariants.{Plain, Sum, Min, Max, Avg, CountAll}
 use Rattle.cube_language.specs.declared.statement.Statement.{Statement}
 use Rattle.cube_language.specs.declared.statement.Statement.TheVariants.{Select, Insert, Load, Delete, Begin, Commit, Rollback, Flush, Purge, ShowEpochs}
-use Rattle.cube_language.specs.declared.token.Keyword.{Keyword as KeywordWord}
-use Rattle.cube_language.specs.declared.token.Keyword.TheVariants as keyword
+use Rattle.cube_language.specs.declared.keyword.Keyword.{Keyword as KeywordWord}
+use Rattle.cube_language.specs.declared.keyword.Keyword.TheVariants as keyword
 use Rattle.cube_language.specs.declared.token.Token.{Token}
 use Rattle.cube_language.specs.Symbols.{Symbol, Keyword, Word, Number, Text, Open, Close, Comma, Equals, Star, symbols_of}
 use Rattle.cube_language.specs.Tokens.{AreTokens}

@@ -4,11 +4,12 @@ use Rattle.std.specs.Prelude.{ℕ, Bool, true, false, List, [], ◌∷◌, ◌++
 use Rattle.std.specs.Char.{to_ascii_uppercase}
 use Rattle.std.specs.Fmt.{signed_decimal}
 use Rattle.cube_language.specs.declared.statement.Statement.{Statement}
-use Rattle.cube_language.specs.declared.token.Keyword.{Keyword as KeywordWord}
-use Rattle.cube_language.specs.declared.token.Keyword.TheVariants as keyword
+use Rattle.cube_language.specs.declared.keyword.Keyword.{Keyword as KeywordWord}
+use Rattle.cube_language.specs.declared.keyword.Keyword.TheVariants as keyword
 use Rattle.cube_language.specs.Grammar.{form_of}
 use Rattle.cube_language.specs.Quotes.{quoted}
-use Rattle.cube_language.specs.Symbols.{Symbol, Keyword, Word, Number, Text, Open, Close, Comma, Equals, Star, keyword_text}
+use Rattle.cube_language.specs.Keywords.{keyword_text}
+use Rattle.cube_language.specs.Symbols.{Symbol, Keyword, Word, Number, Text, Open, Close, Comma, Equals, Star}
 
 -- A keyword in capitals, a text in quotes, a number without leading zeros.
 abbrev pub symbol_text : Symbol → List ℕ

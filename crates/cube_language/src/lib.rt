@@ -4,6 +4,7 @@
 
 mod cubes_fault;
 mod decl;
+mod keyword;
 mod name;
 mod piece;
 mod put;
@@ -14,10 +15,11 @@ mod utf8;
 
 pub use cubes_fault::{CubesFault, SchemaFault};
 pub use decl::{Decl, DimDecl, DimDecls, Names};
-pub use name::{NAME_BYTES, begins_name, continues_name, is_keyword, is_name, is_word, spells};
+pub use keyword::{KEYWORDS, Keyword, is_keyword, keyword_of, keyword_text, spells};
+pub use name::{NAME_BYTES, begins_name, continues_name, is_name, is_word};
 pub use piece::{Piece, Pieces, ScriptFault};
 pub use put::{put_i64, put_i128, put_quoted, put_u64, put_u128};
 pub use statement::{Cond, Conds, Item, Items, Statement, Tuples};
 pub use syntax::Syntax;
-pub use token::{Keyword, Token, TokenFault, TokenKind, Tokens};
+pub use token::{Token, TokenFault, TokenKind, Tokens};
 pub use utf8::text_of;

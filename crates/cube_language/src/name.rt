@@ -1,19 +1,13 @@
-//! Names of cubes and columns, and the keywords, which are no names.
+//! Names of cubes and columns.
 
-ghost use Rattle.std.specs.Prelude.{◌≡◌, map};
-ghost use Rattle.std.specs.List.{list_all, list_any};
-ghost use Rattle.cube_language.specs.Names.{begins_name, continues_name, is_word, is_name, is_keyword, spells};
+ghost use Rattle.std.specs.Prelude.{◌≡◌};
+ghost use Rattle.std.specs.List.{list_all};
+ghost use Rattle.cube_language.specs.Names.{begins_name, continues_name, is_word, is_name};
+
+use crate::keyword::is_keyword;
 
 /// The longest name, in bytes.
 pub const NAME_BYTES: usize = 64;
-
-/// The keywords in lower case. Those from `create` on are reserved.
-const KEYWORDS: [&str; 38] = [
-    "select", "from", "where", "and", "in", "between", "group", "by", "sum", "count", "min", "max",
-    "avg", "insert", "into", "values", "load", "reject", "delete", "begin", "commit", "rollback",
-    "flush", "purge", "show", "epochs", "create", "cube", "dim", "metric", "text", "int", "having",
-    "order", "limit", "asc", "desc", "watch",
-];
 
 /// Whether a name may begin with the byte: a letter of ASCII or `_`.
 pub fn begins_name(byte: u8) -> bool
@@ -43,45 +37,6 @@ pub fn is_word(bytes: &[u8]) -> bool
         [] => false,
         [first, rest @ ..] => begins_name(*first) && all_continue(rest),
     }
-}
-
-/// Whether the bytes spell a keyword, given in lower case, in whatever case.
-pub fn spells(keyword: &[u8], bytes: &[u8]) -> bool
-    ensures { result ≡ spells keyword.now bytes.now }
-{
-    let mut keyword_left = keyword;
-    let mut bytes_left = bytes;
-    'bytes: while let [byte, bytes_rest @ ..] = bytes_left {
-        let [wanted, keyword_rest @ ..] = keyword_left else {
-            return false;
-        };
-        if byte.to_ascii_lowercase() != *wanted {
-            return false;
-        }
-        keyword_left = keyword_rest;
-        bytes_left = bytes_rest;
-    }
-    keyword_left.is_empty()
-}
-
-fn spells_one_of(keywords: &[&str], bytes: &[u8]) -> bool
-    ensures { result ≡ list_any (λ keyword. spells keyword bytes.now) (map (λ k. k.now) keywords.now) }
-{
-    let mut left = keywords;
-    'keywords: while let [keyword, rest @ ..] = left {
-        if spells(keyword.as_bytes(), bytes) {
-            return true;
-        }
-        left = rest;
-    }
-    false
-}
-
-/// Whether the bytes are a keyword in whatever case.
-pub fn is_keyword(bytes: &[u8]) -> bool
-    ensures { result ≡ is_keyword bytes.now }
-{
-    spells_one_of(&KEYWORDS, bytes)
 }
 
 /// Whether the bytes are a name: a word of at most 64 bytes that is no keyword.

@@ -3,37 +3,6 @@
 use cube_values::Sequence;
 use thiserror::Error;
 
-/// A word that statements are made with.
-#[derive(Clone, Copy, Debug, PartialEq, Eq)]
-pub enum Keyword {
-    Select,
-    From,
-    Where,
-    And,
-    In,
-    Between,
-    Group,
-    By,
-    Sum,
-    Count,
-    Min,
-    Max,
-    Avg,
-    Insert,
-    Into,
-    Values,
-    Load,
-    Reject,
-    Delete,
-    Begin,
-    Commit,
-    Rollback,
-    Flush,
-    Purge,
-    Show,
-    Epochs,
-}
-
 /// What a token is.
 #[derive(Clone, Copy, Debug, PartialEq, Eq)]
 pub enum TokenKind {

@@ -10,7 +10,7 @@ use Rattle.cube_language.specs.declared.statement.Cond.{Cond}
 use Rattle.cube_language.specs.declared.statement.Cond.TheVariants as cond
 use Rattle.cube_language.specs.declared.statement.Item.{Item}
 use Rattle.cube_language.specs.declared.statement.Item.TheVariants as item
-use Rattle.cube_language.specs.declared.token.Keyword.TheVariants as keyword
+use Rattle.cube_language.specs.declared.keyword.Keyword.TheVariants as keyword
 use Rattle.cube_language.specs.Grammar.{separated, name_form, value_form, tuple_form, item_form, cond_form, where_form, group_form, IsProperValue, IsProperTuple, IsProperItem, IsProperCond}
 use Rattle.cube_language.specs.Symbols.{Symbol, Keyword, Word, Open, Close, Comma, Equals, Star}
 use Rattle.sql_tree.specs.declared.head.Sign.{Sign}

@@ -12,7 +12,7 @@ use Rattle.cube_language.specs.declared.statement.Item.{Item}
 use Rattle.cube_language.specs.declared.statement.Item.TheVariants as item
 use Rattle.cube_language.specs.declared.statement.Statement.{Statement}
 use Rattle.cube_language.specs.declared.statement.Statement.TheVariants as statement
-use Rattle.cube_language.specs.declared.token.Keyword.TheVariants as keyword
+use Rattle.cube_language.specs.declared.keyword.Keyword.TheVariants as keyword
 use Rattle.cube_language.specs.Grammar.{separated, name_form, value_form, tuple_form, item_form, cond_form, where_form, group_form, form_of, IsProperValue, IsProperTuple, IsProperItem, IsProperCond, IsProper, Spells, IsSpelled}
 use Rattle.cube_language.specs.Printed.{printed}
 use Rattle.cube_language.specs.Symbols.{Symbol, Keyword, Word, Close, Comma}

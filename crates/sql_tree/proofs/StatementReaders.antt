@@ -7,7 +7,7 @@ use Rattle.cube_language.specs.declared.statement.Cond.{Cond}
 use Rattle.cube_language.specs.declared.statement.Item.{Item}
 use Rattle.cube_language.specs.declared.statement.Statement.{Statement}
 use Rattle.cube_language.specs.declared.statement.Statement.TheVariants as statement
-use Rattle.cube_language.specs.declared.token.Keyword.TheVariants as keyword
+use Rattle.cube_language.specs.declared.keyword.Keyword.TheVariants as keyword
 use Rattle.cube_language.specs.Grammar.{separated, tuple_form, item_form, where_form, group_form, form_of, IsProperTuple, IsProperItem, IsProper}
 use Rattle.cube_language.specs.Symbols.{Symbol, Keyword, Word, Number, Text, Comma}
 use Rattle.sql_tree.specs.declared.head.Sign.TheVariants as sign

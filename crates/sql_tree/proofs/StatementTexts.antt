@@ -6,7 +6,7 @@ use Rattle.cube_language.specs.declared.statement.Cond.{Cond}
 use Rattle.cube_language.specs.declared.statement.Item.{Item}
 use Rattle.cube_language.specs.declared.statement.Item.TheVariants as item
 use Rattle.cube_language.specs.declared.statement.Statement.TheVariants as statement
-use Rattle.cube_language.specs.declared.token.Keyword.TheVariants as keyword
+use Rattle.cube_language.specs.declared.keyword.Keyword.TheVariants as keyword
 use Rattle.cube_language.specs.Grammar.{separated, tuple_form, item_form, where_form, group_form}
 use Rattle.cube_language.specs.Printed.{spaced, printed}
 use Rattle.cube_language.specs.Quotes.{quoted}

@@ -7,8 +7,8 @@ use Rattle.std.proofs.lemmas.Bool.{ltb-true, lt-ltb}
 use Rattle.cube_values.specs.declared.value.Value.{Value}
 use Rattle.cube_values.specs.declared.value.Value.TheVariants as value
 use Rattle.cube_language.specs.Names.{is_name}
-use Rattle.cube_language.specs.declared.token.Keyword.{Keyword as KeywordWord}
-use Rattle.cube_language.specs.declared.token.Keyword.TheVariants as keyword
+use Rattle.cube_language.specs.declared.keyword.Keyword.{Keyword as KeywordWord}
+use Rattle.cube_language.specs.declared.keyword.Keyword.TheVariants as keyword
 use Rattle.cube_language.specs.Grammar.{name_form, value_form, IsProperValue}
 use Rattle.cube_language.specs.Symbols.{Symbol, Keyword, Word, Number, Text, Equals}
 use Rattle.sql_tree.specs.declared.head.Sign.{Sign}

@@ -12,8 +12,8 @@ use Rattle.std.proofs.lemmas.Fmt.{digits_decimal, digits_value-decimal, decimal_
 use Rattle.std.proofs.lemmas.List.{length-append, take_at}
 use Rattle.std.proofs.lemmas.Str.Parse.{IsNumeralModel, numerals_by_value, tells_all_ascii_digits}
 use Rattle.cube_language.specs.Names.{continues_name, is_word}
-use Rattle.cube_language.specs.declared.token.Keyword.{Keyword as KeywordWord}
-use Rattle.cube_language.specs.declared.token.Keyword.TheVariants as keyword
+use Rattle.cube_language.specs.declared.keyword.Keyword.{Keyword as KeywordWord}
+use Rattle.cube_language.specs.declared.keyword.Keyword.TheVariants as keyword
 use Rattle.cube_language.specs.declared.token.TokenKind.{TokenKind}
 use Rattle.cube_language.specs.declared.token.TokenKind.TheVariants as kind
 use Rattle.cube_language.specs.Parts.{Stops}

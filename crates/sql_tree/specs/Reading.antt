@@ -14,8 +14,8 @@ use Rattle.cube_language.specs.declared.statement.Item.{Item}
 use Rattle.cube_language.specs.declared.statement.Item.TheVariants as item
 use Rattle.cube_language.specs.declared.statement.Statement.{Statement}
 use Rattle.cube_language.specs.declared.statement.Statement.TheVariants as statement
-use Rattle.cube_language.specs.declared.token.Keyword.{Keyword as KeywordWord}
-use Rattle.cube_language.specs.declared.token.Keyword.TheVariants as keyword
+use Rattle.cube_language.specs.declared.keyword.Keyword.{Keyword as KeywordWord}
+use Rattle.cube_language.specs.declared.keyword.Keyword.TheVariants as keyword
 use Rattle.cube_language.specs.Symbols.{Symbol, Keyword, Word, Number, Text, Open, Close, Comma, Equals, Star, keyword_text}
 use Rattle.sql_tree.specs.declared.head.Sign.{Sign}
 use Rattle.sql_tree.specs.declared.head.Sign.TheVariants as sign
