@@ -14,6 +14,7 @@ pub use Rattle.cube_values.specs.First
 pub use Rattle.cube_values.specs.Faults
 pub use Rattle.cube_values.specs.Batches
 pub use Rattle.cube_values.specs.Rooms
+pub use Rattle.cube_language.specs.Keywords
 pub use Rattle.cube_language.specs.Names
 pub use Rattle.cube_language.specs.Cubes
 pub use Rattle.cube_language.specs.CubesText
@@ -29,4 +30,9 @@ pub use Rattle.cube_journal.specs.Entries
 pub use Rattle.cube_journal.specs.Counters
 pub use Rattle.cube_journal.specs.Legal
 pub use Rattle.cube_journal.specs.Order
+pub use Rattle.cube_language.specs.StatementParts
+pub use Rattle.cube_language.specs.SameItems
+pub use Rattle.cube_language.specs.ColumnUses
+pub use Rattle.cube_language.specs.RowFaults
+pub use Rattle.cube_language.specs.Misfits
 pub use Rattle.cube_journal.specs.Replies

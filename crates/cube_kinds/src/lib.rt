@@ -2,20 +2,111 @@
 //! language of declarations and statements, and replies.
 #![tactic(auto)]
 
-pub use cube_journal::{
-    AbortCause, Counters, JournalEntry, LostCause, Note, OpenSnapshot, Refusal, Reply,
-    legal_journals_are_in_order, one_more_entry,
-};
-pub use cube_language::{
-    Cond, Conds, CubesFault, Decl, DimDecl, DimDecls, Item, Items, Keyword, NAME_BYTES, Names,
-    Piece, Pieces, SchemaFault, ScriptFault, Statement, Syntax, Token, TokenFault, TokenKind,
-    Tokens, Tuples, begins_name, continues_name, is_keyword, is_name, is_word, spells,
-};
-pub use cube_values::{
-    Bits, Bound, BoundItem, BoundItems, BoundKey, BoundKeys, BoundQuery, BoundTest, BoundTests,
-    CallError, CodedRow, CodedRows, Condition, Conditions, Coords, CubeShape, Entries, Entry,
-    EpochList, Field, Flags, Line, MOST_BRICKS, MOST_COLUMNS, NameLists, Numbers, Operation,
-    Operations, Part, Parts, Query, Region, Row, Rows, Sequence, Shape, Size, Sizes, Snapshot,
-    Span, StoredRow, StoredRows, Table, Text, TextLists, Texts, TopPlan, Transaction, Transactions,
-    Value, ValueTest, Values, grown_room, visible_is_what_running_leaves,
-};
+pub use cube_journal::AbortCause;
+pub use cube_journal::Counters;
+pub use cube_journal::JournalEntry;
+pub use cube_journal::LostCause;
+pub use cube_journal::Note;
+pub use cube_journal::OpenSnapshot;
+pub use cube_journal::Refusal;
+pub use cube_journal::Reply;
+pub use cube_journal::legal_journals_are_in_order;
+pub use cube_journal::one_more_entry;
+pub use cube_language::BadRow;
+pub use cube_language::Cond;
+pub use cube_language::Conds;
+pub use cube_language::CubesFault;
+pub use cube_language::Decl;
+pub use cube_language::DimDecl;
+pub use cube_language::DimDecls;
+pub use cube_language::Item;
+pub use cube_language::Items;
+pub use cube_language::KEYWORDS;
+pub use cube_language::Key;
+pub use cube_language::Keys;
+pub use cube_language::Keyword;
+pub use cube_language::Misfit;
+pub use cube_language::NAME_BYTES;
+pub use cube_language::Names;
+pub use cube_language::Piece;
+pub use cube_language::Pieces;
+pub use cube_language::Reason;
+pub use cube_language::SchemaFault;
+pub use cube_language::ScriptFault;
+pub use cube_language::Statement;
+pub use cube_language::Syntax;
+pub use cube_language::TEXT_BYTES;
+pub use cube_language::Test;
+pub use cube_language::Tests;
+pub use cube_language::Token;
+pub use cube_language::TokenFault;
+pub use cube_language::TokenKind;
+pub use cube_language::Tokens;
+pub use cube_language::Tuples;
+pub use cube_language::begins_name;
+pub use cube_language::continues_name;
+pub use cube_language::is_keyword;
+pub use cube_language::is_name;
+pub use cube_language::is_word;
+pub use cube_language::keyword_of;
+pub use cube_language::keyword_text;
+pub use cube_language::put_i64;
+pub use cube_language::put_i128;
+pub use cube_language::put_quoted;
+pub use cube_language::put_u64;
+pub use cube_language::put_u128;
+pub use cube_language::spells;
+pub use cube_values::Bits;
+pub use cube_values::Bound;
+pub use cube_values::BoundItem;
+pub use cube_values::BoundItems;
+pub use cube_values::BoundKey;
+pub use cube_values::BoundKeys;
+pub use cube_values::BoundQuery;
+pub use cube_values::BoundTest;
+pub use cube_values::BoundTests;
+pub use cube_values::CallError;
+pub use cube_values::CodedRow;
+pub use cube_values::CodedRows;
+pub use cube_values::Condition;
+pub use cube_values::Conditions;
+pub use cube_values::Coords;
+pub use cube_values::CubeShape;
+pub use cube_values::Entries;
+pub use cube_values::Entry;
+pub use cube_values::EpochList;
+pub use cube_values::Field;
+pub use cube_values::Flags;
+pub use cube_values::Line;
+pub use cube_values::MOST_BRICKS;
+pub use cube_values::MOST_COLUMNS;
+pub use cube_values::NameLists;
+pub use cube_values::Numbers;
+pub use cube_values::Operation;
+pub use cube_values::Operations;
+pub use cube_values::Part;
+pub use cube_values::Parts;
+pub use cube_values::Query;
+pub use cube_values::Region;
+pub use cube_values::Row;
+pub use cube_values::Rows;
+pub use cube_values::Sequence;
+pub use cube_values::Shape;
+pub use cube_values::Size;
+pub use cube_values::Sizes;
+pub use cube_values::Snapshot;
+pub use cube_values::Span;
+pub use cube_values::StoredRow;
+pub use cube_values::StoredRows;
+pub use cube_values::Table;
+pub use cube_values::Text;
+pub use cube_values::TextLists;
+pub use cube_values::Texts;
+pub use cube_values::TopPlan;
+pub use cube_values::Transaction;
+pub use cube_values::Transactions;
+pub use cube_values::Value;
+pub use cube_values::ValueTest;
+pub use cube_values::Values;
+pub use cube_values::grown_room;
+pub use cube_values::visible_is_what_running_leaves;

@@ -1,6 +1,6 @@
 -- Which texts spell which statements: what a text's tokens say is the form of the statement.
 -- Source: this project's own, a small part of SQL.
-use Rattle.std.specs.Prelude.{◌≡◌, ℕ, ◌<◌, ◌^◌, List, [], ◌∷◌, ◌++◌, length, pos, IsTrue, FitsSigned, All}
+use Rattle.std.specs.Prelude.{◌≡◌, ℕ, ◌<◌, ◌^◌, List, [], ◌∷◌, ◌++◌, length, pos, None, IsTrue, FitsSigned, All}
 use Rattle.std.specs.Int.{w64}
 use Rattle.std.specs.List.{list_all}
 use Rattle.cube_values.specs.declared.value.Value.{Value}
@@ -11,7 +11,7 @@ use Rattle.cube_language.specs.declared.statement.Cond.TheVariants.{Equal, In, B
 use Rattle.cube_language.specs.declared.statement.Item.{Item}
 use Rattle.cube_language.specs.declared.statement.Item.TheVariants.{Plain, Sum, Min, Max, Avg, CountAll}
 use Rattle.cube_language.specs.declared.statement.Statement.{Statement}
-use Rattle.cube_language.specs.declared.statement.Statement.TheVariants.{Select, Insert, Load, Delete, Begin, Commit, Rollback, Flush, Purge, ShowEpochs}
+use Rattle.cube_language.specs.declared.statement.Statement.TheVariants.{Select, Insert, Load, Delete, Begin, Commit, Rollback, Flush, Purge, ShowEpochs, CreateCube, Watch, ShowWatch}
 use Rattle.cube_language.specs.declared.keyword.Keyword.{Keyword as KeywordWord}
 use Rattle.cube_language.specs.declared.keyword.Keyword.TheVariants as keyword
 use Rattle.cube_language.specs.declared.token.Token.{Token}
@@ -64,7 +64,7 @@ group_form (name ∷ names) = Keyword keyword.Group ∷ Keyword keyword.By ∷ s
 
 -- The tokens of a statement, by what they say.
 abbrev pub form_of : Statement → List Symbol
-form_of (Select items cube conds group) =
+form_of (Select items cube conds group having order limit) =
     Keyword keyword.Select ∷ (separated Comma item_form items ++ Keyword keyword.From ∷ Word cube ∷ (where_form conds ++ group_form group))
 form_of (Insert cube rows) = Keyword keyword.Insert ∷ Keyword keyword.Into ∷ Word cube ∷ Keyword keyword.Values ∷ separated Comma tuple_form rows
 form_of (Load cube path reject) =
@@ -76,6 +76,7 @@ form_of Rollback = Keyword keyword.Rollback ∷ []
 form_of Flush = Keyword keyword.Flush ∷ []
 form_of Purge = Keyword keyword.Purge ∷ []
 form_of ShowEpochs = Keyword keyword.Show ∷ Keyword keyword.Epochs ∷ []
+form_of statement = []
 
 -- Names are names, and lists that a form wants filled have something in them; numbers have 64 bits.
 abbrev pub IsProperValue : Value → Type 0
@@ -99,7 +100,7 @@ IsProperCond (In name listed) = IsTrue (is_name name) × IsProperTuple listed
 IsProperCond (Between name first last) = IsTrue (is_name name) × IsProperValue first × IsProperValue last
 
 abbrev pub IsProper : Statement → Type 0
-IsProper (Select items cube conds group) = (0 < length items) × All IsProperItem items × IsTrue (is_name cube) × All IsProperCond conds × IsTrue (list_all is_name group)
+IsProper (Select items cube conds group [] [] None) = (0 < length items) × All IsProperItem items × IsTrue (is_name cube) × All IsProperCond conds × IsTrue (list_all is_name group)
 IsProper (Insert cube rows) = IsTrue (is_name cube) × (0 < length rows) × All IsProperTuple rows
 IsProper (Load cube path reject) = IsTrue (is_name cube) × (reject < 2 ^ 63)
 IsProper (Delete cube conds) = IsTrue (is_name cube) × All IsProperCond conds
@@ -109,6 +110,7 @@ IsProper Rollback = Unit {0}
 IsProper Flush = Unit {0}
 IsProper Purge = Unit {0}
 IsProper ShowEpochs = Unit {0}
+IsProper statement = ⊥
 
 -- A text spells a statement.
 abbrev pub Spells : List ℕ → Statement → Type 0

@@ -10,3 +10,8 @@ pub mod Symbols
 pub mod Grammar
 pub mod Syntax
 pub mod Printed
+pub mod StatementParts
+pub mod SameItems
+pub mod ColumnUses
+pub mod RowFaults
+pub mod Misfits

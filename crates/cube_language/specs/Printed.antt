@@ -3,10 +3,11 @@
 use Rattle.std.specs.Prelude.{ℕ, Bool, true, false, List, [], ◌∷◌, ◌++◌, codes, map, if◌then◌else◌}
 use Rattle.std.specs.Char.{to_ascii_uppercase}
 use Rattle.std.specs.Fmt.{signed_decimal}
+use Rattle.cube_language.specs.declared.statement.Item.{Item}
 use Rattle.cube_language.specs.declared.statement.Statement.{Statement}
 use Rattle.cube_language.specs.declared.keyword.Keyword.{Keyword as KeywordWord}
 use Rattle.cube_language.specs.declared.keyword.Keyword.TheVariants as keyword
-use Rattle.cube_language.specs.Grammar.{form_of}
+use Rattle.cube_language.specs.Grammar.{form_of, item_form}
 use Rattle.cube_language.specs.Quotes.{quoted}
 use Rattle.cube_language.specs.Keywords.{keyword_text}
 use Rattle.cube_language.specs.Symbols.{Symbol, Keyword, Word, Number, Text, Open, Close, Comma, Equals, Star}
@@ -44,6 +45,10 @@ abbrev pub spaced : List Symbol → List ℕ
 spaced [] = []
 spaced (symbol ∷ []) = symbol_text symbol
 spaced (symbol ∷ next ∷ symbols) = symbol_text symbol ++ ((if touch symbol next then [] else codes " ") ++ spaced (next ∷ symbols))
+
+-- The printed form of an item.
+abbrev pub item_text : Item → List ℕ
+item_text item = spaced (item_form item)
 
 -- The printed form of a statement.
 abbrev pub printed : Statement → List ℕ

@@ -11,7 +11,8 @@ use Rattle.std.proofs.lemmas.Bool.Decides.{nat_tests}
 use Rattle.std.proofs.lemmas.Str.{IsUtf8-from_ascii}
 use Rattle.std.proofs.lemmas.Str.Ascii.{IsAscii-nil, IsAscii-cons}
 use Rattle.std.proofs.lemmas.Str.Parse.{IsNumeralModel, numerals_by_value, tells_all_ascii_digits, parse_digits}
-use Rattle.cube_language.specs.Names.{begins_name, continues_name, is_word, is_keyword, is_name}
+use Rattle.cube_language.specs.Keywords.{is_keyword}
+use Rattle.cube_language.specs.Names.{begins_name, continues_name, is_word, is_name}
 use Rattle.cube_language.specs.Tokens.{is_digits}
 
 pub digits_are : (bytes : List ℕ) → list_all is_ascii_digit bytes ≡ all_ascii_digits bytes

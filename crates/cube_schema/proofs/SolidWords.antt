@@ -8,7 +8,8 @@ use Rattle.std.proofs.lemmas.Bool.{and_parts}
 use Rattle.std.proofs.lemmas.Bool.Decides.{nat_tests}
 use Rattle.std.proofs.lemmas.Fmt.{decimal_nonempty, digits_decimal, digits_value-decimal}
 use Rattle.std.proofs.lemmas.Str.Ascii.{IsAscii-nil, IsAscii-cons}
-use Rattle.cube_language.specs.Names.{continues_name, is_word, is_keyword, is_name}
+use Rattle.cube_language.specs.Keywords.{is_keyword}
+use Rattle.cube_language.specs.Names.{continues_name, is_word, is_name}
 use Rattle.cube_language.specs.CubesText.{IsNumberWord, words_of, word_lines, without_return, parts_words}
 use Rattle.cube_language.specs.Tokens.{is_digits}
 use Rattle.cube_schema.proofs.Ascii.{digits_are, name_continues, own}

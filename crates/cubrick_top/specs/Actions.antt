@@ -84,5 +84,5 @@ select_action cubes items cube conds group = None
 -- What a statement does, or None where it does not run.
 abbrev pub statement_action : List Decl → Statement → Option Action
 statement_action cubes (Insert cube rows) = insert_action cubes cube rows
-statement_action cubes (Select items cube conds group) = select_action cubes items cube conds group
+statement_action cubes (Select items cube conds group [] [] None) = select_action cubes items cube conds group
 statement_action cubes _ = None

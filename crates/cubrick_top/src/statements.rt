@@ -244,14 +244,20 @@ pub fn statement_action(
             cube,
             conds,
             group,
-        } => select_action(
-            alloc,
-            cubes,
-            items.as_slice(),
-            cube,
-            conds.as_slice(),
-            group.as_slice(),
-        ),
+            having,
+            order,
+            limit,
+        } => match (having.as_slice(), order.as_slice(), limit) {
+            ([], [], None) => select_action(
+                alloc,
+                cubes,
+                items.as_slice(),
+                cube,
+                conds.as_slice(),
+                group.as_slice(),
+            ),
+            _ => Ok(None),
+        },
         _ => Ok(None),
     }
 }

@@ -1,17 +1,20 @@
 -- Keywords and the words that spell them.
 use Rattle.std.proofs.Common.{◌≡◌, ℕ, Bool, true, false, not, ◌&&◌, nat_le, length, cond, List, [], ◌∷◌, Option, Some, None, map, find, refl, sym, ap, ◌∙◌, inl, inr}
 use Rattle.std.specs.Char.{to_ascii_lowercase, to_ascii_uppercase}
-use Rattle.std.specs.Option.{option_map_or}
+use Rattle.std.specs.Option.{is_some, option_map_or}
 use Rattle.std.specs.Str.{bytes_eq}
 use Rattle.std.proofs.lemmas.Bool.{cases_Bool, and_right, both_ways}
 use Rattle.std.proofs.lemmas.Slice.Eq.{bytes_eq-Decides}
-use Rattle.cube_language.specs.Names.{spells, is_name, is_word, is_keyword}
+use Rattle.cube_language.specs.declared.keyword.TheConstants.{KEYWORDS}
+use Rattle.cube_language.specs.Keywords.{spells, is_keyword, keyword_text, keyword_of}
+use Rattle.cube_language.specs.Names.{is_name, is_word}
 use Rattle.cube_language.specs.declared.keyword.Keyword.{Keyword as KeywordWord}
 use Rattle.cube_language.specs.declared.keyword.Keyword.TheVariants as keyword
-use Rattle.cube_language.specs.Symbols.{Symbol, Keyword, Word, Open, Close, Comma, Star, keyword_text, keyword_of, statement_keywords, word_symbol}
+use Rattle.cube_language.specs.Symbols.{Symbol, Keyword, Word, Open, Close, Comma, Star, word_symbol}
+use Rattle.sql_tree.specs.declared.head.Aggregate.{Aggregate}
 use Rattle.sql_tree.specs.declared.head.Sign.{Sign}
 use Rattle.sql_tree.specs.declared.head.Sign.TheVariants as sign
-use Rattle.sql_tree.specs.Reading.{same_keyword, is_sign, keyword_in, name_in, value_in, text_in, count_in}
+use Rattle.sql_tree.specs.Reading.{aggregate_in, same_keyword, is_sign, keyword_in, name_in, value_in, text_in, count_in}
 
 -- a word that spells a keyword is that keyword
 pub spelled_is : (k : KeywordWord) (word : List ℕ) → map to_ascii_lowercase word ≡ keyword_text k → keyword_of word ≡ Some k
@@ -42,7 +45,8 @@ find_passes p (y ∷ ys) x e =
 -- the letters of a keyword are those of a word that spells it
 pub keyword_letters : (k : KeywordWord) (word : List ℕ) → keyword_of word ≡ Some k → map to_ascii_lowercase word ≡ keyword_text k
 unfolding keyword_of
-keyword_letters k word e = (bytes_eq-Decides (map to_ascii_lowercase word) (keyword_text k)).0 (find_passes (λ j. spells (keyword_text j) word) statement_keywords k e)
+keyword_letters k word e =
+    (bytes_eq-Decides (map to_ascii_lowercase word) (map to_ascii_lowercase (keyword_text k))).0 (find_passes (λ j. spells j word) KEYWORDS k e) ∙ lowered k
 
 pub same_keyword_is : (wanted k : KeywordWord) → same_keyword wanted k ≡ true → k ≡ wanted
 same_keyword_is wanted k same =
@@ -78,16 +82,17 @@ is_sign_self wanted = refl
 
 -- ---- what a word says
 
-word_sign_at : (wanted : KeywordWord) (word : List ℕ) (o : Option KeywordWord) → keyword_of word ≡ o → spells (keyword_text wanted) word ≡ is_sign (sign.Keyword wanted) (option_map_or Keyword o (Word word))
-word_sign_at wanted word (Some k) e = ap (λ letters. bytes_eq letters (keyword_text wanted)) (keyword_letters k word e)
+word_sign_at : (wanted : KeywordWord) (word : List ℕ) (o : Option KeywordWord) → keyword_of word ≡ o → spells wanted word ≡ is_sign (sign.Keyword wanted) (option_map_or Keyword o (Word word))
+word_sign_at wanted word (Some k) e =
+    ap (λ letters. bytes_eq letters (map to_ascii_lowercase (keyword_text wanted))) (keyword_letters k word e) ∙ ap (bytes_eq (keyword_text k)) (lowered wanted)
 word_sign_at wanted word None e =
-    elim (cases_Bool (spells (keyword_text wanted) word)) [
-      | inl same ↦ let there = spelled_is wanted word ((bytes_eq-Decides (map to_ascii_lowercase word) (keyword_text wanted)).0 same) in absurd cc
+    elim (cases_Bool (spells wanted word)) [
+      | inl same ↦ let there = spelled_is wanted word ((bytes_eq-Decides (map to_ascii_lowercase word) (map to_ascii_lowercase (keyword_text wanted))).0 same ∙ lowered wanted) in absurd cc
       | inr differs ↦ differs
     ]
 
 -- a word spells a keyword where it says it
-pub word_sign : (wanted : KeywordWord) (word : List ℕ) → spells (keyword_text wanted) word ≡ is_sign (sign.Keyword wanted) (word_symbol word)
+pub word_sign : (wanted : KeywordWord) (word : List ℕ) → spells wanted word ≡ is_sign (sign.Keyword wanted) (word_symbol word)
 word_sign wanted word = word_sign_at wanted word (keyword_of word) refl
 
 -- a word that is no keyword says itself
@@ -123,12 +128,8 @@ pub count_in_word : (word : List ℕ) → count_in (word_symbol word) ≡ None
 count_in_word word = count_in_said word (keyword_of word)
 
 -- a keyword is no name
-spelled_keyword : (k : KeywordWord) (word : List ℕ) → map to_ascii_lowercase word ≡ keyword_text k → is_keyword word ≡ true
-spelled_keyword keyword.Select word e = rw e refl
-spelled_keyword k word e = rw e refl
-
 reserved_is_no_name : (k : KeywordWord) (word : List ℕ) → keyword_of word ≡ Some k → is_name word ≡ false
-reserved_is_no_name k word e = and_right (is_word word && nat_le (length word) 64) (not (is_keyword word)) (ap not (spelled_keyword k word (keyword_letters k word e)))
+reserved_is_no_name k word e = and_right (is_word word && nat_le (length word) 64) (not (is_keyword word)) (ap (λ (o : Option KeywordWord). not (is_some o)) e)
 
 name_is_free : (word : List ℕ) (o : Option KeywordWord) → keyword_of word ≡ o → is_name word ≡ true → o ≡ None
 name_is_free word None e name = refl
@@ -145,3 +146,17 @@ name_in_said word (Some k) e =
 
 pub name_in_word : (word : List ℕ) → name_in (word_symbol word) ≡ cond (is_name word) (Some word) None
 name_in_word word = name_in_said word (keyword_of word) refl
+
+-- ---- what a keyword says
+
+pub keyword_in_is : (symbol : Symbol) (k : KeywordWord) → Some k ≡ keyword_in symbol → Keyword k ≡ symbol
+keyword_in_is (Keyword j) k e = let same : k ≡ j = cc in ap Keyword same
+keyword_in_is symbol k e = absurd cc
+
+pub no_aggregate : (k : KeywordWord) → (k ≡ keyword.Sum → ⊥) → (k ≡ keyword.Min → ⊥) → (k ≡ keyword.Max → ⊥) → (k ≡ keyword.Avg → ⊥) → (k ≡ keyword.Count → ⊥) → None ≡ aggregate_in (Keyword k)
+no_aggregate keyword.Sum sum min max avg count = absurd (sum refl)
+no_aggregate keyword.Min sum min max avg count = absurd (min refl)
+no_aggregate keyword.Max sum min max avg count = absurd (max refl)
+no_aggregate keyword.Avg sum min max avg count = absurd (avg refl)
+no_aggregate keyword.Count sum min max avg count = absurd (count refl)
+no_aggregate k sum min max avg count = refl

@@ -1,11 +1,12 @@
 -- The form of a proper statement has symbols that tokens say.
-use Rattle.std.proofs.Common.{ℕ, not, ◌&&◌, nat_le, List, [], ◌∷◌, ◌++◌, length, IsTrue}
+use Rattle.std.proofs.Common.{ℕ, None, not, ◌&&◌, nat_le, List, [], ◌∷◌, ◌++◌, length, IsTrue}
 use Rattle.std.specs.List.{AllByRecursion, list_all}
 use Rattle.std.proofs.lemmas.Bool.{and_parts}
 use Rattle.std.proofs.lemmas.List.Elements.{recursion_from_All}
 use Rattle.cube_values.specs.declared.value.Value.{Value}
 use Rattle.cube_values.specs.declared.value.Value.TheVariants as value
-use Rattle.cube_language.specs.Names.{is_name, is_word, is_keyword}
+use Rattle.cube_language.specs.Keywords.{is_keyword}
+use Rattle.cube_language.specs.Names.{is_name, is_word}
 use Rattle.cube_language.specs.declared.statement.Cond.{Cond}
 use Rattle.cube_language.specs.declared.statement.Cond.TheVariants as cond
 use Rattle.cube_language.specs.declared.statement.Item.{Item}
@@ -69,7 +70,7 @@ group_sound [] all = tt
 group_sound (name ∷ names) all = (tt, (tt, sound_listed Comma name_form IsName tt (λ x p. (name_sound x p, tt)) (name ∷ names) (names_sound (name ∷ names) all)))
 
 form_sound : (s : Statement) → IsProper s → AreSound (form_of s)
-form_sound (statement.Select items cube conds group) p = (
+form_sound (statement.Select items cube conds group [] [] None) p = (
   tt,
   sound-append (separated Comma item_form items) (Keyword keyword.From ∷ Word cube ∷ (where_form conds ++ group_form group)) (sound_listed Comma item_form IsProperItem tt item_sound items (recursion_from_All IsProperItem items p.1))
       (tt, (name_sound cube p.2, sound-append (where_form conds) (group_form group) (where_sound conds (recursion_from_All IsProperCond conds p.3)) (group_sound group p.4))),
@@ -83,6 +84,7 @@ form_sound statement.Rollback p = (tt, tt)
 form_sound statement.Flush p = (tt, tt)
 form_sound statement.Purge p = (tt, tt)
 form_sound statement.ShowEpochs p = (tt, (tt, tt))
+form_sound s p = absurd p
 
 -- what is printed of a statement spells it
 pub printed_spells : (s : Statement) → IsSpelled s → Spells (printed s) s

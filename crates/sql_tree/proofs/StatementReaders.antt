@@ -1,5 +1,5 @@
 -- The readers of statements.
-use Rattle.std.proofs.Common.{◌≡◌, ℕ, List, [], ◌∷◌, ◌++◌, pos, refl, sym}
+use Rattle.std.proofs.Common.{◌≡◌, ℕ, List, [], ◌∷◌, ◌++◌, None, pos, refl, sym}
 use Rattle.std.proofs.lemmas.List.Elements.{All-from_recursion, recursion_from_All}
 use Rattle.std.proofs.lemmas.List.{append-nil}
 use Rattle.cube_values.specs.declared.value.Value.{Value}
@@ -28,16 +28,16 @@ IsEnd rest = rest ≡ []
 
 -- What comes behind the conditions.
 abbrev BehindConds : List Item → List ℕ → List Cond → Statement → List Symbol → Type 0
-BehindConds items cube conds = IsMade (Formed AreNames group_form) (λ group. statement.Select items cube conds group)
+BehindConds items cube conds = IsMade (Formed AreNames group_form) (λ group. statement.Select items cube conds group [] [] None)
 
 group_ends : (group : List (List ℕ)) (front rest : List Symbol) → Formed AreNames group_form group front → IsEnd rest → EndsWhere (front ++ rest)
 group_ends [] front rest f e = rw (f.1, e) (refl, refl)
 group_ends (name ∷ names) front rest f e = rw f.1 (refl, refl)
 
-conds_reader : (items : List Item) (cube : List ℕ) → IsReader (sequence read_where (λ conds. sequence read_group (λ group. given (statement.Select items cube conds group)))) (IsThen (Formed AreConds where_form) (BehindConds items cube)) IsEnd
+conds_reader : (items : List Item) (cube : List ℕ) → IsReader (sequence read_where (λ conds. sequence read_group (λ group. given (statement.Select items cube conds group [] [] None)))) (IsThen (Formed AreConds where_form) (BehindConds items cube)) IsEnd
 conds_reader items cube =
-    sequence_reader read_where (λ conds. sequence read_group (λ group. given (statement.Select items cube conds group))) (Formed AreConds where_form) (BehindConds items cube) EndsWhere IsEnd where_reader
-    (λ conds. made_reader read_group (λ group. statement.Select items cube conds group) (Formed AreNames group_form) IsEnd (reader_ends read_group (Formed AreNames group_form) EndsGroup IsEnd (λ rest e. rw e (refl, refl)) group_reader))
+    sequence_reader read_where (λ conds. sequence read_group (λ group. given (statement.Select items cube conds group [] [] None))) (Formed AreConds where_form) (BehindConds items cube) EndsWhere IsEnd where_reader
+    (λ conds. made_reader read_group (λ group. statement.Select items cube conds group [] [] None) (Formed AreNames group_form) IsEnd (reader_ends read_group (Formed AreNames group_form) EndsGroup IsEnd (λ rest e. rw e (refl, refl)) group_reader))
     (λ conds y front rest h e. group_ends h.value front rest h.form e)
 
 -- What comes behind the items.
@@ -50,10 +50,10 @@ IsSelect = IsThen (Formed (AreListed IsProperItem) (listed_form sign.Comma item_
 select_reader : IsReader read_select IsSelect IsEnd
 unfolding read_select
 select_reader =
-    sequence_reader (listed sign.Comma read_item) (λ items. sequence (expect (sign.Keyword keyword.From)) (λ u. sequence read_name (λ cube. sequence read_where (λ conds. sequence read_group (λ group. given (statement.Select items cube conds group))))))
+    sequence_reader (listed sign.Comma read_item) (λ items. sequence (expect (sign.Keyword keyword.From)) (λ u. sequence read_name (λ cube. sequence read_where (λ conds. sequence read_group (λ group. given (statement.Select items cube conds group [] [] None))))))
     (Formed (AreListed IsProperItem) (listed_form sign.Comma item_form)) BehindItems (Parted sign.Comma) IsEnd (listed_reader sign.Comma read_item IsProperItem item_form item_reader)
-    (λ items. signed_reader (sign.Keyword keyword.From) (sequence read_name (λ cube. sequence read_where (λ conds. sequence read_group (λ group. given (statement.Select items cube conds group))))) (IsLed IsName Word (λ cube. IsThen (Formed AreConds where_form) (BehindConds items cube))) IsEnd
-    (led_reader read_name (λ cube. sequence read_where (λ conds. sequence read_group (λ group. given (statement.Select items cube conds group)))) IsName Word (λ cube. IsThen (Formed AreConds where_form) (BehindConds items cube)) IsEnd name_reader (conds_reader items)))
+    (λ items. signed_reader (sign.Keyword keyword.From) (sequence read_name (λ cube. sequence read_where (λ conds. sequence read_group (λ group. given (statement.Select items cube conds group [] [] None))))) (IsLed IsName Word (λ cube. IsThen (Formed AreConds where_form) (BehindConds items cube))) IsEnd
+    (led_reader read_name (λ cube. sequence read_where (λ conds. sequence read_group (λ group. given (statement.Select items cube conds group [] [] None)))) IsName Word (λ cube. IsThen (Formed AreConds where_form) (BehindConds items cube)) IsEnd name_reader (conds_reader items)))
     (λ items y front rest h e. rw h.1 refl)
 
 -- ---- INSERT, LOAD and DELETE
@@ -182,8 +182,8 @@ statement_to verb.Show s front rest e h = (rw h.made tt, rw (h.made, e, h.form.1
 abbrev IsBegun : Statement → List Symbol → Type 0
 IsBegun = IsLed Any (λ v. Keyword (verb_keyword v)) BehindVerb
 
-select_from : (items : List Item) (cube : List ℕ) (conds : List Cond) (group : List (List ℕ)) → IsProper (statement.Select items cube conds group)
-    → IsSelect (statement.Select items cube conds group) (separated Comma item_form items ++ Keyword keyword.From ∷ Word cube ∷ (where_form conds ++ group_form group))
+select_from : (items : List Item) (cube : List ℕ) (conds : List Cond) (group : List (List ℕ)) → IsProper (statement.Select items cube conds group [] [] None)
+    → IsSelect (statement.Select items cube conds group [] [] None) (separated Comma item_form items ++ Keyword keyword.From ∷ Word cube ∷ (where_form conds ++ group_form group))
 select_from items cube conds group p = record {
   first = items;
   front = separated Comma item_form items;
@@ -224,7 +224,7 @@ delete_from : (cube : List ℕ) (conds : List Cond) → IsProper (statement.Dele
 delete_from cube conds p = (Word cube ∷ where_form conds, refl, (cube, p.0, where_form conds, refl, record { value = conds; made = refl; form = (p.1, refl) }))
 
 statement_from : (s : Statement) (front : List Symbol) → Formed IsProper form_of s front → IsBegun s front
-statement_from (statement.Select items cube conds group) front f = (verb.Select, tt, separated Comma item_form items ++ Keyword keyword.From ∷ Word cube ∷ (where_form conds ++ group_form group), f.1, select_from items cube conds group f.0)
+statement_from (statement.Select items cube conds group [] [] None) front f = (verb.Select, tt, separated Comma item_form items ++ Keyword keyword.From ∷ Word cube ∷ (where_form conds ++ group_form group), f.1, select_from items cube conds group f.0)
 statement_from (statement.Insert cube rows) front f = (verb.Insert, tt, Keyword keyword.Into ∷ Word cube ∷ Keyword keyword.Values ∷ separated Comma tuple_form rows, f.1, insert_from cube rows f.0)
 statement_from (statement.Load cube path n) front f = (verb.Load, tt, Word cube ∷ Keyword keyword.From ∷ Text path ∷ Keyword keyword.Reject ∷ Number (pos n) ∷ [], f.1, load_from cube path n f.0)
 statement_from (statement.Delete cube conds) front f = (verb.Delete, tt, Keyword keyword.From ∷ Word cube ∷ where_form conds, f.1, delete_from cube conds f.0)
@@ -234,6 +234,7 @@ statement_from statement.Rollback front f = (verb.Rollback, tt, [], f.1, (refl, 
 statement_from statement.Flush front f = (verb.Flush, tt, [], f.1, (refl, refl))
 statement_from statement.Purge front f = (verb.Purge, tt, [], f.1, (refl, refl))
 statement_from statement.ShowEpochs front f = (verb.Show, tt, Keyword keyword.Epochs ∷ [], f.1, record { value = tt; made = refl; form = (tt, refl) })
+statement_from s front f = absurd f.0
 
 begun_reader : IsReader read_begun (Formed IsProper form_of) IsEnd
 unfolding read_begun

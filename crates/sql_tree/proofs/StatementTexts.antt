@@ -1,5 +1,5 @@
 -- The printed forms of statements.
-use Rattle.std.proofs.Common.{◌≡◌, ℕ, ◌<◌, List, [], ◌∷◌, ◌++◌, length, codes, decimal, refl, sym, ap, ◌∙◌, append_assoc, arith}
+use Rattle.std.proofs.Common.{◌≡◌, ℕ, ◌<◌, List, [], ◌∷◌, ◌++◌, length, None, codes, decimal, refl, sym, ap, ◌∙◌, append_assoc, arith}
 use Rattle.std.proofs.lemmas.List.{append-nil}
 use Rattle.cube_values.specs.declared.value.Value.{Value}
 use Rattle.cube_language.specs.declared.statement.Cond.{Cond}
@@ -36,7 +36,7 @@ item_before item.CountAll more = refl
 item_before x more = refl
 
 pub select_text : (items : List Item) (cube : List ℕ) (conds : List Cond) (group : List (List ℕ)) → 0 < length items
-    → printed (statement.Select items cube conds group) ≡ codes "SELECT " ++ (joined (codes ", ") (text_by item_form) items ++ (codes " FROM " ++ (cube ++ (spaced_behind (where_form conds) ++ spaced_behind (group_form group)))))
+    → printed (statement.Select items cube conds group [] [] None) ≡ codes "SELECT " ++ (joined (codes ", ") (text_by item_form) items ++ (codes " FROM " ++ (cube ++ (spaced_behind (where_form conds) ++ spaced_behind (group_form group)))))
 select_text [] cube conds group some = absurd (omega arith)
 select_text (x ∷ items) cube conds group some =
     let listed = separated Comma item_form (x ∷ items) in

@@ -6,6 +6,7 @@ use Rattle.std.specs.Option.{option_map}
 use Rattle.std.proofs.lemmas.Bool.{ltb-true, lt-ltb}
 use Rattle.cube_values.specs.declared.value.Value.{Value}
 use Rattle.cube_values.specs.declared.value.Value.TheVariants as value
+use Rattle.cube_language.specs.Keywords.{keyword_of}
 use Rattle.cube_language.specs.Names.{is_name}
 use Rattle.cube_language.specs.declared.keyword.Keyword.{Keyword as KeywordWord}
 use Rattle.cube_language.specs.declared.keyword.Keyword.TheVariants as keyword
@@ -66,6 +67,7 @@ name_tells (Word word) name e = let g = guarded (is_name word) word name e in (a
 name_tells symbol name e = absurd cc
 
 name_means : Means name_in IsName Word
+unfolding keyword_of
 name_means = record { value = codes "a"; is_value = refl; tells = name_tells; again = λ name p. rw p refl }
 
 pub name_reader : IsReader read_name (Formed IsName name_form) Always

@@ -11,6 +11,7 @@ use Rattle.std.proofs.lemmas.Bool.Decides.{nat_tests}
 use Rattle.std.proofs.lemmas.Fmt.{digits_decimal, digits_value-decimal, decimal_nonempty}
 use Rattle.std.proofs.lemmas.List.{length-append, take_at}
 use Rattle.std.proofs.lemmas.Str.Parse.{IsNumeralModel, numerals_by_value, tells_all_ascii_digits}
+use Rattle.cube_language.specs.Keywords.{keyword_of, keyword_text}
 use Rattle.cube_language.specs.Names.{continues_name, is_word}
 use Rattle.cube_language.specs.declared.keyword.Keyword.{Keyword as KeywordWord}
 use Rattle.cube_language.specs.declared.keyword.Keyword.TheVariants as keyword
@@ -19,7 +20,7 @@ use Rattle.cube_language.specs.declared.token.TokenKind.TheVariants as kind
 use Rattle.cube_language.specs.Parts.{Stops}
 use Rattle.cube_language.specs.Printed.{symbol_text}
 use Rattle.cube_language.specs.Quotes.{doubled, quoted}
-use Rattle.cube_language.specs.Symbols.{Symbol, Keyword, Word, Number, Text, Open, Close, Comma, Equals, Star, keyword_text, keyword_of, halved, unquoted, symbol_in}
+use Rattle.cube_language.specs.Symbols.{Symbol, Keyword, Word, Number, Text, Open, Close, Comma, Equals, Star, halved, unquoted, symbol_in}
 use Rattle.cube_language.specs.Tokens.{is_digits, is_number, IsToken}
 use Rattle.sql_tree.proofs.Halves.{plain_halved}
 use Rattle.sql_tree.proofs.Keywords.{capitals_spell}

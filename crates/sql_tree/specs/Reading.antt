@@ -16,7 +16,8 @@ use Rattle.cube_language.specs.declared.statement.Statement.{Statement}
 use Rattle.cube_language.specs.declared.statement.Statement.TheVariants as statement
 use Rattle.cube_language.specs.declared.keyword.Keyword.{Keyword as KeywordWord}
 use Rattle.cube_language.specs.declared.keyword.Keyword.TheVariants as keyword
-use Rattle.cube_language.specs.Symbols.{Symbol, Keyword, Word, Number, Text, Open, Close, Comma, Equals, Star, keyword_text}
+use Rattle.cube_language.specs.Keywords.{keyword_text}
+use Rattle.cube_language.specs.Symbols.{Symbol, Keyword, Word, Number, Text, Open, Close, Comma, Equals, Star}
 use Rattle.sql_tree.specs.declared.head.Sign.{Sign}
 use Rattle.sql_tree.specs.declared.head.Sign.TheVariants as sign
 use Rattle.sql_tree.specs.declared.head.Aggregate.{Aggregate}
@@ -236,7 +237,7 @@ read_select symbols = do
   cube ← read_name from.1
   conds ← read_where cube.1
   group ← read_group conds.1
-  Ok (statement.Select items.0 cube.0 conds.0 group.0, group.1)
+  Ok (statement.Select items.0 cube.0 conds.0 group.0 [] [] None, group.1)
 
 unfoldable pub read_insert : List Symbol → Read Statement
 read_insert symbols = do

@@ -4,7 +4,6 @@
 mod condition;
 mod head;
 mod item;
-mod keyword;
 mod law;
 mod parsing;
 mod part;

@@ -1,6 +1,6 @@
 //! The printed form of a statement.
 
-ghost use Rattle.std.specs.Prelude.{◌≡◌, ◌++◌, ◌<◌, length, IfOk, OnOk};
+ghost use Rattle.std.specs.Prelude.{◌≡◌, ◌++◌, ◌<◌, [], None, length, IfOk, OnOk};
 ghost use Rattle.cube_language.specs.declared.statement.Statement.TheVariants as statement;
 ghost use Rattle.cube_language.specs.Grammar.{IsSpelled, group_form, where_form};
 ghost use Rattle.cube_language.specs.Printed.{printed};
@@ -44,7 +44,7 @@ fn put_select(
     group: &[Text],
 ) -> Result<(), AllocError>
     requires { 0 < length items.now }
-    ensures { OnOk result (out.new.items ≡ out.old.items ++ printed (statement.Select items.now cube.now conds.now group.now)) }
+    ensures { OnOk result (out.new.items ≡ out.old.items ++ printed (statement.Select items.now cube.now conds.now group.now [] [] None)) }
 {
     out.extend_from_slice(b"SELECT ")?;
     put_listed(out, items, b", ")?;
@@ -102,6 +102,7 @@ pub fn print(alloc: Global, statement: &Statement) -> Result<Vec<u8>, AllocError
             cube,
             conds,
             group,
+            ..
         } => put_select(
             &mut out,
             items.as_slice(),
@@ -118,6 +119,7 @@ pub fn print(alloc: Global, statement: &Statement) -> Result<Vec<u8>, AllocError
         Statement::Flush => out.extend_from_slice(b"FLUSH")?,
         Statement::Purge => out.extend_from_slice(b"PURGE")?,
         Statement::ShowEpochs => out.extend_from_slice(b"SHOW EPOCHS")?,
+        Statement::CreateCube { .. } | Statement::Watch { .. } | Statement::ShowWatch => {}
     }
     Ok(out)
 }

@@ -10,7 +10,7 @@ use crate::head::{Sign, Verb};
 use crate::part::listed;
 use crate::read::{Miss, after, count, name, path, sign};
 use crate::symbol::verb_in;
-use cube_language::{Keyword, Names, Statement, Token};
+use cube_language::{Keys, Keyword, Names, Statement, Tests, Token};
 use cube_values::CallError;
 use std::alloc::Global;
 
@@ -60,6 +60,9 @@ fn select<'a>(
             cube,
             conds,
             group,
+            having: Tests::new(alloc),
+            order: Keys::new(alloc),
+            limit: None,
         },
         rest,
     ))

@@ -7,9 +7,8 @@ ghost use Rattle.sql_tree.specs.Reading.{aggregate_in, count_in, is_sign, keywor
 ghost use Rattle.sql_words.specs.Places.{StandsIn};
 
 use crate::head::{Aggregate, Operator, Sign, Verb};
-use crate::keyword::{keyword_of, keyword_text};
 use crate::quote::unquoted;
-use cube_language::{Keyword, Token, TokenKind, is_name, spells};
+use cube_language::{Keyword, Token, TokenKind, is_name, keyword_of, spells};
 use cube_values::{Text, Value};
 use sql_words::token_text;
 use std::alloc::{AllocError, Global};
@@ -21,10 +20,7 @@ pub(crate) fn is_sign(text: &str, token: &Token, wanted: Sign) -> bool
 {
     match token.kind {
         TokenKind::Word => match wanted {
-            Sign::Keyword(keyword) => spells(
-                keyword_text(keyword).as_bytes(),
-                token_text(text, token).as_bytes(),
-            ),
+            Sign::Keyword(keyword) => spells(keyword, token_text(text, token).as_bytes()),
             _ => false,
         },
         TokenKind::Open => wanted == Sign::Open,
