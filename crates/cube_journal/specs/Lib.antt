@@ -2,4 +2,5 @@ pub mod Entries
 pub mod Counters
 pub mod Legal
 pub mod Order
+pub mod JournalLines
 pub mod Replies

@@ -1,0 +1,4 @@
+mod changes;
+mod journals;
+mod single;
+mod verdicts;
