@@ -27,7 +27,7 @@ pub enum Line {
 fn epochs(list: &[u64]) -> EpochList {
     let mut epochs = EpochList::new();
     for epoch in list {
-        if !epochs.is_full() {
+        if epochs.as_slice().len() < EpochList::MOST {
             epochs.push(*epoch);
         }
     }
