@@ -3,7 +3,7 @@ use Rattle.std.proofs.Common.{◌≡◌, ℕ, Bool, true, false, not, ◌&&◌, 
 use Rattle.std.specs.List.{list_any}
 use Rattle.std.proofs.lemmas.Grind.{common_steps}
 use Rattle.cube_journal.specs.declared.journal_entry.JournalEntry.{JournalEntry}
-use Rattle.cube_journal.specs.Counters.{JournalState, state_after, opening_state, journal_state, lse_after}
+use Rattle.cube_journal.specs.Counters.{JournalState, state_after, opening_state, lse_after}
 use Rattle.cube_journal.specs.Entries.{is_of_session}
 use Rattle.cube_journal.specs.Legal.{begins_with_safe_round, PartsSince, WasFlushed, WasSafe}
 use Rattle.plain_journal.specs.Places.{flushed_in, safe_in}

@@ -1,4 +1,4 @@
-use Rattle.std.proofs.Common.{◌≡◌, length}
+use Rattle.std.proofs.Common.{length}
 use Rattle.cube_journal.specs.Legal.{CubesAllowAll}
 use Rattle.plain_journal.proofs.cubes.is_legal_by_cubes.Given as goal
 
