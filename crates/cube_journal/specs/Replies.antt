@@ -1,14 +1,16 @@
 -- The text of replies.
+-- Source: this project's own.
 use Rattle.std.specs.Prelude.{ℕ, List, [], ◌∷◌, ◌++◌, length, codes, decimal, replicate, ◌-◌, if◌then◌else◌, Bool}
 use Rattle.std.specs.Fmt.{signed_decimal}
 use Rattle.std.specs.List.{flat_map}
 use Rattle.cube_values.specs.declared.table.Field.{Field}
 use Rattle.cube_values.specs.declared.table.Field.TheVariants.{Text, Whole, Decimal, Null}
-use Rattle.cube_journal.specs.declared.refusal.Refusal.{Refusal}
-use Rattle.cube_journal.specs.declared.refusal.Refusal.TheVariants.{Syntax}
-use Rattle.cube_journal.specs.declared.reply.Reply.{Reply}
-use Rattle.cube_journal.specs.declared.reply.Reply.TheVariants.{Rows, Stored, Refused}
 use Rattle.cube_language.specs.Quotes.{quoted}
+use Rattle.cube_journal.specs.declared.reply.Rejection.{Rejection}
+use Rattle.cube_journal.specs.declared.reply.Reply.{Reply}
+use Rattle.cube_journal.specs.declared.reply.Reply.TheVariants as reply
+use Rattle.cube_journal.specs.JournalLines.{statement_text, counters_text, epochs_text}
+use Rattle.cube_journal.specs.Refusals.{bad_row_text, refusal_text}
 
 -- Four digits.
 abbrev pub four_digits : ℕ → List ℕ
@@ -34,18 +36,35 @@ fields_text (f ∷ g ∷ fields) = field_text f ++ (codes "," ++ fields_text (g 
 abbrev pub table_text : List (List Field) → List ℕ
 table_text table = flat_map (λ line. fields_text line ++ codes "\n") table
 
--- The number and the text of a refusal.
-abbrev pub refusal_text : Refusal → List ℕ
-refusal_text (Syntax fault) = codes "1 Syntax at " ++ decimal fault.at
+-- A record of a file that was not stored, on a line.
+abbrev pub rejection_text : Rejection → List ℕ
+rejection_text r = codes "reject " ++ (decimal r.number ++ (codes " " ++ (bad_row_text r.why ++ codes "\n")))
+
+-- A word and an epoch, on a line.
+abbrev pub at_epoch : List ℕ → ℕ → List ℕ
+at_epoch words epoch = words ++ (codes " " ++ (decimal epoch ++ codes "\n"))
 
 -- What a reply says.
 abbrev pub reply_text : Reply → List ℕ
-reply_text (Rows epoch table) =
+reply_text (reply.Rows epoch table) =
     codes "rows " ++ (decimal (length table) ++ (codes " epoch " ++ (decimal epoch ++ (codes "\n" ++ table_text table))))
-reply_text (Stored rows epoch) = codes "stored " ++ (decimal rows ++ (codes " epoch " ++ (decimal epoch ++ codes "\n")))
-reply_text (Refused refusal) = codes "refused " ++ (refusal_text refusal ++ codes "\n")
+reply_text (reply.Stored rows epoch) = codes "stored " ++ (decimal rows ++ (codes " epoch " ++ (decimal epoch ++ codes "\n")))
+reply_text (reply.Loaded rows rejected list epoch) =
+    codes "stored " ++ (decimal rows ++ (codes " rejected " ++ (decimal rejected ++ (codes " epoch " ++ (decimal epoch ++ (codes "\n" ++ flat_map rejection_text list))))))
+reply_text (reply.Dropped epoch) = at_epoch (codes "dropped epoch") epoch
+reply_text (reply.Begun epoch) = at_epoch (codes "begun") epoch
+reply_text (reply.Committed epoch) = at_epoch (codes "committed") epoch
+reply_text (reply.RolledBack epoch) = at_epoch (codes "rolled back") epoch
+reply_text (reply.Flushed epoch) = at_epoch (codes "flushed") epoch
+reply_text (reply.Purged epoch) = at_epoch (codes "purged") epoch
+reply_text (reply.Epochs counters) =
+    codes "epochs " ++ (counters_text counters ++ (codes " pending " ++ (epochs_text counters.pending ++ codes "\n")))
+reply_text (reply.Created epoch) = at_epoch (codes "created epoch") epoch
+reply_text (reply.Watching epoch table) =
+    codes "watching " ++ (decimal (length table) ++ (codes " epoch " ++ (decimal epoch ++ (codes "\n" ++ table_text table))))
+reply_text (reply.Refused refusal) = codes "refused " ++ (refusal_text refusal ++ codes "\n")
 
--- The reply to a statement of a session, behind both numbers.
+-- The reply to a statement of a session, after both numbers.
 abbrev pub numbered : ℕ → ℕ → Reply → List ℕ
 numbered session statement reply =
     decimal session ++ (codes "." ++ (decimal statement ++ (codes " " ++ reply_text reply)))

@@ -13,4 +13,4 @@ pub use journal_entry::{AbortCause, JournalEntry, LostCause};
 pub use law::{legal_journals_are_in_order, one_more_entry};
 pub use note::Note;
 pub use refusal::Refusal;
-pub use reply::Reply;
+pub use reply::{Rejection, Rejections, Reply};

@@ -5,3 +5,4 @@ pub mod RunEnds
 pub mod Rows
 pub mod Served
 pub mod OneEnd
+pub mod AnsweredActions

@@ -1,4 +1,5 @@
 pub mod Actions
+pub mod Answered
 pub mod Session
 pub mod Scripts
 pub mod Files

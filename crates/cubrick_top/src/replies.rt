@@ -3,9 +3,11 @@
 ghost use Rattle.std.specs.Prelude.{◌≡◌, ◌++◌, [], ◌∷◌, ◌==◌, codes, decimal, OnOk, replicate, if◌then◌else◌};
 ghost use Rattle.std.specs.Fmt.{signed_decimal};
 ghost use Rattle.std.specs.List.{flat_map};
-ghost use Rattle.cube_journal.specs.Replies.{sign_text, four_digits, field_text, fields_text, table_text, refusal_text, reply_text, numbered};
+ghost use Rattle.cube_journal.specs.Replies.{sign_text, four_digits, field_text, fields_text, table_text, reply_text, numbered};
+ghost use Rattle.cube_journal.specs.Refusals.{code, cause_text, refusal_text};
 ghost use Rattle.cube_language.specs.Quotes.{quoted};
 ghost use Rattle.cubrick_top.specs.Session.{end_text};
+ghost use Rattle.cubrick_top.specs.Answered.{IsSyntax, IsOfActions};
 
 use cube_journal::{Refusal, Reply};
 use cube_language::Syntax;
@@ -110,21 +112,33 @@ fn push_table(out: &mut Vec<u8>, lines: &[Line]) -> Result<(), AllocError>
 }
 
 fn push_syntax(out: &mut Vec<u8>, fault: &Syntax) -> Result<(), AllocError>
-    ensures { OnOk result (out.new.items ≡ out.old.items ++ (codes "1 Syntax at " ++ decimal fault.now.at)) }
+    ensures { OnOk result (out.new.items ≡ out.old.items ++ (codes "Syntax at " ++ decimal fault.now.at)) }
 {
-    out.extend_from_slice(b"1 Syntax at ")?;
+    out.extend_from_slice(b"Syntax at ")?;
     push_number(out, fault.at)
 }
 
-fn push_refusal(out: &mut Vec<u8>, refusal: &Refusal) -> Result<(), AllocError>
-    ensures { OnOk result (out.new.items ≡ out.old.items ++ refusal_text refusal.now) }
+fn push_cause(out: &mut Vec<u8>, refusal: &Refusal) -> Result<(), AllocError>
+    requires { IsSyntax refusal.now }
+    ensures { OnOk result (out.new.items ≡ out.old.items ++ cause_text refusal.now) }
 {
     match refusal {
         Refusal::Syntax(fault) => push_syntax(out, fault),
+        _ => unreachable!(),
     }
 }
 
+fn push_refusal(out: &mut Vec<u8>, refusal: &Refusal) -> Result<(), AllocError>
+    requires { IsSyntax refusal.now }
+    ensures { OnOk result (out.new.items ≡ out.old.items ++ refusal_text refusal.now) }
+{
+    push_number(out, u64::from(refusal.code()))?;
+    out.push(b' ')?;
+    push_cause(out, refusal)
+}
+
 fn push_reply_text(out: &mut Vec<u8>, reply: &Reply) -> Result<(), AllocError>
+    requires { IsOfActions reply.now }
     ensures { OnOk result (out.new.items ≡ out.old.items ++ reply_text reply.now) }
 {
     match reply {
@@ -148,6 +162,7 @@ fn push_reply_text(out: &mut Vec<u8>, reply: &Reply) -> Result<(), AllocError>
             push_refusal(out, refusal)?;
             Ok(out.push(b'\n')?)
         }
+        _ => unreachable!(),
     }
 }
 
@@ -158,6 +173,7 @@ pub fn push_reply(
     statement: u64,
     reply: &Reply,
 ) -> Result<(), AllocError>
+    requires { IsOfActions reply.now }
     ensures { OnOk result (out.new.items ≡ out.old.items ++ numbered session statement reply.now) }
 {
     push_number(out, session)?;

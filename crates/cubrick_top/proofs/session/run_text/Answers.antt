@@ -1,11 +1,16 @@
-use Rattle.std.proofs.Common.{◌++◌, ap, subst, ◌∙◌, ◌+◌}
+use Rattle.std.proofs.Common.{◌++◌, ap, subst, sym, ◌∙◌, ◌+◌}
 use Rattle.std.specs.Vec.Iter.{into_iter_items}
 use Rattle.cube_journal.specs.Replies.{numbered}
+use Rattle.cubrick_top.specs.Answered.{IsOfActions}
+use Rattle.cubrick_top.proofs.AnsweredActions.{reply_of_action}
 use Rattle.cubrick_top.proofs.SessionSteps.{Progress, progress_rises, progress_more}
 use Rattle.cubrick_top.proofs.session.run_text.Goals as goal
 
 pub perform-requires : goal.perform-requires
 perform-requires c = progress_rises c.actions.invariant.2
+
+pub push_reply-requires : goal.push_reply-requires
+push_reply-requires c = subst IsOfActions (sym c.in_ok-reply.ensures.reply) (reply_of_action _ _ c.in-Some.action)
 
 pub actions-preserved-in_ok-push_reply : goal.actions-preserved-in_ok-push_reply
 actions-preserved-in_ok-push_reply c =
