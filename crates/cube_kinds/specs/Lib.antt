@@ -36,4 +36,6 @@ pub use Rattle.cube_journal.specs.Counters
 pub use Rattle.cube_journal.specs.Legal
 pub use Rattle.cube_journal.specs.Order
 pub use Rattle.cube_journal.specs.JournalLines
+pub use Rattle.cube_journal.specs.Refusals
 pub use Rattle.cube_journal.specs.Replies
+pub use Rattle.cube_journal.specs.WholeText
