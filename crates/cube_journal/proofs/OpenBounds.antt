@@ -1,5 +1,5 @@
 -- The bounds of open snapshots in the order of opening.
-use Rattle.std.proofs.Common.{◌≡◌, ℕ, ◌≤◌, Bool, true, false, not, ◌==◌, List, [], ◌∷◌, ◌++◌, filter, if◌then◌else◌, refl, arith}
+use Rattle.std.proofs.Common.{◌≡◌, ℕ, ◌≤◌, Bool, true, false, not, ◌==◌, List, [], ◌∷◌, ◌++◌, if◌then◌else◌, refl, arith}
 use Rattle.cube_journal.specs.declared.counters.OpenSnapshot.{OpenSnapshot}
 use Rattle.cube_journal.specs.Counters.{oldest_bound, snapshots_without}
 use Rattle.cube_journal.specs.Order.{NeverFalls}

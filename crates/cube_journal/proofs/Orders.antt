@@ -1,19 +1,17 @@
 -- Each entry that is allowed keeps the counters in order.
-use Rattle.std.proofs.Common.{◌≡◌, ℕ, ◌+◌, ◌-◌, ◌<◌, ◌≤◌, Bool, true, false, not, ◌&&◌, ◌==◌, List, [], ◌∷◌, ◌++◌, length, fold, filter, min, nat_lt, nat_le, Option, Some, None, All, IfSome, refl, ap, sym, subst, ◌∙◌, arith}
+use Rattle.std.proofs.Common.{◌≡◌, ℕ, ◌+◌, ◌-◌, ◌<◌, ◌≤◌, Bool, true, false, not, ◌&&◌, ◌==◌, List, [], ◌∷◌, ◌++◌, fold, min, nat_lt, nat_le, Option, Some, None, All, IfSome, refl, ap, sym, subst, ◌∙◌, arith}
 use Rattle.std.proofs.lemmas.List.{append-nil}
-use Rattle.std.specs.List.{list_all}
 use Rattle.std.proofs.lemmas.Bool.Decides.{nat_tests}
 use Rattle.std.proofs.lemmas.List.Elements.{All-append, All-cons, All-nil, All-filter}
 use Rattle.std.proofs.lemmas.List.Sums.{fold-append}
-use Rattle.cube_values.specs.Sees.{admissible}
 use Rattle.cube_journal.specs.declared.counters.OpenSnapshot.{OpenSnapshot}
 use Rattle.cube_journal.specs.declared.journal_entry.JournalEntry.{JournalEntry}
 use Rattle.cube_journal.specs.declared.journal_entry.JournalEntry.TheVariants as entry
-use Rattle.cube_journal.specs.Counters.{JournalState, lce, target, oldest_bound, snapshots_without, state_after, opening_state, journal_state, ec_after, pending_after, snapshots_after, lse_after, round_after}
-use Rattle.cube_journal.specs.Legal.{CountersAllow, CountersAllowAll, MayBegin, MayRead}
+use Rattle.cube_journal.specs.Counters.{JournalState, lce, target, oldest_bound, snapshots_without, state_after, opening_state, journal_state}
+use Rattle.cube_journal.specs.Legal.{CountersAllow, CountersAllowAll}
 use Rattle.cube_journal.specs.Order.{NeverFalls, IsAdmissibleToBound, IsInOrder}
 use Rattle.cube_journal.proofs.LeastEpochs.{lt-fold, fold-rises, fold-below, fold-filter, fold-next}
-use Rattle.cube_journal.proofs.OpenBounds.{from-lower, to-higher, bounds-without, bounds-with, oldest-above, from-oldest, oldest-higher, oldest-with, oldest-without}
+use Rattle.cube_journal.proofs.OpenBounds.{to-higher, bounds-without, bounds-with, from-oldest, oldest-higher, oldest-with, oldest-without}
 
 -- What an entry may rely on: besides the order, no epoch is 0.
 record Holds (s : JournalState) : Type 0 where

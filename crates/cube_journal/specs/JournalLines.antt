@@ -1,6 +1,6 @@
 -- The journal as text, a line for each entry, and the closing line.
 -- Source: this project's own.
-use Rattle.std.specs.Prelude.{ℕ, List, [], ◌∷◌, ◌++◌, length, map, codes, decimal}
+use Rattle.std.specs.Prelude.{ℕ, List, ◌++◌, length, map, codes, decimal}
 use Rattle.std.specs.List.{flat_map, join_with_byte}
 use Rattle.cube_journal.specs.declared.counters.Counters.{Counters}
 use Rattle.cube_journal.specs.declared.journal_entry.AbortCause.{AbortCause}

@@ -9,7 +9,7 @@ use Rattle.cube_language.specs.Quotes.{quoted}
 use Rattle.cube_journal.specs.declared.reply.Rejection.{Rejection}
 use Rattle.cube_journal.specs.declared.reply.Reply.{Reply}
 use Rattle.cube_journal.specs.declared.reply.Reply.TheVariants as reply
-use Rattle.cube_journal.specs.JournalLines.{statement_text, counters_text, epochs_text}
+use Rattle.cube_journal.specs.JournalLines.{counters_text, epochs_text}
 use Rattle.cube_journal.specs.Refusals.{bad_row_text, refusal_text}
 
 -- Four digits.
