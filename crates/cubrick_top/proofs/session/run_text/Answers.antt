@@ -1,4 +1,4 @@
-use Rattle.std.proofs.Common.{◌++◌, ap, subst, sym, ◌∙◌, ◌+◌}
+use Rattle.std.proofs.Common.{◌++◌, length, ap, subst, sym, ◌∙◌, ◌+◌}
 use Rattle.std.specs.Vec.Iter.{into_iter_items}
 use Rattle.cube_journal.specs.Replies.{numbered}
 use Rattle.cubrick_top.specs.Answered.{IsOfActions}
@@ -10,7 +10,7 @@ pub perform-requires : goal.perform-requires
 perform-requires c = progress_rises c.actions.invariant.2
 
 pub push_reply-requires : goal.push_reply-requires
-push_reply-requires c = subst IsOfActions (sym c.in_ok-reply.ensures.reply) (reply_of_action _ _ c.in-Some.action)
+push_reply-requires c = subst IsOfActions (sym c.in_ok-reply.ensures.reply) (reply_of_action c.actions.transactions.items (length c.actions.transactions.items) c.in-Some.action)
 
 pub actions-preserved-in_ok-push_reply : goal.actions-preserved-in_ok-push_reply
 actions-preserved-in_ok-push_reply c =
