@@ -30,7 +30,8 @@ pub fold-below : (a : ℕ) (xs : List ℕ) → fold min a xs ≤ a
 fold-below a [] = omega arith
 fold-below a (x ∷ xs) = let le = fold-below (min a x) xs in omega arith
 
-filter-step : (b : Bool) (a x : ℕ) (xs ys : List ℕ) → fold min (min a x) xs ≤ fold min (min a x) ys → fold min a xs ≤ fold min a ys → fold min (min a x) xs ≤ fold min a (if b then x ∷ ys else ys)
+filter-step : (b : Bool) (a x : ℕ) (xs ys : List ℕ) → fold min (min a x) xs ≤ fold min (min a x) ys
+    → fold min a xs ≤ fold min a ys → fold min (min a x) xs ≤ fold min a (if b then x ∷ ys else ys)
 filter-step true a x xs ys with_x without_x = with_x
 filter-step false a x xs ys with_x without_x = let le = fold-rises (min a x) a xs (omega arith) in omega arith
 

@@ -1,3 +1,4 @@
+pub mod Digits
 pub mod LeastEpochs
 pub mod OpenBounds
 pub mod Orders

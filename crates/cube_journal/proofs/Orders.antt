@@ -20,12 +20,15 @@ record Holds (s : JournalState) : Type 0 where
   admissible : All IsAdmissibleToBound s.snapshots
   round : IfSome s.round (λ epoch. (s.lse < epoch) × (epoch ≤ target s))
 
-round-to : (round : Option ℕ) (low a b : ℕ) → a ≤ b → IfSome round (λ epoch. (low < epoch) × (epoch ≤ a)) → IfSome round (λ epoch. (low < epoch) × (epoch ≤ b))
+round-to : (round : Option ℕ) (low a b : ℕ) → a ≤ b → IfSome round (λ epoch. (low < epoch) × (epoch ≤ a))
+    → IfSome round (λ epoch. (low < epoch) × (epoch ≤ b))
 round-to None low a b le r = r
 round-to (Some epoch) low a b le r = let above = r.0 in let below = r.1 in (omega arith, omega arith)
 
 -- A snapshot opens with LCE as its bound, and LCE stays.
-with-snapshot : (s t : JournalState) (o : OpenSnapshot) → o.bound ≡ lce s → IsAdmissibleToBound o → fold min t.ec t.pending ≡ fold min s.ec s.pending → t.lse ≡ s.lse → t.round ≡ s.round → t.snapshots ≡ s.snapshots ++ o ∷ [] → Holds s → Holds t
+with-snapshot : (s t : JournalState) (o : OpenSnapshot) → o.bound ≡ lce s → IsAdmissibleToBound o
+    → fold min t.ec t.pending ≡ fold min s.ec s.pending → t.lse ≡ s.lse → t.round ≡ s.round
+    → t.snapshots ≡ s.snapshots ++ o ∷ [] → Holds s → Holds t
 with-snapshot s t o bound admits least lse round snapshots h = record {
   first = omega (arith, h.first);
   bounds = rw (lse, snapshots, least) (bounds-with s.lse (lce s) s.snapshots o bound h.bounds);
@@ -34,7 +37,8 @@ with-snapshot s t o bound admits least lse round snapshots h = record {
 }
 
 -- LCE rises, and nothing else changes.
-with-epoch : (s t : JournalState) → fold min s.ec s.pending ≤ fold min t.ec t.pending → t.lse ≡ s.lse → t.round ≡ s.round → t.snapshots ≡ s.snapshots → Holds s → Holds t
+with-epoch : (s t : JournalState) → fold min s.ec s.pending ≤ fold min t.ec t.pending → t.lse ≡ s.lse
+    → t.round ≡ s.round → t.snapshots ≡ s.snapshots → Holds s → Holds t
 with-epoch s t least lse round snapshots h =
     let higher : lce s ≤ lce t = omega arith in
     record {
@@ -45,7 +49,8 @@ with-epoch s t least lse round snapshots h =
     }
 
 -- A session's snapshot ends, and LCE may rise.
-without-snapshot : (s t : JournalState) (session : ℕ) → fold min s.ec s.pending ≤ fold min t.ec t.pending → t.lse ≡ s.lse → t.round ≡ s.round → t.snapshots ≡ snapshots_without session s.snapshots → Holds s → Holds t
+without-snapshot : (s t : JournalState) (session : ℕ) → fold min s.ec s.pending ≤ fold min t.ec t.pending
+    → t.lse ≡ s.lse → t.round ≡ s.round → t.snapshots ≡ snapshots_without session s.snapshots → Holds s → Holds t
 without-snapshot s t session least lse round snapshots h =
     let higher : lce s ≤ lce t = omega arith in
     let left = bounds-without session s.lse (lce s) s.snapshots h.bounds in
@@ -65,7 +70,8 @@ and-true : (a : Bool) → (a && true) ≡ a
 and-true true = refl
 and-true false = refl
 
-begin-holds : (s : JournalState) (session statement : ℕ) → Holds s → Holds (state_after s (entry.Begin session statement s.ec s.pending))
+begin-holds : (s : JournalState) (session statement : ℕ) → Holds s
+    → Holds (state_after s (entry.Begin session statement s.ec s.pending))
 begin-holds s session statement h =
     with-snapshot s (state_after s (entry.Begin session statement s.ec s.pending))
     (record { session = session; bound = lce s; snapshot = record { epoch = s.ec; deps = s.pending; own = true } })
@@ -73,7 +79,8 @@ begin-holds s session statement h =
     (λ e. sym (lt-fold e s.ec s.pending) ∙ writer-bound e (fold min s.ec s.pending) h.first)
     (fold-next s.ec s.pending) refl refl refl h
 
-read-holds : (s : JournalState) (session statement : ℕ) → Holds s → Holds (state_after s (entry.Read session statement (lce s)))
+read-holds : (s : JournalState) (session statement : ℕ) → Holds s
+    → Holds (state_after s (entry.Read session statement (lce s)))
 read-holds s session statement h =
     with-snapshot s (state_after s (entry.Read session statement (lce s)))
     (record { session = session; bound = lce s; snapshot = record { epoch = lce s; deps = []; own = false } })
@@ -81,7 +88,8 @@ read-holds s session statement h =
     (λ e. and-true (nat_le e (lce s)))
     refl refl refl refl h
 
-round-ends : (s t : JournalState) → t.ec ≡ s.ec → t.pending ≡ s.pending → t.lse ≡ s.lse → t.round ≡ None → t.snapshots ≡ s.snapshots → Holds s → Holds t
+round-ends : (s t : JournalState) → t.ec ≡ s.ec → t.pending ≡ s.pending → t.lse ≡ s.lse → t.round ≡ None
+    → t.snapshots ≡ s.snapshots → Holds s → Holds t
 round-ends s t ec pending lse round snapshots h = record {
   first = rw (ec, pending) h.first;
   bounds = rw (lse, snapshots, ec, pending) h.bounds;
@@ -90,7 +98,8 @@ round-ends s t ec pending lse round snapshots h = record {
 }
 
 -- The round that ends as safe went up to at most the target.
-safe-bound : (round : Option ℕ) (epoch low high : ℕ) → round ≡ Some epoch → IfSome round (λ e. (low < e) × (e ≤ high)) → epoch ≤ high
+safe-bound : (round : Option ℕ) (epoch low high : ℕ) → round ≡ Some epoch → IfSome round (λ e. (low < e) × (e ≤ high))
+    → epoch ≤ high
 safe-bound None epoch low high is r = absurd (cc)
 safe-bound (Some e) epoch low high is r = let same : e ≡ epoch = cc in let below = r.1 in omega arith
 
@@ -98,12 +107,14 @@ le-refl : (n : ℕ) → n ≤ n
 le-refl n = omega arith
 
 -- An entry that changes no counter, snapshot or round.
-quiet : (s t : JournalState) → t.ec ≡ s.ec → t.pending ≡ s.pending → t.lse ≡ s.lse → t.round ≡ s.round → t.snapshots ≡ s.snapshots → Holds s → Holds t
+quiet : (s t : JournalState) → t.ec ≡ s.ec → t.pending ≡ s.pending → t.lse ≡ s.lse → t.round ≡ s.round
+    → t.snapshots ≡ s.snapshots → Holds s → Holds t
 quiet s t ec pending lse round snapshots h =
     with-epoch s t (rw (ec, pending) (le-refl (fold min s.ec s.pending))) lse round snapshots h
 
 -- Each entry that is allowed.
-step-holds : (s : JournalState) (safe : ℕ) (before : List JournalEntry) (e : JournalEntry) → s ≡ journal_state safe before → CountersAllow safe before e → Holds s → Holds (state_after s e)
+step-holds : (s : JournalState) (safe : ℕ) (before : List JournalEntry) (e : JournalEntry)
+    → s ≡ journal_state safe before → CountersAllow safe before e → Holds s → Holds (state_after s e)
 step-holds s safe before (entry.Begin session statement epoch deps) is a h =
     let next : epoch ≡ s.ec = a.next ∙ ap (λ (x : JournalState). x.ec) (sym is) in
     let pending : deps ≡ s.pending = a.pending ∙ ap (λ (x : JournalState). x.pending) (sym is) in
@@ -154,14 +165,17 @@ step-holds s safe before (entry.Safe epoch) is a h =
 step-holds s safe before (entry.RoundLost epoch cause) is a h =
     round-ends s (state_after s (entry.RoundLost epoch cause)) refl refl refl refl refl h
 
-append-one : (before : List JournalEntry) (e : JournalEntry) (later : List JournalEntry) → (before ++ e ∷ []) ++ later ≡ before ++ (e ∷ later)
+append-one : (before : List JournalEntry) (e : JournalEntry) (later : List JournalEntry)
+    → (before ++ e ∷ []) ++ later ≡ before ++ (e ∷ later)
 append-one [] e later = refl
 append-one (x ∷ before) e later = ap (λ xs. x ∷ xs) (append-one before e later)
 
-pub state-with : (safe : ℕ) (journal : List JournalEntry) (e : JournalEntry) → journal_state safe (journal ++ e ∷ []) ≡ state_after (journal_state safe journal) e
+pub state-with : (safe : ℕ) (journal : List JournalEntry) (e : JournalEntry)
+    → journal_state safe (journal ++ e ∷ []) ≡ state_after (journal_state safe journal) e
 state-with safe journal e = fold-append state_after (opening_state safe) journal (e ∷ [])
 
-all-hold : (safe : ℕ) (before later : List JournalEntry) → CountersAllowAll safe before later → Holds (journal_state safe before) → Holds (journal_state safe (before ++ later))
+all-hold : (safe : ℕ) (before later : List JournalEntry) → CountersAllowAll safe before later
+    → Holds (journal_state safe before) → Holds (journal_state safe (before ++ later))
 all-hold safe before [] a h = subst (λ xs. Holds (journal_state safe xs)) (sym (append-nil before)) h
 all-hold safe before (e ∷ later) a h =
     subst (λ xs. Holds (journal_state safe xs)) (append-one before e later)
@@ -179,13 +193,16 @@ in-order s h = record {
   round = h.round;
 }
 
-pub legal-order : (safe : ℕ) (journal : List JournalEntry) → CountersAllowAll safe [] journal → IsInOrder (journal_state safe journal)
+pub legal-order : (safe : ℕ) (journal : List JournalEntry) → CountersAllowAll safe [] journal
+    → IsInOrder (journal_state safe journal)
 legal-order safe journal a = in-order (journal_state safe journal) (all-hold safe [] journal a (opening-holds safe))
 
-legal-more : (safe : ℕ) (before later : List JournalEntry) (e : JournalEntry) → CountersAllowAll safe before later → CountersAllow safe (before ++ later) e → CountersAllowAll safe before (later ++ e ∷ [])
+legal-more : (safe : ℕ) (before later : List JournalEntry) (e : JournalEntry) → CountersAllowAll safe before later
+    → CountersAllow safe (before ++ later) e → CountersAllowAll safe before (later ++ e ∷ [])
 legal-more safe before [] e a more = (subst (λ xs. CountersAllow safe xs e) (append-nil before) more, tt)
 legal-more safe before (x ∷ later) e a more =
     (a.0, legal-more safe (before ++ x ∷ []) later e a.1 (subst (λ xs. CountersAllow safe xs e) (sym (append-one before x later)) more))
 
-pub legal-with : (safe : ℕ) (journal : List JournalEntry) (e : JournalEntry) → CountersAllowAll safe [] journal → CountersAllow safe journal e → CountersAllowAll safe [] (journal ++ e ∷ [])
+pub legal-with : (safe : ℕ) (journal : List JournalEntry) (e : JournalEntry) → CountersAllowAll safe [] journal
+    → CountersAllow safe journal e → CountersAllowAll safe [] (journal ++ e ∷ [])
 legal-with safe journal e a more = legal-more safe [] journal e a more

@@ -61,9 +61,11 @@ snapshots_without session snapshots = filter (λ o. not (o.session == session)) 
 -- A snapshot is open from its Begin or Read to its session's Committed, Aborted or ReadEnd. Its bound is LCE before.
 abbrev pub snapshots_after : ℕ → List OpenSnapshot → JournalEntry → List OpenSnapshot
 snapshots_after bound snapshots (entry.Begin session statement epoch deps) =
-    snapshots ++ (record { session = session; bound = bound; snapshot = record { epoch = epoch; deps = deps; own = true } }) ∷ []
+    snapshots
+    ++ (record { session = session; bound = bound; snapshot = record { epoch = epoch; deps = deps; own = true } }) ∷ []
 snapshots_after bound snapshots (entry.Read session statement epoch) =
-    snapshots ++ (record { session = session; bound = bound; snapshot = record { epoch = epoch; deps = []; own = false } }) ∷ []
+    snapshots
+    ++ (record { session = session; bound = bound; snapshot = record { epoch = epoch; deps = []; own = false } }) ∷ []
 snapshots_after bound snapshots (entry.ReadEnd session statement) = snapshots_without session snapshots
 snapshots_after bound snapshots (entry.Committed session statement epoch) = snapshots_without session snapshots
 snapshots_after bound snapshots (entry.Aborted session statement epoch cause) = snapshots_without session snapshots
@@ -94,7 +96,8 @@ state_after s e = record {
 
 -- How a run begins whose store keeps all up to a safe epoch; a run without a store begins at 0.
 abbrev pub opening_state : ℕ → JournalState
-opening_state safe = record { ec = safe + 1; pending = []; lse = safe; snapshots = []; round = None; store_failed = false }
+opening_state safe =
+    record { ec = safe + 1; pending = []; lse = safe; snapshots = []; round = None; store_failed = false }
 
 -- What a journal has come to.
 abbrev pub journal_state : ℕ → List JournalEntry → JournalState

@@ -1,8 +1,7 @@
--- What each entry of a journal says: whose it is, and what it takes, opens and ends.
+-- What each entry of a journal says: whose it is, and what it takes.
 -- Source: AOSI (ICDE 2018), a transaction's epoch, deps and end; the other entries are this project's own.
-use Rattle.std.specs.Prelude.{ℕ, Bool, true, false, ◌==◌, [], Option, Some, None}
+use Rattle.std.specs.Prelude.{ℕ, Bool, true, false, ◌==◌, Option, Some, None}
 use Rattle.std.specs.Option.{option_map_or}
-use Rattle.cube_values.specs.declared.snapshot.Snapshot.{Snapshot}
 use Rattle.cube_journal.specs.declared.journal_entry.JournalEntry.{JournalEntry}
 use Rattle.cube_journal.specs.declared.journal_entry.JournalEntry.TheVariants as entry
 use Rattle.cube_journal.specs.declared.note.Note.{Note}
@@ -29,12 +28,6 @@ session_of (entry.RoundLost epoch cause) = None
 -- An entry is one of this session.
 abbrev pub is_of_session : ℕ → JournalEntry → Bool
 is_of_session session e = option_map_or (λ s. s == session) (session_of e) false
-
--- The snapshot that an entry opens: a transaction's writer, which sees all up to its epoch but its deps, or a reader.
-abbrev pub opened_by : JournalEntry → Option Snapshot
-opened_by (entry.Begin session statement epoch deps) = Some (record { epoch = epoch; deps = deps; own = true })
-opened_by (entry.Read session statement epoch) = Some (record { epoch = epoch; deps = []; own = false })
-opened_by _ = None
 
 -- An entry takes the next epoch: a transaction begins, or a cube is made.
 abbrev pub takes_epoch : JournalEntry → Bool

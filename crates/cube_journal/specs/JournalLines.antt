@@ -68,7 +68,8 @@ journal_text journal =
 
 -- The counters without the pending epochs.
 abbrev pub counters_text : Counters → List ℕ
-counters_text c = codes "ec " ++ (decimal c.ec ++ (codes " lce " ++ (decimal c.lce ++ (codes " lse " ++ decimal c.lse))))
+counters_text c =
+    codes "ec " ++ (decimal c.ec ++ (codes " lce " ++ (decimal c.lce ++ (codes " lse " ++ decimal c.lse))))
 
 -- The closing line.
 abbrev pub end_text : Counters → List ℕ

@@ -86,12 +86,16 @@ pub record WasSafe (safe session epoch : ℕ) (journal : List JournalEntry) : Ty
 
 -- The entries before a place allow this entry there, by their counters, snapshots and rounds.
 abbrev pub CountersAllow : ℕ → List JournalEntry → JournalEntry → Type 0
-CountersAllow safe before (entry.Begin session statement epoch deps) = MayBegin (journal_state safe before) session epoch deps
+CountersAllow safe before (entry.Begin session statement epoch deps) =
+    MayBegin (journal_state safe before) session epoch deps
 CountersAllow safe before (entry.Read session statement epoch) = MayRead (journal_state safe before) session epoch
 CountersAllow safe before (entry.ReadEnd session statement) = HoldsReader (journal_state safe before) session
-CountersAllow safe before (entry.Committed session statement epoch) = HoldsWriter (journal_state safe before) session epoch
-CountersAllow safe before (entry.Aborted session statement epoch cause) = HoldsWriter (journal_state safe before) session epoch
-CountersAllow safe before (entry.Refused session statement code) = code ≡ 17 → (journal_state safe before).store_failed ≡ true
+CountersAllow safe before (entry.Committed session statement epoch) =
+    HoldsWriter (journal_state safe before) session epoch
+CountersAllow safe before (entry.Aborted session statement epoch cause) =
+    HoldsWriter (journal_state safe before) session epoch
+CountersAllow safe before (entry.Refused session statement code) =
+    code ≡ 17 → (journal_state safe before).store_failed ≡ true
 CountersAllow safe before (entry.Cleared session statement) = Unit {0}
 CountersAllow safe before (entry.Show session statement) = Unit {0}
 CountersAllow safe before (entry.Flushed session statement) = WasFlushed session before
@@ -142,7 +146,8 @@ cubes_after cubes name _ = cubes
 -- Each entry, whose statement speaks of the cube of the name in its place, is allowed by the cubes before it.
 abbrev pub CubesAllowAll : List (List ℕ) → List (List ℕ) → List JournalEntry → Type 0
 CubesAllowAll cubes [] [] = Unit {0}
-CubesAllowAll cubes (name ∷ names) (e ∷ later) = CubesAllow cubes name e × CubesAllowAll (cubes_after cubes name e) names later
+CubesAllowAll cubes (name ∷ names) (e ∷ later) =
+    CubesAllow cubes name e × CubesAllowAll (cubes_after cubes name e) names later
 CubesAllowAll cubes names later = ⊥
 
 -- A journal of a run that began with a safe epoch and with cubes of these names. For each entry there is the name of

@@ -47,10 +47,14 @@ at_epoch words epoch = words ++ (codes " " ++ (decimal epoch ++ codes "\n"))
 -- What a reply says.
 abbrev pub reply_text : Reply → List ℕ
 reply_text (reply.Rows epoch table) =
-    codes "rows " ++ (decimal (length table) ++ (codes " epoch " ++ (decimal epoch ++ (codes "\n" ++ table_text table))))
-reply_text (reply.Stored rows epoch) = codes "stored " ++ (decimal rows ++ (codes " epoch " ++ (decimal epoch ++ codes "\n")))
+    codes "rows "
+    ++ (decimal (length table) ++ (codes " epoch " ++ (decimal epoch ++ (codes "\n" ++ table_text table))))
+reply_text (reply.Stored rows epoch) =
+    codes "stored " ++ (decimal rows ++ (codes " epoch " ++ (decimal epoch ++ codes "\n")))
 reply_text (reply.Loaded rows rejected list epoch) =
-    codes "stored " ++ (decimal rows ++ (codes " rejected " ++ (decimal rejected ++ (codes " epoch " ++ (decimal epoch ++ (codes "\n" ++ flat_map rejection_text list))))))
+    codes "stored "
+    ++ (decimal rows ++ (codes " rejected " ++ (decimal rejected ++ (codes " epoch "
+    ++ (decimal epoch ++ (codes "\n" ++ flat_map rejection_text list))))))
 reply_text (reply.Dropped epoch) = at_epoch (codes "dropped epoch") epoch
 reply_text (reply.Begun epoch) = at_epoch (codes "begun") epoch
 reply_text (reply.Committed epoch) = at_epoch (codes "committed") epoch
@@ -61,7 +65,8 @@ reply_text (reply.Epochs counters) =
     codes "epochs " ++ (counters_text counters ++ (codes " pending " ++ (epochs_text counters.pending ++ codes "\n")))
 reply_text (reply.Created epoch) = at_epoch (codes "created epoch") epoch
 reply_text (reply.Watching epoch table) =
-    codes "watching " ++ (decimal (length table) ++ (codes " epoch " ++ (decimal epoch ++ (codes "\n" ++ table_text table))))
+    codes "watching "
+    ++ (decimal (length table) ++ (codes " epoch " ++ (decimal epoch ++ (codes "\n" ++ table_text table))))
 reply_text (reply.Refused refusal) = codes "refused " ++ (refusal_text refusal ++ codes "\n")
 
 -- The reply to a statement of a session, after both numbers.

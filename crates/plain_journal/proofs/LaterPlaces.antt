@@ -8,7 +8,8 @@ use Rattle.cube_journal.specs.Entries.{is_of_session}
 use Rattle.cube_journal.specs.Legal.{begins_with_safe_round, PartsSince, WasFlushed, WasSafe}
 use Rattle.plain_journal.specs.Places.{flushed_in, safe_in}
 
-lse-fold : (s : JournalState) (journal : List JournalEntry) → (fold state_after s journal).lse ≡ fold lse_after s.lse journal
+lse-fold : (s : JournalState) (journal : List JournalEntry)
+    → (fold state_after s journal).lse ≡ fold lse_after s.lse journal
 lse-fold s [] = refl
 lse-fold s (e ∷ journal) = lse-fold (state_after s e) journal
 
@@ -22,7 +23,8 @@ either-or true b p f g = f refl
 either-or false b p f g = g p
 
 -- One more entry stands in front of both.
-flushed-behind : {session : ℕ} (e : JournalEntry) {journal : List JournalEntry} → WasFlushed session journal → WasFlushed session (e ∷ journal)
+flushed-behind : {session : ℕ} (e : JournalEntry) {journal : List JournalEntry} → WasFlushed session journal
+    → WasFlushed session (e ∷ journal)
 flushed-behind e w = record {
   earlier = e ∷ w.earlier;
   later = w.later;
@@ -30,7 +32,8 @@ flushed-behind e w = record {
   round = w.round;
 }
 
-flushed-found : (session : ℕ) (journal : List JournalEntry) → flushed_in session journal ≡ true → WasFlushed session journal
+flushed-found : (session : ℕ) (journal : List JournalEntry) → flushed_in session journal ≡ true
+    → WasFlushed session journal
 flushed-found session [] p = absurd (cc)
 flushed-found session (e ∷ journal) p =
     either-or _ _ p
@@ -55,12 +58,14 @@ and-not true false p q = refl
 and-not true true p q = absurd (cc)
 and-not false b p q = absurd (cc)
 
-flushed-at : (session : ℕ) (earlier later : List JournalEntry) → list_any (is_of_session session) later ≡ false → begins_with_safe_round later ≡ true → flushed_in session (earlier ++ later) ≡ true
+flushed-at : (session : ℕ) (earlier later : List JournalEntry) → list_any (is_of_session session) later ≡ false
+    → begins_with_safe_round later ≡ true → flushed_in session (earlier ++ later) ≡ true
 flushed-at session [] [] none round = absurd (cc)
 flushed-at session [] (e ∷ later) none round = or-left _ _ (and-not _ _ round none)
 flushed-at session (e ∷ earlier) later none round = or-right _ _ (flushed-at session earlier later none round)
 
-pub flushed_in_law : (session : ℕ) (journal : List JournalEntry) → IsTrue (flushed_in session journal) ↔ WasFlushed session journal
+pub flushed_in_law : (session : ℕ) (journal : List JournalEntry)
+    → IsTrue (flushed_in session journal) ↔ WasFlushed session journal
 flushed_in_law session journal = (
   flushed-found session journal,
   λ w. ap (flushed_in session) w.parts.whole ∙ flushed-at session w.earlier w.later w.parts.others w.round,
@@ -73,7 +78,8 @@ record SafeFrom (lse session epoch : ℕ) (journal : List JournalEntry) : Type 0
   parts : PartsSince session journal earlier later
   is : fold lse_after lse earlier ≡ epoch
 
-safe-behind : {lse session epoch : ℕ} (e : JournalEntry) {journal : List JournalEntry} → SafeFrom (lse_after lse e) session epoch journal → SafeFrom lse session epoch (e ∷ journal)
+safe-behind : {lse session epoch : ℕ} (e : JournalEntry) {journal : List JournalEntry}
+    → SafeFrom (lse_after lse e) session epoch journal → SafeFrom lse session epoch (e ∷ journal)
 safe-behind e w = record {
   earlier = e ∷ w.earlier;
   later = w.later;
@@ -87,7 +93,8 @@ same-number a b p = grind (arith, common_steps)
 same-test : (a b : ℕ) → a ≡ b → (a == b) ≡ true
 same-test a b p = grind (arith, common_steps)
 
-safe-found : (lse session epoch : ℕ) (journal : List JournalEntry) → safe_in lse session epoch journal ≡ true → SafeFrom lse session epoch journal
+safe-found : (lse session epoch : ℕ) (journal : List JournalEntry) → safe_in lse session epoch journal ≡ true
+    → SafeFrom lse session epoch journal
 safe-found lse session epoch [] p = record {
   earlier = [];
   later = [];
@@ -104,12 +111,14 @@ safe-found lse session epoch (e ∷ journal) p =
     })
     (λ behind. safe-behind e (safe-found (lse_after lse e) session epoch journal behind))
 
-safe-at : (lse session epoch : ℕ) (earlier later : List JournalEntry) → list_any (is_of_session session) later ≡ false → fold lse_after lse earlier ≡ epoch → safe_in lse session epoch (earlier ++ later) ≡ true
+safe-at : (lse session epoch : ℕ) (earlier later : List JournalEntry) → list_any (is_of_session session) later ≡ false
+    → fold lse_after lse earlier ≡ epoch → safe_in lse session epoch (earlier ++ later) ≡ true
 safe-at lse session epoch [] [] none is = same-test lse epoch is
 safe-at lse session epoch [] (e ∷ later) none is = or-left _ _ (and-not _ _ (same-test lse epoch is) none)
 safe-at lse session epoch (e ∷ earlier) later none is = or-right _ _ (safe-at (lse_after lse e) session epoch earlier later none is)
 
-pub safe_in_law : (safe session epoch : ℕ) (journal : List JournalEntry) → IsTrue (safe_in safe session epoch journal) ↔ WasSafe safe session epoch journal
+pub safe_in_law : (safe session epoch : ℕ) (journal : List JournalEntry)
+    → IsTrue (safe_in safe session epoch journal) ↔ WasSafe safe session epoch journal
 safe_in_law safe session epoch journal = (
   λ p. let w = safe-found safe session epoch journal p in record {
     earlier = w.earlier;

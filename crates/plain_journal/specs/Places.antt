@@ -10,10 +10,12 @@ use Rattle.cube_journal.specs.Legal.{begins_with_safe_round}
 abbrev pub flushed_in : ℕ → List JournalEntry → Bool
 flushed_in session [] = false
 flushed_in session (e ∷ later) =
-    (begins_with_safe_round (e ∷ later) && not (list_any (is_of_session session) (e ∷ later))) || flushed_in session later
+    (begins_with_safe_round (e ∷ later) && not (list_any (is_of_session session) (e ∷ later)))
+    || flushed_in session later
 
 -- At one of them, where the first has this LSE, an epoch is LSE.
 abbrev pub safe_in : ℕ → ℕ → ℕ → List JournalEntry → Bool
 safe_in lse session epoch [] = lse == epoch
 safe_in lse session epoch (e ∷ later) =
-    (lse == epoch && not (list_any (is_of_session session) (e ∷ later))) || safe_in (lse_after lse e) session epoch later
+    (lse == epoch && not (list_any (is_of_session session) (e ∷ later)))
+    || safe_in (lse_after lse e) session epoch later

@@ -25,7 +25,14 @@ impl Model for State {
 
     ghost Value = { JournalState };
 
-    ghost view = { λ s. record { ec = s.ec; pending = s.pending.items; lse = s.lse; snapshots = s.snapshots.items; round = s.round; store_failed = s.store_failed } };
+    ghost view = { λ s. record {
+      ec = s.ec;
+      pending = s.pending.items;
+      lse = s.lse;
+      snapshots = s.snapshots.items;
+      round = s.round;
+      store_failed = s.store_failed;
+    } };
 }
 
 /// What a journal has come to that began with this safe epoch. The only error is that memory runs out.
@@ -217,7 +224,8 @@ fn with_snapshot(
     bound: u64,
     snapshot: Snapshot,
 ) -> Result<Vec<OpenSnapshot>, AllocError>
-    ensures { IfOk result (λ more. more.items ≡ snapshots.items ++ (record { session = session; bound = bound; snapshot = snapshot }) ∷ []) }
+    ensures { IfOk result (λ more. more.items
+        ≡ snapshots.items ++ (record { session = session; bound = bound; snapshot = snapshot }) ∷ []) }
 {
     let mut more = snapshots;
     more.push(OpenSnapshot {

@@ -5,7 +5,8 @@ use Rattle.plain_journal.proofs.LaterPlaces.{same-number}
 use Rattle.plain_journal.proofs.cubes.is_legal_by_cubes.Goals as goal
 
 -- Where no entry is left, no name may be.
-ends : (cubes names : List (List ℕ)) (left : List JournalEntry) → length left < 1 → ((length names == 0) ≡ true → CubesAllowAll cubes names left) × (CubesAllowAll cubes names left → (length names == 0) ≡ true)
+ends : (cubes names : List (List ℕ)) (left : List JournalEntry) → length left < 1
+    → ((length names == 0) ≡ true → CubesAllowAll cubes names left) × (CubesAllowAll cubes names left → (length names == 0) ≡ true)
 ends cubes [] [] lt = (λ p. tt, λ h. refl)
 ends cubes (name ∷ names) [] lt = (λ p. absurd (omega (arith, same-number (length (name ∷ names)) 0 p)), λ h. absurd h)
 ends cubes [] (e ∷ left) lt = absurd (omega arith)
