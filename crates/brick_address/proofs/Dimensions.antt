@@ -13,7 +13,7 @@ use Rattle.brick_address.specs.declared.share.Share.{Share}
 use Rattle.brick_address.specs.declared.share.Share.TheVariants.{Whole, Empty, Partial}
 use Rattle.brick_address.specs.Addresses.{AreCoords, length_of, coord_at, LieIn}
 use Rattle.brick_address.specs.Covers.{HasAll, HasNone, HasAllAt, CutFirst, Covers}
-use Rattle.brick_address.specs.Joined.{joined}
+use Rattle.brick_address.specs.CoverParts.{cover_with}
 use Rattle.brick_address.specs.Shares.{AnswersAll, IsShare}
 use Rattle.brick_address.proofs.Bricks.{bricks_pos, first_range, other_brick, first_range_below, offset_below, coord_below, range_of_coord}
 
@@ -141,7 +141,7 @@ some_share s sizes p parts brick h b share some =
 pub joined_covers : (s : Size) (sizes : List Size) (p : Part) (parts : List Part) (brick : ℕ) (share : Share) (others : Cover)
     → All IsSoundSize (s ∷ sizes) → brick < bricks_of (s ∷ sizes)
     → IsShare (λ c. part_has p c) (coord_at s (brick / bricks_of sizes) 0) (coord_at s (brick / bricks_of sizes) (length_of s (brick / bricks_of sizes))) share
-    → Covers sizes parts (brick % bricks_of sizes) others → Covers (s ∷ sizes) (p ∷ parts) brick (joined share others)
+    → Covers sizes parts (brick % bricks_of sizes) others → Covers (s ∷ sizes) (p ∷ parts) brick (cover_with share others)
 joined_covers s sizes p parts brick Empty others h b share c = none_by_first s sizes p parts brick h share
 joined_covers s sizes p parts brick Whole Outside h b share c = none_by_others s sizes p parts brick h c
 joined_covers s sizes p parts brick Partial Outside h b share c = none_by_others s sizes p parts brick h c

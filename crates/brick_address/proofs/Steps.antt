@@ -9,7 +9,7 @@ use Rattle.brick_address.specs.declared.cover.Cover.{Cover}
 use Rattle.brick_address.specs.declared.share.Share.{Share}
 use Rattle.brick_address.specs.Addresses.{AreCoords, brick_of, range_in, length_of, coord_at}
 use Rattle.brick_address.specs.Covers.{HasAll, HasNone, Covers}
-use Rattle.brick_address.specs.Joined.{joined}
+use Rattle.brick_address.specs.CoverParts.{cover_with}
 use Rattle.brick_address.specs.Shares.{IsShare}
 use Rattle.brick_address.proofs.Dimensions.{length_pos, joined_covers, as_many, other_number}
 use Rattle.brick_address.proofs.Bricks.{bricks_pos, other_bricks, first_range_below, next_dimension, at_most_total}
@@ -84,9 +84,9 @@ no_sizes (s ∷ sizes) l = absurd (omega arith)
 pub cover_step : (sizes rest : List Size) (parts more : List Part) (s : Size) (p : Part) (brick start end : ℕ) (share : Share) (others : Cover)
     → sizes ≡ s ∷ rest → parts ≡ p ∷ more → All IsSoundSize sizes → brick < bricks_of sizes
     → start ≡ coord_at s (brick / bricks_of rest) 0 → end ≡ coord_at s (brick / bricks_of rest) (length_of s (brick / bricks_of rest))
-    → IsShare (λ c. part_has p c) start end share → Covers rest more (brick % bricks_of rest) others → Covers sizes parts brick (joined share others)
+    → IsShare (λ c. part_has p c) start end share → Covers rest more (brick % bricks_of rest) others → Covers sizes parts brick (cover_with share others)
 cover_step sizes rest parts more s p brick start end share others e f h b st en is c =
-    coe 1 0 (i. Covers (e i) (f i) brick (joined share others))
+    coe 1 0 (i. Covers (e i) (f i) brick (cover_with share others))
     (joined_covers s rest p more brick share others (subst (λ (l : List Size). All IsSoundSize l) e h) (subst (λ (l : List Size). brick < bricks_of l) e b)
     (coe 0 1 (i. IsShare (λ c. part_has p c) (st i) (en i) share) is) c)
 

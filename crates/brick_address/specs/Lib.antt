@@ -1,4 +1,4 @@
 pub mod Addresses
 pub mod Covers
-pub mod Joined
+pub mod CoverParts
 pub mod Shares

@@ -64,9 +64,14 @@ pub fn coord_of(shape: &Shape, brick: u64, dim: u32, offset: u32) -> u32
     requires shape { IsSoundShape shape.now }
     requires brick { brick < bricks_of shape.now.sizes }
     requires dim { dim < length shape.now.sizes }
-    requires offset { offset < length_of (size_at shape.now.sizes dim) (range_in shape.now.sizes brick dim) }
-    ensures value { result ≡ coord_at (size_at shape.now.sizes dim) (range_in shape.now.sizes brick dim) offset }
-    ensures only { (coords : List ℕ) → LieIn shape.now.sizes brick coords → offset_of (size_at shape.now.sizes dim) (get_or coords dim 0) ≡ offset → get_or coords dim 0 ≡ result }
+    requires offset { offset
+        < length_of (size_at shape.now.sizes dim) (range_in shape.now.sizes brick dim) }
+    ensures value { result
+        ≡ coord_at (size_at shape.now.sizes dim) (range_in shape.now.sizes brick dim) offset }
+    ensures only { (coords : List ℕ)
+        → LieIn shape.now.sizes brick coords
+        → offset_of (size_at shape.now.sizes dim) (get_or coords dim 0) ≡ offset
+        → get_or coords dim 0 ≡ result }
     ensures within { result < (size_at shape.now.sizes dim).cardinality }
 {
     let sizes = shape.sizes.as_slice();

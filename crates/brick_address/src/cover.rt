@@ -1,10 +1,11 @@
 //! How much of a brick a span has.
 
 ghost use Rattle.std.specs.Prelude.{◌≡◌, ◌<◌, ◌≤◌, ◌^◌, length, All};
+ghost use Rattle.cube_values.specs.declared.shape.TheConstants.{MOST_COLUMNS};
 ghost use Rattle.cube_values.specs.Shapes.{bricks_of, IsSoundSize, IsSoundShape};
 ghost use Rattle.cube_values.specs.Spans.{IsSoundPart};
 ghost use Rattle.brick_address.specs.Covers.{Covers};
-ghost use Rattle.brick_address.specs.Joined.{joined, IsBelow};
+ghost use Rattle.brick_address.specs.CoverParts.{cover_with, IsBelow};
 
 use crate::share::{Share, share_of};
 use crate::sizes::{bounds_of, bricks_of, ranges_of};
@@ -25,9 +26,9 @@ pub enum Cover {
 }
 
 /// The cover of a brick, from the share of its first dimension and from the cover by the others.
-fn joined(first: Share, others: Cover) -> Cover
-    requires { IsBelow others 16 }
-    ensures { result ≡ joined first others }
+fn cover_with(first: Share, others: Cover) -> Cover
+    requires { IsBelow others MOST_COLUMNS }
+    ensures { result ≡ cover_with first others }
 {
     match (first, others) {
         (Share::Empty, _) | (_, Cover::Outside) => Cover::Outside,
@@ -42,7 +43,7 @@ fn joined(first: Share, others: Cover) -> Cover
 /// How much of a brick parts have, of a cube that has so many bricks.
 fn cover_of(sizes: &[Size], parts: &[Part], bricks: u64, brick: u64) -> Cover
     requires sound { All IsSoundSize sizes.now }
-    requires dims { length sizes.now ≤ 16 }
+    requires dims { length sizes.now ≤ MOST_COLUMNS }
     requires parts { All IsSoundPart parts.now }
     requires same { length parts.now ≡ length sizes.now }
     requires bricks { bricks ≡ bricks_of sizes.now }
@@ -60,7 +61,7 @@ fn cover_of(sizes: &[Size], parts: &[Part], bricks: u64, brick: u64) -> Cover
     let bounds = bounds_of(size, brick / bricks_left);
     let first = share_of(part, bounds.start, bounds.end);
     let others = cover_of(sizes_rest, parts_rest, bricks_left, brick % bricks_left);
-    joined(first, others)
+    cover_with(first, others)
 }
 
 /// How much of a brick a span has, decided by which of the brick's coordinates the span has: all, none,

@@ -9,7 +9,13 @@ ghost use Rattle.brick_address.specs.Addresses.{size_at, AreCoords, AreOffsets, 
 /// brick and offsets, and each brick with offsets has coordinates. Each of the coordinates depends on
 /// the brick and its own offset alone.
 pub fn coords_and_addresses_agree()
-    ensures there { (sizes : List Size) (coords : List ℕ) → All IsSoundSize sizes → AreCoords sizes coords → HaveAnAddress sizes coords }
-    ensures back { (sizes : List Size) (brick : ℕ) (offsets : List ℕ) → All IsSoundSize sizes → brick < bricks_of sizes → AreOffsets sizes brick offsets → IsAnAddress sizes brick offsets }
-    ensures each { (sizes : List Size) (brick : ℕ) (offsets : List ℕ) (dim : ℕ) → AreOffsets sizes brick offsets → dim < length sizes → get_or (coords_of sizes brick offsets) dim 0 ≡ coord_at (size_at sizes dim) (range_in sizes brick dim) (get_or offsets dim 0) }
+    ensures there { (sizes : List Size) (coords : List ℕ)
+        → All IsSoundSize sizes → AreCoords sizes coords → HaveAnAddress sizes coords }
+    ensures back { (sizes : List Size) (brick : ℕ) (offsets : List ℕ)
+        → All IsSoundSize sizes → brick < bricks_of sizes
+        → AreOffsets sizes brick offsets → IsAnAddress sizes brick offsets }
+    ensures each { (sizes : List Size) (brick : ℕ) (offsets : List ℕ) (dim : ℕ)
+        → AreOffsets sizes brick offsets → dim < length sizes
+        → get_or (coords_of sizes brick offsets) dim 0
+        ≡ coord_at (size_at sizes dim) (range_in sizes brick dim) (get_or offsets dim 0) }
 {}

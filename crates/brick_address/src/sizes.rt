@@ -2,6 +2,7 @@
 
 ghost use Rattle.std.specs.Prelude.{◌≡◌, ◌≤◌, ◌<◌, ◌^◌, All};
 ghost use Rattle.brick_address.specs.Addresses.{length_of, coord_at};
+ghost use Rattle.cube_values.specs.declared.shape.TheConstants.{MOST_BRICKS};
 ghost use Rattle.cube_values.specs.Shapes.{ranges_of, bricks_of, IsSoundSize};
 
 use cube_values::Size;
@@ -18,7 +19,7 @@ pub fn ranges_of(size: &Size) -> u64
 /// The number of bricks of a cube.
 pub fn bricks_of(sizes: &[Size]) -> u64
     requires sound { All IsSoundSize sizes.now }
-    requires most { bricks_of sizes.now ≤ 2 ^ 62 }
+    requires most { bricks_of sizes.now ≤ MOST_BRICKS }
     ensures { result ≡ bricks_of sizes.now }
 {
     let mut bricks = 1;

@@ -3,7 +3,7 @@ use Rattle.std.proofs.Common.{◌≡◌, ℕ, ◌≤◌, Bool, List, [], ◌∷�
 use Rattle.std.specs.List.{items_where_true}
 use Rattle.std.specs.Vec.{with_items}
 use Rattle.std.proofs.lemmas.List.{with_items_is}
-use Rattle.brick_columns.specs.Lists.{IsGrown, IsPushed, IsKept}
+use Rattle.brick_columns.specs.Lists.{IsGrown, IsPushed, IsSelection}
 
 module _ {T : Type 0} (old column new : Vec T Global) (same : column ≡ old) where
   pub grown : new.items ≡ column.items → vec_capacity column ≤ vec_capacity new → IsGrown old new
@@ -16,7 +16,7 @@ module _ {T : Type 0} (old column new : Vec T Global) (same : column ≡ old) wh
   }
 
   -- items that were moved to the front through a slice, and cut there
-  pub kept : (bits : List Bool) (read items : List T) (n : ℕ) → read ≡ column.items → length items ≡ column.len → take n items ≡ items_where_true bits read → new.items ≡ take n (with_items column items).items → vec_capacity new ≡ vec_capacity column → IsKept bits old new
+  pub kept : (bits : List Bool) (read items : List T) (n : ℕ) → read ≡ column.items → length items ≡ column.len → take n items ≡ items_where_true bits read → new.items ≡ take n (with_items column items).items → vec_capacity new ≡ vec_capacity column → IsSelection bits old new
   kept bits read items n was long front cut memory =
       let written = ap (take n) (with_items_is column items long) in
       record {

@@ -5,9 +5,9 @@ use Rattle.std.specs.declared.vec.Vec.{Vec}
 use Rattle.std.specs.declared.alloc.Global.{Global}
 
 -- The n rows of columns: of no column, n empty rows; else each item of the first before a row of the others.
-abbrev pub rows_of : {T : Type 0} → List (Vec T Global) → ℕ → List (List T)
-rows_of [] n = replicate n []
-rows_of (column ∷ columns) n = map (λ p. p.0 ∷ p.1) (zip column.items (rows_of columns n))
+abbrev pub column_rows : {T : Type 0} → List (Vec T Global) → ℕ → List (List T)
+column_rows [] n = replicate n []
+column_rows (column ∷ columns) n = map (λ p. p.0 ∷ p.1) (zip column.items (column_rows columns n))
 
 -- Each column has n items, and memory for `room`.
 pub record AreColumns {T : Type 0} (columns : List (Vec T Global)) (n room : ℕ) : Type 0 where
@@ -15,8 +15,8 @@ pub record AreColumns {T : Type 0} (columns : List (Vec T Global)) (n room : ℕ
   pub memory : All (λ column. room ≤ vec_capacity column) columns
 
 -- Each column has memory for `more` items beside those that it has.
-abbrev pub HaveRoom : {T : Type 0} → ℕ → List (Vec T Global) → Type 0
-HaveRoom more columns = All (λ column. vec_len column + more ≤ vec_capacity column) columns
+abbrev pub HaveSpare : {T : Type 0} → ℕ → List (Vec T Global) → Type 0
+HaveSpare more columns = All (λ column. vec_len column + more ≤ vec_capacity column) columns
 
 -- A column has its items still, and memory that is no less.
 pub record IsGrown {T : Type 0} (old new : Vec T Global) : Type 0 where
@@ -29,7 +29,7 @@ pub record IsPushed {T : Type 0} (old : Vec T Global) (item : T) (new : Vec T Gl
   pub memory : vec_capacity new ≡ vec_capacity old
 
 -- A column has the items whose bit is set, in the memory that it had.
-pub record IsKept {T : Type 0} (bits : List Bool) (old new : Vec T Global) : Type 0 where
+pub record IsSelection {T : Type 0} (bits : List Bool) (old new : Vec T Global) : Type 0 where
   pub items : new.items ≡ items_where_true bits old.items
   pub memory : vec_capacity new ≡ vec_capacity old
 

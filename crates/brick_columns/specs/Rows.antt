@@ -25,7 +25,7 @@ abbrev pub layout_of : Shape → ℕ → Layout
 layout_of shape metrics = record { ranges = map (λ size. size.range) shape.sizes; metrics = metrics }
 
 -- A row of a layout: for each dimension an offset below its range size, and so many metrics.
-pub record IsRowOf (layout : Layout) (row : BrickRow) : Type 0 where
+pub record IsBrickRow (layout : Layout) (row : BrickRow) : Type 0 where
   pub offsets : AllZip ◌<◌ row.offsets layout.ranges
   pub metrics : length row.metrics ≡ layout.metrics
 

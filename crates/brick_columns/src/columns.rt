@@ -2,12 +2,13 @@
 
 ghost use Rattle.std.specs.Prelude.{◌≡◌, ℕ, ◌+◌, ◌*◌, ◌-◌, ◌^◌, ◌<◌, ◌≤◌, [], ◌∷◌, ◌++◌, length, map, min, All, IsOk, IfOk, OnOk, OnErr};
 ghost use Rattle.std.specs.List.{AllZip, items_where_true};
+ghost use Rattle.cube_values.specs.Rooms.{grown_room};
 ghost use Rattle.cube_values.specs.Shapes.{IsSoundShape};
-ghost use Rattle.brick_columns.specs.Lists.{IsGrown, HaveRoom};
-ghost use Rattle.brick_columns.specs.Rows.{layout_of, IsRowOf, row_at, offset_at, metric_at};
+ghost use Rattle.brick_columns.specs.Lists.{IsGrown, HaveSpare};
+ghost use Rattle.brick_columns.specs.Rows.{layout_of, IsBrickRow, row_at, offset_at, metric_at};
 
 use crate::lists::{empty_lists, keep_each, push_each, reserve_each};
-use cube_values::{Bits, Shape, Size};
+use cube_values::{Bits, Shape, Size, grown_room};
 use std::alloc::{AllocError, Global};
 use std::marker::Model;
 
@@ -27,9 +28,9 @@ impl Model for Columns {
 
     ghost Value = { BrickRows };
 
-    ghost use Rattle.brick_columns.specs.Whole.{seen, IsWhole};
+    ghost use Rattle.brick_columns.specs.Whole.{contract_view, IsWhole};
 
-    ghost view = { seen };
+    ghost view = { contract_view };
 
     ghost invariant = { IsWhole };
 }
@@ -54,8 +55,7 @@ impl Columns {
     }
 
     /// Makes room for `n` more rows at least. Where memory is wanted nothing changes; where there is room
-    /// already, none is. Room that grows becomes twice as large at least, as far as 64 bits count, so that
-    /// putting rows one by one takes time by their number.
+    /// already, none is. Room that grows becomes twice as large.
     pub fn reserve(&mut self, n: u64) -> Result<(), AllocError>
         ensures layout { self.new.layout ≡ self.old.layout }
         ensures rows { self.new.rows ≡ self.old.rows }
@@ -64,12 +64,11 @@ impl Columns {
         ensures same { OnErr result (self.new ≡ self.old) }
         ensures there { n ≤ self.old.spare → IsOk result }
         ensures enough { n ≤ self.old.spare → self.new ≡ self.old }
-        ensures doubled { self.old.spare < n → OnOk result
-            (min (2 * (length self.old.rows + self.old.spare)) (2 ^ 64 - 1) ≤ length self.new.rows + self.new.spare) }
+        ensures grown { OnOk result (length self.new.rows + self.new.spare
+            ≡ grown_room (length self.old.rows + self.old.spare) (length self.old.rows + n)) }
     {
         if self.room - self.rows < n {
-            let least = self.rows.checked_add(n).ok_or(AllocError)?;
-            let room = self.room.saturating_mul(2).max(least);
+            let room = room_with(self.rows, self.room, n)?;
             let more = (room - self.rows) as usize;
             reserve_all(
                 self.offsets.as_mut_slice(),
@@ -113,7 +112,7 @@ impl Columns {
     /// How many rows there are. Each is a row of the layout.
     pub fn len(&self) -> u64
         ensures len { result ≡ length self.now.rows }
-        ensures sound { All (IsRowOf self.now.layout) self.now.rows }
+        ensures sound { All (IsBrickRow self.now.layout) self.now.rows }
     {
         self.rows
     }
@@ -153,6 +152,16 @@ impl Columns {
     }
 }
 
+// The room to ask for, where `n` more rows are wanted.
+fn room_with(rows: u64, room: u64, n: u64) -> Result<u64, AllocError>
+    ensures grown { IfOk result (λ asked. asked ≡ grown_room room (rows + n)) }
+    ensures enough { IfOk result (λ asked. rows + n ≤ asked) }
+    ensures kept { IfOk result (λ asked. room ≤ asked) }
+{
+    let least = rows.checked_add(n).ok_or(AllocError)?;
+    Ok(grown_room(room, least))
+}
+
 // The range size of each dimension.
 fn ranges_of(alloc: Global, sizes: &[Size]) -> Result<Vec<u32>, AllocError>
     ensures { IfOk result (λ ranges. ranges.items ≡ map (λ size. size.range) sizes.now) }
@@ -170,8 +179,8 @@ fn reserve_all(
 ) -> Result<(), AllocError>
     ensures offsets { AllZip IsGrown offsets.old offsets.new }
     ensures metrics { AllZip IsGrown metrics.old metrics.new }
-    ensures offsets_room { OnOk result (HaveRoom more offsets.new) }
-    ensures metrics_room { OnOk result (HaveRoom more metrics.new) }
+    ensures offsets_room { OnOk result (HaveSpare more offsets.new) }
+    ensures metrics_room { OnOk result (HaveSpare more metrics.new) }
 {
     reserve_each(offsets, more)?;
     reserve_each(metrics, more)

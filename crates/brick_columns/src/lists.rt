@@ -2,7 +2,7 @@
 
 ghost use Rattle.std.specs.Prelude.{◌≡◌, ◌+◌, ◌<◌, ◌≤◌, [], length, take, All, vec_len, vec_capacity, IfOk, OnOk};
 ghost use Rattle.std.specs.List.{AllZip, items_where_true};
-ghost use Rattle.brick_columns.specs.Lists.{HaveRoom, IsGrown, IsKept, ArePushed};
+ghost use Rattle.brick_columns.specs.Lists.{HaveSpare, IsGrown, IsSelection, ArePushed};
 
 use cube_values::Bits;
 use std::alloc::{AllocError, Global};
@@ -24,7 +24,7 @@ pub fn empty_lists<T: Copy>(alloc: Global, count: usize) -> Result<Vec<Vec<T>>, 
 /// Where memory is wanted, some of the lists may have the room.
 pub fn reserve_each<T: Copy>(lists: &mut [Vec<T>], more: usize) -> Result<(), AllocError>
     ensures grown { AllZip IsGrown lists.old lists.new }
-    ensures room { OnOk result (HaveRoom more lists.new) }
+    ensures room { OnOk result (HaveSpare more lists.new) }
 {
     for list in lists.iter_mut() {
         list.reserve_exact(more)?;
@@ -35,7 +35,7 @@ pub fn reserve_each<T: Copy>(lists: &mut [Vec<T>], more: usize) -> Result<(), Al
 /// Puts each item of a row at the end of its list. It takes no memory.
 pub fn push_each<T: Copy>(lists: &mut [Vec<T>], row: &[T])
     requires width { length row.now ≡ length lists.old }
-    requires room { HaveRoom 1 lists.old }
+    requires room { HaveSpare 1 lists.old }
     ensures { ArePushed lists.old row.now lists.new }
 {
     for (i, list) in lists.iter_mut().enumerate() {
@@ -46,7 +46,7 @@ pub fn push_each<T: Copy>(lists: &mut [Vec<T>], row: &[T])
 /// Leaves in each list the items whose bit is set, in order. It takes no memory.
 pub fn keep_each<T: Copy>(lists: &mut [Vec<T>], bits: &Bits)
     requires { All (λ list. vec_len list ≡ length bits.now.bits) lists.old }
-    ensures { AllZip (IsKept bits.now.bits) lists.old lists.new }
+    ensures { AllZip (IsSelection bits.now.bits) lists.old lists.new }
 {
     for list in lists.iter_mut() {
         let left = keep_items(list.as_mut_slice(), bits);

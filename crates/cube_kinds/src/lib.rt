@@ -108,5 +108,6 @@ pub use cube_values::Transactions;
 pub use cube_values::Value;
 pub use cube_values::ValueTest;
 pub use cube_values::Values;
+pub use cube_values::average;
 pub use cube_values::grown_room;
 pub use cube_values::visible_is_what_running_leaves;

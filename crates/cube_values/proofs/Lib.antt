@@ -4,3 +4,4 @@ pub mod BitWords
 pub mod BitCounts
 pub mod BitLists
 pub mod FlatRows
+pub mod Quotients

@@ -9,6 +9,7 @@ mod epoch_list;
 mod law;
 mod operation;
 mod query;
+mod quotient;
 mod room;
 mod row;
 mod sequence;
@@ -30,6 +31,7 @@ pub use operation::{
     Condition, Conditions, Operation, Operations, Region, Transaction, Transactions, ValueTest,
 };
 pub use query::{BoundItem, BoundItems, BoundQuery, Query};
+pub use quotient::average;
 pub use room::grown_room;
 pub use row::{CodedRow, Coords, Numbers, Row, Rows, StoredRow, StoredRows};
 pub use sequence::Sequence;

@@ -11,7 +11,7 @@ use Rattle.cube_values.specs.declared.snapshot.Snapshot.{Snapshot}
 use Rattle.cube_values.specs.BitRows.{set_bits}
 use Rattle.cube_values.specs.EpochsVector.{Leads, epoch_at, is_hidden_by, is_one_with, maker, rows_after, with_entry, with_rows_after}
 use Rattle.cube_values.specs.Sees.{sees}
-use Rattle.epochs_vector.specs.Without.{staying, staying_before, others, without, ChangesNoOtherRow}
+use Rattle.epochs_vector.specs.Without.{staying_bits, set_bits_before, other_entries, entries_without, ChangesNoOtherRow}
 use Rattle.epochs_vector.proofs.Ends.{lead_more, vector_rows}
 use Rattle.epochs_vector.proofs.VisibleRows.{in_run, past_run}
 use Rattle.epochs_vector.proofs.WhatStays.{IsLeft, one_on, others_same, others_other, lead_others, left_whole, length-staying}
@@ -65,20 +65,20 @@ hidden_fold s j n [] xs = ap (list_any (is_hidden_by s j n)) (sym (append-nil xs
 hidden_fold s j n (y ∷ ys) xs = hidden_fold s j n ys (with_entry xs y) ∙ hidden_with s j n xs y ys
 
 -- rows that stay keep their order
-climbs : (kept : List Bool) (i : ℕ) (b : Bool) → get_or kept i false ≡ b → i < length kept → staying_before kept i ≤ staying_before kept (i + 1)
+climbs : (kept : List Bool) (i : ℕ) (b : Bool) → get_or kept i false ≡ b → i < length kept → set_bits_before kept i ≤ set_bits_before kept (i + 1)
 climbs kept i true e h = omega (arith, count_by_more_yes (λ (bit : Bool). bit) kept i false h e)
 climbs kept i false e h = omega (arith, count_by_more_no (λ (bit : Bool). bit) kept i false h e)
 
-rises : (kept : List Bool) (m k n : ℕ) → n ≡ m + k → n ≤ length kept → staying_before kept m ≤ staying_before kept n
-rises kept m zero n e h = let f : m ≡ n = omega arith in omega (arith, ap (staying_before kept) f)
+rises : (kept : List Bool) (m k n : ℕ) → n ≡ m + k → n ≤ length kept → set_bits_before kept m ≤ set_bits_before kept n
+rises kept m zero n e h = let f : m ≡ n = omega arith in omega (arith, ap (set_bits_before kept) f)
 rises kept m (suc k) n e h =
     let f : n ≡ m + k + 1 = omega arith in
-    omega (arith, rises kept m k (m + k) refl (omega arith), climbs kept (m + k) (get_or kept (m + k) false) refl (omega arith), ap (staying_before kept) f)
+    omega (arith, rises kept m k (m + k) refl (omega arith), climbs kept (m + k) (get_or kept (m + k) false) refl (omega arith), ap (set_bits_before kept) f)
 
-above : (kept : List Bool) (i n : ℕ) → i < n → n ≤ length kept → get_or kept i false ≡ true → staying_before kept i < staying_before kept n
+above : (kept : List Bool) (i n : ℕ) → i < n → n ≤ length kept → get_or kept i false ≡ true → set_bits_before kept i < set_bits_before kept n
 above kept i n p h k = omega (arith, count_by_more_yes (λ (bit : Bool). bit) kept i false (omega arith) k, rises kept (i + 1) (n - (i + 1)) n (omega arith) h)
 
-not_above : (kept : List Bool) (i n : ℕ) → n ≤ i → i ≤ length kept → staying_before kept n ≤ staying_before kept i
+not_above : (kept : List Bool) (i n : ℕ) → n ≤ i → i ≤ length kept → set_bits_before kept n ≤ set_bits_before kept i
 not_above kept i n p h = rises kept n (i - n) i (omega arith) h
 
 both_lt : (a b c d : ℕ) → a < b → c < d → nat_lt a b ≡ nat_lt c d
@@ -87,35 +87,35 @@ both_lt a b c d p q = grind (arith, nat_tests)
 both_ge : (a b c d : ℕ) → b ≤ a → d ≤ c → nat_lt a b ≡ nat_lt c d
 both_ge a b c d p q = grind (arith, nat_tests)
 
-same_order : (kept : List Bool) (i n : ℕ) → i < length kept → n ≤ length kept → get_or kept i false ≡ true → nat_lt (staying_before kept i) (staying_before kept n) ≡ nat_lt i n
+same_order : (kept : List Bool) (i n : ℕ) → i < length kept → n ≤ length kept → get_or kept i false ≡ true → nat_lt (set_bits_before kept i) (set_bits_before kept n) ≡ nat_lt i n
 same_order kept i n p h k = elim (cases_lt i n) [
-  | inl a ↦ let q = above kept i n a h k in both_lt (staying_before kept i) (staying_before kept n) i n q a
-  | inr a ↦ let q = not_above kept i n a (omega arith) in both_ge (staying_before kept i) (staying_before kept n) i n q a
+  | inl a ↦ let q = above kept i n a h k in both_lt (set_bits_before kept i) (set_bits_before kept n) i n q a
+  | inr a ↦ let q = not_above kept i n a (omega arith) in both_ge (set_bits_before kept i) (set_bits_before kept n) i n q a
 ]
 
 -- a row that stays is of its epoch still
-epoch_one : (epoch : ℕ) (kept : List Bool) (entry : Entry) (xs : List Entry) (from i : ℕ) (b : Bool) → (maker entry == epoch) ≡ b → IsLeft epoch kept (entry ∷ xs) from → from ≤ i → i < length kept → get_or kept i false ≡ true → (rows_after entry ≤ i → epoch_at (others epoch kept xs) (staying_before kept i) ≡ epoch_at xs i) → epoch_at (others epoch kept (entry ∷ xs)) (staying_before kept i) ≡ epoch_at (entry ∷ xs) i
-epoch_one epoch kept (Mark j at) xs from i true e k p q t later = ap (λ l. epoch_at l (staying_before kept i)) (others_same epoch kept (Mark j at) xs e) ∙ later (omega (arith, k.leads.0))
-epoch_one epoch kept (Mark j at) xs from i false e k p q t later = ap (λ l. epoch_at l (staying_before kept i)) (others_other epoch kept (Mark j at) xs e) ∙ later (omega (arith, k.leads.0))
+epoch_one : (epoch : ℕ) (kept : List Bool) (entry : Entry) (xs : List Entry) (from i : ℕ) (b : Bool) → (maker entry == epoch) ≡ b → IsLeft epoch kept (entry ∷ xs) from → from ≤ i → i < length kept → get_or kept i false ≡ true → (rows_after entry ≤ i → epoch_at (other_entries epoch kept xs) (set_bits_before kept i) ≡ epoch_at xs i) → epoch_at (other_entries epoch kept (entry ∷ xs)) (set_bits_before kept i) ≡ epoch_at (entry ∷ xs) i
+epoch_one epoch kept (Mark j at) xs from i true e k p q t later = ap (λ l. epoch_at l (set_bits_before kept i)) (others_same epoch kept (Mark j at) xs e) ∙ later (omega (arith, k.leads.0))
+epoch_one epoch kept (Mark j at) xs from i false e k p q t later = ap (λ l. epoch_at l (set_bits_before kept i)) (others_other epoch kept (Mark j at) xs e) ∙ later (omega (arith, k.leads.0))
 epoch_one epoch kept (Run j end) xs from i true e k p q t later =
-    ap (λ l. epoch_at l (staying_before kept i)) (others_same epoch kept (Run j end) xs e) ∙ elim (cases_lt i end) [
+    ap (λ l. epoch_at l (set_bits_before kept i)) (others_same epoch kept (Run j end) xs e) ∙ elim (cases_lt i end) [
       | inl a ↦ let n = one_on epoch kept (Run j end) xs from k in let f = n.here i p a ∙ ap not e in cc
       | inr a ↦ later a ∙ sym (past_run xs j end i a)
     ]
 epoch_one epoch kept (Run j end) xs from i false e k p q t later =
     let n = one_on epoch kept (Run j end) xs from k in
-    ap (λ l. epoch_at l (staying_before kept i)) (others_other epoch kept (Run j end) xs e) ∙ elim (cases_lt i end) [
-      | inl a ↦ in_run (others epoch kept xs) j (staying_before kept end) (staying_before kept i) (above kept i end a n.within t) ∙ sym (in_run xs j end i a)
-      | inr a ↦ past_run (others epoch kept xs) j (staying_before kept end) (staying_before kept i) (not_above kept i end a (omega arith)) ∙ later a ∙ sym (past_run xs j end i a)
+    ap (λ l. epoch_at l (set_bits_before kept i)) (others_other epoch kept (Run j end) xs e) ∙ elim (cases_lt i end) [
+      | inl a ↦ in_run (other_entries epoch kept xs) j (set_bits_before kept end) (set_bits_before kept i) (above kept i end a n.within t) ∙ sym (in_run xs j end i a)
+      | inr a ↦ past_run (other_entries epoch kept xs) j (set_bits_before kept end) (set_bits_before kept i) (not_above kept i end a (omega arith)) ∙ later a ∙ sym (past_run xs j end i a)
     ]
 
-epoch_there : (epoch : ℕ) (kept : List Bool) (xs : List Entry) (from i : ℕ) → IsLeft epoch kept xs from → from ≤ i → i < length kept → get_or kept i false ≡ true → epoch_at (others epoch kept xs) (staying_before kept i) ≡ epoch_at xs i
+epoch_there : (epoch : ℕ) (kept : List Bool) (xs : List Entry) (from i : ℕ) → IsLeft epoch kept xs from → from ≤ i → i < length kept → get_or kept i false ≡ true → epoch_at (other_entries epoch kept xs) (set_bits_before kept i) ≡ epoch_at xs i
 epoch_there epoch kept [] from i k p q t = refl
 epoch_there epoch kept (entry ∷ xs) from i k p q t =
     epoch_one epoch kept entry xs from i (maker entry == epoch) refl k p q t (λ a. epoch_there epoch kept xs (rows_after entry) i (one_on epoch kept entry xs from k).next a q t)
 
 -- a row that stays is hidden by the same marks
-hidden_one : (s : Snapshot) (epoch : ℕ) (kept : List Bool) (j i : ℕ) (entry : Entry) → i < length kept → rows_after entry ≤ length kept → get_or kept i false ≡ true → is_hidden_by s j (staying_before kept i) (with_rows_after entry (staying_before kept (rows_after entry))) ≡ is_hidden_by s j i entry
+hidden_one : (s : Snapshot) (epoch : ℕ) (kept : List Bool) (j i : ℕ) (entry : Entry) → i < length kept → rows_after entry ≤ length kept → get_or kept i false ≡ true → is_hidden_by s j (set_bits_before kept i) (with_rows_after entry (set_bits_before kept (rows_after entry))) ≡ is_hidden_by s j i entry
 hidden_one s epoch kept j i (Run e end) q h t = refl
 hidden_one s epoch kept j i (Mark e at) q h t = ap (λ b. sees s e && (nat_lt j e || (j == e && b))) (same_order kept i at q h t)
 
@@ -125,13 +125,13 @@ unseen_mark s epoch j i (Mark e at) u b =
     let same : e ≡ epoch = grind (arith, nat_tests) in
     ap (λ x. x && (nat_lt j e || (j == e && nat_lt i at))) (ap (sees s) same ∙ u)
 
-hidden_step : (s : Snapshot) (epoch : ℕ) (kept : List Bool) (j i : ℕ) (entry : Entry) (xs : List Entry) (b : Bool) → (maker entry == epoch) ≡ b → sees s epoch ≡ false → i < length kept → rows_after entry ≤ length kept → get_or kept i false ≡ true → list_any (is_hidden_by s j (staying_before kept i)) (others epoch kept xs) ≡ list_any (is_hidden_by s j i) xs → list_any (is_hidden_by s j (staying_before kept i)) (others epoch kept (entry ∷ xs)) ≡ list_any (is_hidden_by s j i) (entry ∷ xs)
+hidden_step : (s : Snapshot) (epoch : ℕ) (kept : List Bool) (j i : ℕ) (entry : Entry) (xs : List Entry) (b : Bool) → (maker entry == epoch) ≡ b → sees s epoch ≡ false → i < length kept → rows_after entry ≤ length kept → get_or kept i false ≡ true → list_any (is_hidden_by s j (set_bits_before kept i)) (other_entries epoch kept xs) ≡ list_any (is_hidden_by s j i) xs → list_any (is_hidden_by s j (set_bits_before kept i)) (other_entries epoch kept (entry ∷ xs)) ≡ list_any (is_hidden_by s j i) (entry ∷ xs)
 hidden_step s epoch kept j i entry xs true e u q h t later =
-    ap (list_any (is_hidden_by s j (staying_before kept i))) (others_same epoch kept entry xs e) ∙ later ∙ ap (λ b. b || list_any (is_hidden_by s j i) xs) (sym (unseen_mark s epoch j i entry u e))
+    ap (list_any (is_hidden_by s j (set_bits_before kept i))) (others_same epoch kept entry xs e) ∙ later ∙ ap (λ b. b || list_any (is_hidden_by s j i) xs) (sym (unseen_mark s epoch j i entry u e))
 hidden_step s epoch kept j i entry xs false e u q h t later =
-    ap (list_any (is_hidden_by s j (staying_before kept i))) (others_other epoch kept entry xs e) ∙ (λ n. hidden_one s epoch kept j i entry q h t n || later n)
+    ap (list_any (is_hidden_by s j (set_bits_before kept i))) (others_other epoch kept entry xs e) ∙ (λ n. hidden_one s epoch kept j i entry q h t n || later n)
 
-hidden_there : (s : Snapshot) (epoch : ℕ) (kept : List Bool) (j i : ℕ) (xs : List Entry) (from : ℕ) → IsLeft epoch kept xs from → sees s epoch ≡ false → i < length kept → get_or kept i false ≡ true → list_any (is_hidden_by s j (staying_before kept i)) (others epoch kept xs) ≡ list_any (is_hidden_by s j i) xs
+hidden_there : (s : Snapshot) (epoch : ℕ) (kept : List Bool) (j i : ℕ) (xs : List Entry) (from : ℕ) → IsLeft epoch kept xs from → sees s epoch ≡ false → i < length kept → get_or kept i false ≡ true → list_any (is_hidden_by s j (set_bits_before kept i)) (other_entries epoch kept xs) ≡ list_any (is_hidden_by s j i) xs
 hidden_there s epoch kept j i [] from k u q t = refl
 hidden_there s epoch kept j i (entry ∷ xs) from k u q t =
     let n = one_on epoch kept entry xs from k in
@@ -147,9 +147,9 @@ alike s a b f g e h = ap (λ o. option_map_or (λ j. sees s j && not (f j)) o fa
 
 pub no_other_row : ChangesNoOtherRow
 no_other_row s epoch rows entries v u i p t =
-    let kept : List Bool = staying epoch entries in
+    let kept : List Bool = staying_bits epoch entries in
     let k = left_whole epoch entries rows v in
     let q : i < length kept = omega (arith, length-staying epoch entries, vector_rows entries rows v) in
     let on : get_or kept i false ≡ true = k.true_to i (omega arith) q ∙ t in
-    let n : ℕ = staying_before kept i in
-    alike s (epoch_at (without epoch entries) n) (epoch_at entries i) (λ j. list_any (is_hidden_by s j n) (without epoch entries)) (λ j. list_any (is_hidden_by s j i) entries) (epoch_fold (others epoch kept entries) [] n 0 0 (set_bits kept) refl (lead_others epoch kept entries 0 k) ∙ epoch_there epoch kept entries 0 i k (omega arith) q on) (λ j. hidden_fold s j n (others epoch kept entries) [] ∙ hidden_there s epoch kept j i entries 0 k u q on)
+    let n : ℕ = set_bits_before kept i in
+    alike s (epoch_at (entries_without epoch entries) n) (epoch_at entries i) (λ j. list_any (is_hidden_by s j n) (entries_without epoch entries)) (λ j. list_any (is_hidden_by s j i) entries) (epoch_fold (other_entries epoch kept entries) [] n 0 0 (set_bits kept) refl (lead_others epoch kept entries 0 k) ∙ epoch_there epoch kept entries 0 i k (omega arith) q on) (λ j. hidden_fold s j n (other_entries epoch kept entries) [] ∙ hidden_there s epoch kept j i entries 0 k u q on)

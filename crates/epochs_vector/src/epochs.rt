@@ -4,15 +4,17 @@ ghost use Rattle.std.specs.Prelude.{◌≡◌, ◌+◌, ◌^◌, ◌<◌, ◌≤
 ghost use Rattle.cube_values.specs.BitRows.{set_bits};
 ghost use Rattle.cube_values.specs.EpochsVector.{IsVector, rows_of, with_entry};
 ghost use Rattle.cube_values.specs.declared.entry.Entry.TheVariants.{Run, Mark};
+ghost use Rattle.cube_values.specs.Rooms.{grown_room};
+ghost use Rattle.epochs_vector.specs.Entries.{room_of};
 ghost use Rattle.epochs_vector.specs.Seen.{seen_rows};
 ghost use Rattle.epochs_vector.specs.Changed.{LeavesVector};
-ghost use Rattle.epochs_vector.specs.Without.{staying, without};
+ghost use Rattle.epochs_vector.specs.Without.{staying_bits, entries_without};
 
 use crate::entry_list::put_last;
 use crate::limit::limit_of;
 use crate::shown::show_rows;
 use crate::without::take_out;
-use cube_values::{Bits, Entry, Snapshot};
+use cube_values::{Bits, Entry, Snapshot, grown_room};
 use std::alloc::{AllocError, Global};
 use std::marker::Model;
 
@@ -48,24 +50,30 @@ impl Epochs {
     }
 
     /// Makes room for `n` more entries at least. Where memory is wanted nothing changes; where there is
-    /// room already, none is.
+    /// room already, none is. Room that grows becomes twice as large.
     pub fn reserve(&mut self, n: u64) -> Result<(), AllocError>
         ensures entries { self.new.entries ≡ self.old.entries }
-        ensures room { OnOk result (n ≤ self.new.spare) }
-        ensures kept { self.old.spare ≤ self.new.spare }
+        ensures enough { OnOk result (n ≤ self.new.spare) }
+        ensures room { OnOk result (room_of self.new
+            ≡ grown_room (room_of self.old) (length self.old.entries + n)) }
         ensures same { OnErr result (self.new ≡ self.old) }
         ensures there { n ≤ self.old.spare → IsOk result }
     {
-        self.entries.reserve(n as usize)
+        let len = self.entries.len() as u64;
+        let least = len.checked_add(n).ok_or(AllocError)?;
+        let room = grown_room(self.entries.capacity() as u64, least);
+        self.entries.reserve_exact((room - len) as usize)
     }
 
-    /// Says that `epoch` appended the next `n` rows. It takes no memory.
+    /// Says that `epoch` appended the next `n` rows. It takes no memory, and no spare place where the last
+    /// entry is a run of the epoch.
     pub fn append_rows(&mut self, epoch: u64, n: u64)
         requires some { 1 ≤ n }
         requires room { 1 ≤ self.old.spare }
         requires fit { rows_of self.old.entries + n < 2 ^ 64 }
         ensures entries { self.new.entries
             ≡ with_entry self.old.entries (Run epoch (rows_of self.old.entries + n)) }
+        ensures room { room_of self.new ≡ room_of self.old }
         ensures spare { self.old.spare ≤ self.new.spare + 1 }
     {
         self.rows += n;
@@ -78,11 +86,13 @@ impl Epochs {
         );
     }
 
-    /// Says that `epoch` deleted here. A mark equal to the last entry adds nothing. It takes no memory.
+    /// Says that `epoch` deleted here. A mark equal to the last entry adds nothing and takes no spare place.
+    /// It takes no memory.
     pub fn mark(&mut self, epoch: u64)
         requires { 1 ≤ self.old.spare }
         ensures entries { self.new.entries
             ≡ with_entry self.old.entries (Mark epoch (rows_of self.old.entries)) }
+        ensures room { room_of self.new ≡ room_of self.old }
         ensures spare { self.old.spare ≤ self.new.spare + 1 }
     {
         put_last(
@@ -112,11 +122,11 @@ impl Epochs {
     /// A bit for each row, set where the snapshot sees the row: where it sees the row's epoch, and no
     /// mark that hides the row. The work is linear in entries and words of bits.
     /// It is an error where memory is wanted.
-    pub fn visible_bits(&self, alloc: Global, snapshot: &Snapshot) -> Result<Bits, AllocError>
+    pub fn visible_bits(&self, snapshot: &Snapshot) -> Result<Bits, AllocError>
         ensures bits { IfOk result (λ bits. bits.bits ≡ seen_rows snapshot.now self.now.entries) }
         ensures room { IfOk result (λ bits. bits.room ≡ rows_of self.now.entries) }
     {
-        let mut bits = Bits::new(alloc, self.rows)?;
+        let mut bits = Bits::new(*self.entries.allocator(), self.rows)?;
         let limit = limit_of(self.entries.as_slice(), snapshot);
         show_rows(&mut bits, self.entries.as_slice(), snapshot, &limit);
         Ok(bits)
@@ -126,9 +136,9 @@ impl Epochs {
     /// all set, and is left set where the row stays. It takes no memory.
     pub fn remove_epoch(&mut self, epoch: u64, keep: &mut Bits)
         requires { keep.old.bits ≡ replicate (rows_of self.old.entries) true }
-        ensures entries { self.new.entries ≡ without epoch self.old.entries }
+        ensures entries { self.new.entries ≡ entries_without epoch self.old.entries }
         ensures rows { rows_of self.new.entries ≡ set_bits keep.new.bits }
-        ensures keep { keep.new.bits ≡ staying epoch self.old.entries }
+        ensures keep { keep.new.bits ≡ staying_bits epoch self.old.entries }
         ensures room { keep.new.room ≡ keep.old.room }
         ensures spare { self.old.spare ≤ self.new.spare }
     {
@@ -154,7 +164,8 @@ impl Epochs {
             → F.post change entries bits tt after left
             → entries.now.items ≡ self.old.entries
             → bits.now ≡ keep.old
-            → LeavesVector after.now.items left.now.bits (length self.old.entries) (vec_capacity entries.now) (vec_capacity after.now) }
+            → LeavesVector after.now.items left.now.bits (length self.old.entries)
+            (vec_capacity entries.now) (vec_capacity after.now) }
         ensures change { (entries : _) × (bits : _) × (after : _) × (left : _)
             × F.post change entries bits tt after left
             × (entries.now.items ≡ self.old.entries)

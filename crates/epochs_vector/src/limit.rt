@@ -2,7 +2,7 @@
 
 ghost use Rattle.std.specs.Prelude.{◌≡◌, ℕ, ◌<◌, ◌≤◌, ◌||◌, nat_lt};
 ghost use Rattle.std.specs.List.{list_any};
-ghost use Rattle.cube_values.specs.EpochsVector.{is_hidden_by};
+ghost use Rattle.cube_values.specs.EpochsVector.{is_hidden_by, mark_hides};
 ghost use Rattle.epochs_vector.specs.Limits.{is_below};
 
 use cube_values::{Entry, Snapshot};
@@ -17,7 +17,7 @@ pub struct Limit {
 impl Limit {
     /// The greater of the limit and a mark of `epoch` at row `at`: what either hides.
     pub fn or(self, epoch: u64, at: u64) -> Limit
-        ensures { (j i : ℕ) → is_below result j i ≡ (is_below self j i || is_below (record { epoch = epoch; row = at }) j i) }
+        ensures { (j i : ℕ) → is_below result j i ≡ (is_below self j i || mark_hides epoch at j i) }
     {
         if self.epoch < epoch || (self.epoch == epoch && self.row < at) {
             Limit { epoch, row: at }
@@ -45,18 +45,20 @@ impl Limit {
 
 /// What the marks hide that the snapshot sees.
 pub(crate) fn limit_of(entries: &[Entry], snapshot: &Snapshot) -> Limit
-    ensures { (j i : ℕ) → list_any (is_hidden_by snapshot.now j i) entries.now ≡ is_below result j i }
+    ensures { (j i : ℕ)
+        → list_any (is_hidden_by snapshot.now j i) entries.now ≡ is_below result j i }
 {
     let mut limit = Limit { epoch: 0, row: 0 };
     for entry in entries {
-        limit = with_entry(limit, *entry, snapshot);
+        limit = with_mark(limit, *entry, snapshot);
     }
     limit
 }
 
 // What the limit hides and the entry besides, where it is a mark that the snapshot sees.
-fn with_entry(limit: Limit, entry: Entry, snapshot: &Snapshot) -> Limit
-    ensures { (j i : ℕ) → is_below result j i ≡ (is_below limit j i || is_hidden_by snapshot.now j i entry) }
+fn with_mark(limit: Limit, entry: Entry, snapshot: &Snapshot) -> Limit
+    ensures { (j i : ℕ)
+        → is_below result j i ≡ (is_below limit j i || is_hidden_by snapshot.now j i entry) }
 {
     match entry {
         Entry::Run { .. } => limit,

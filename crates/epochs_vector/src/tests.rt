@@ -116,7 +116,7 @@ fn runs_are_extended_and_seen(rt: HostRuntime) -> Result<(), AllocError> {
     put(&mut epochs, 1, 4)?;
     runs[2] = Entry::Run { epoch: 1, end: 10 };
     assert_eq!(rt; epochs.entries(), runs.as_slice());
-    let bits = epochs.visible_bits(rt.alloc(), &reader(1))?;
+    let bits = epochs.visible_bits(&reader(1))?;
     let seen = [
         true, true, false, false, false, true, true, true, true, true,
     ];
@@ -189,7 +189,7 @@ fn bits_are_those_of_a_plain_look(rt: HostRuntime) -> Result<(), AllocError> {
     for case in 0..3000 {
         let epochs = some_epochs(&rt, &mut seed)?;
         let snapshot = some_snapshot(&mut seed);
-        let bits = epochs.visible_bits(rt.alloc(), &snapshot)?;
+        let bits = epochs.visible_bits(&snapshot)?;
         assert_eq!(rt; bits.len(), epochs.rows(), "case {case}");
         for row in 0..bits.len() {
             let plain = sees_plainly(epochs.entries(), &snapshot, row);
@@ -209,11 +209,11 @@ fn removal_changes_no_other_row(rt: HostRuntime) -> Result<(), AllocError> {
         if snapshot.sees(epoch) && snapshot.deps.as_slice().len() < EpochList::MOST {
             snapshot.deps.push(epoch);
         }
-        let before = epochs.visible_bits(rt.alloc(), &snapshot)?;
+        let before = epochs.visible_bits(&snapshot)?;
         let mut keep = Bits::new(rt.alloc(), epochs.rows())?;
         keep.reset(epochs.rows());
         epochs.remove_epoch(epoch, &mut keep);
-        let after = epochs.visible_bits(rt.alloc(), &snapshot)?;
+        let after = epochs.visible_bits(&snapshot)?;
         assert_eq!(rt; keep.len(), before.len(), "case {case}");
         assert_eq!(rt; keep.ones(), after.len(), "case {case}");
         let mut left = 0;

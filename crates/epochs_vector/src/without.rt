@@ -3,7 +3,7 @@
 ghost use Rattle.std.specs.Prelude.{◌≡◌, ℕ, ◌+◌, ◌<◌, ◌≤◌, true, length, take, drop, replicate};
 ghost use Rattle.cube_values.specs.BitRows.{set_bits};
 ghost use Rattle.cube_values.specs.EpochsVector.{IsVector, with_entry};
-ghost use Rattle.epochs_vector.specs.Without.{staying, without};
+ghost use Rattle.epochs_vector.specs.Without.{staying_bits, entries_without};
 
 use cube_values::{Bits, Entry};
 
@@ -18,10 +18,10 @@ pub struct Left {
 pub fn take_out(entries: &mut [Entry], epoch: u64, keep: &mut Bits) -> Left
     requires vector { IsVector entries.old (length keep.old.bits) }
     requires all { keep.old.bits ≡ replicate (length keep.old.bits) true }
-    ensures front { take result.entries entries.new ≡ without epoch entries.old }
+    ensures front { take result.entries entries.new ≡ entries_without epoch entries.old }
     ensures within { result.entries ≤ length entries.old }
-    ensures rows { result.rows ≡ set_bits (staying epoch entries.old) }
-    ensures keep { keep.new.bits ≡ staying epoch entries.old }
+    ensures rows { result.rows ≡ set_bits (staying_bits epoch entries.old) }
+    ensures keep { keep.new.bits ≡ staying_bits epoch entries.old }
     ensures room { keep.new.room ≡ keep.old.room }
 {
     let mut len = 0;

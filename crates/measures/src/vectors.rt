@@ -62,10 +62,11 @@ impl Work for Visible {
     }
 
     /// The checksum is the number of rows that are seen.
-    fn work(&mut self, alloc: Global) -> Result<u64, AllocError>
-        ensures { IfOk result (λ sum. sum ≡ set_bits (seen_rows self.old.snapshot self.old.epochs.entries)) }
+    fn work(&mut self, _alloc: Global) -> Result<u64, AllocError>
+        ensures { IfOk result (λ sum. sum
+            ≡ set_bits (seen_rows self.old.snapshot self.old.epochs.entries)) }
     {
-        let bits = self.epochs.visible_bits(alloc, &self.snapshot)?;
+        let bits = self.epochs.visible_bits(&self.snapshot)?;
         Ok(bits.ones())
     }
 }

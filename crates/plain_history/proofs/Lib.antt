@@ -1,2 +1,1 @@
-pub mod Quotients
 pub mod KeyPlaces

@@ -4,8 +4,8 @@ ghost use Rattle.std.specs.Prelude.{◌≡◌, map, IfOk};
 ghost use Rattle.cube_values.specs.Answer.{field_of, sum_of, least_of, greatest_of, average_of, shared_value, item_of};
 
 use crate::keys::{ABSENT, value_or};
-use crate::numbers::{average, greatest, least, metric_of, total};
-use cube_values::{BoundItem, Field, Line, Row, Sequence, Value};
+use crate::numbers::{greatest, least, metric_of, total};
+use cube_values::{BoundItem, Field, Line, Row, Sequence, Value, average};
 use std::alloc::{AllocError, Global};
 
 /// The items of a group, in order.
@@ -84,6 +84,6 @@ fn average_of(numbers: &[i64]) -> Field
 {
     match numbers {
         [] => Field::Null,
-        _ => average(total(numbers), numbers.len()),
+        _ => average(total(numbers), numbers.len() as u64),
     }
 }

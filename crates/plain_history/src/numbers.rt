@@ -1,15 +1,16 @@
-//! Sums, extremes and averages of numbers.
+//! Sums and extremes of numbers.
 
-ghost use Rattle.std.specs.Prelude.{◌≡◌, ◌<◌, ◌==◌, ◌&&◌, not, map, fold, pos, slice_get, unwrap_or, IfOk};
-ghost use Rattle.std.specs.Int.{int_min, int_max, is_negative};
-ghost use Rattle.cube_values.specs.Answer.{metric_of, total, average};
+ghost use Rattle.std.specs.Prelude.{◌≡◌, map, fold, pos, slice_get, unwrap_or, IfOk};
+ghost use Rattle.std.specs.Int.{int_min, int_max};
+ghost use Rattle.cube_values.specs.Answer.{metric_of, total};
 
-use cube_values::{Field, Row};
+use cube_values::Row;
 use std::alloc::{AllocError, Global};
 
 /// A metric of rows. Where a row has none, it is 0.
 pub fn metric_of(alloc: Global, metric: u32, rows: &[&Row]) -> Result<Vec<i64>, AllocError>
-    ensures { IfOk result (λ numbers. numbers.items ≡ metric_of metric (map (λ r. r.now) rows.now)) }
+    ensures { IfOk result (λ numbers. numbers.items
+        ≡ metric_of metric (map (λ r. r.now) rows.now)) }
 {
     let mut numbers = Vec::new(alloc);
     for row in rows {
@@ -59,25 +60,4 @@ pub fn greatest(first: i64, numbers: &[i64]) -> i64
         greatest = greatest.max(*n);
     }
     greatest
-}
-
-/// A sum divided by a count, cut toward zero to four decimals. The whole part comes first, and only the
-/// remainder, which is below the count, is multiplied.
-pub fn average(sum: i128, count: usize) -> Field
-    requires { 0 < count }
-    ensures { result ≡ average sum count }
-{
-    let size = sum.unsigned_abs();
-    let parts = count as u128;
-    let whole = size / parts;
-    let four = (size % parts * 10_000 / parts) as u16;
-    let neg = is_below_zero(sum, whole, four);
-    Field::Decimal { neg, whole, four }
-}
-
-/// Whether these parts are those of a number below zero: there is no negative 0.
-fn is_below_zero(sum: i128, whole: u128, four: u16) -> bool
-    ensures { result ≡ (is_negative sum && not (whole == 0 && four == 0)) }
-{
-    sum < 0 && !(whole == 0 && four == 0)
 }

@@ -20,7 +20,8 @@ pub fn visible_rows<'a>(
     transactions: &'a [Transaction],
 ) -> Result<Vec<&'a StoredRow>, AllocError>
     requires { RisesByEpoch transactions.now }
-    ensures { IfOk result (λ rows. map (λ r. r.now) rows.items ≡ visible_rows snapshot.now transactions.now) }
+    ensures { IfOk result (λ rows. map (λ r. r.now) rows.items
+        ≡ visible_rows snapshot.now transactions.now) }
 {
     visible_is_what_running_leaves();
     rows_left_by(alloc, snapshot, transactions)
@@ -32,7 +33,8 @@ fn rows_left_by<'a>(
     snapshot: &Snapshot,
     transactions: &'a [Transaction],
 ) -> Result<Vec<&'a StoredRow>, AllocError>
-    ensures { IfOk result (λ rows. map (λ r. r.now) rows.items ≡ rows_left_by (filter (λ t. sees snapshot.now t.epoch) transactions.now)) }
+    ensures { IfOk result (λ rows. map (λ r. r.now) rows.items
+        ≡ rows_left_by (filter (λ t. sees snapshot.now t.epoch) transactions.now)) }
 {
     let mut rows = Vec::new(alloc);
     for transaction in transactions {
@@ -49,7 +51,8 @@ fn after_transaction<'a>(
     rows: Vec<&'a StoredRow>,
     operations: &'a [Operation],
 ) -> Result<Vec<&'a StoredRow>, AllocError>
-    ensures { IfOk result (λ after. map (λ r. r.now) after.items ≡ fold after_operation (map (λ r. r.now) rows.entry.items) operations.now) }
+    ensures { IfOk result (λ after. map (λ r. r.now) after.items
+        ≡ fold after_operation (map (λ r. r.now) rows.entry.items) operations.now) }
 {
     let mut after = rows;
     for operation in operations {
@@ -64,7 +67,8 @@ fn after_operation<'a>(
     rows: Vec<&'a StoredRow>,
     operation: &'a Operation,
 ) -> Result<Vec<&'a StoredRow>, AllocError>
-    ensures { IfOk result (λ after. map (λ r. r.now) after.items ≡ after_operation (map (λ r. r.now) rows.entry.items) operation.now) }
+    ensures { IfOk result (λ after. map (λ r. r.now) after.items
+        ≡ after_operation (map (λ r. r.now) rows.entry.items) operation.now) }
 {
     match operation {
         Operation::Put(new) => with_rows(rows, new.as_slice()),
@@ -77,7 +81,8 @@ fn with_rows<'a>(
     rows: Vec<&'a StoredRow>,
     new: &'a [StoredRow],
 ) -> Result<Vec<&'a StoredRow>, AllocError>
-    ensures { IfOk result (λ after. map (λ r. r.now) after.items ≡ map (λ r. r.now) rows.entry.items ++ new.now) }
+    ensures { IfOk result (λ after. map (λ r. r.now) after.items
+        ≡ map (λ r. r.now) rows.entry.items ++ new.now) }
 {
     let mut after = rows;
     for row in new {
@@ -92,7 +97,8 @@ fn outside<'a>(
     region: &Region,
     rows: &[&'a StoredRow],
 ) -> Result<Vec<&'a StoredRow>, AllocError>
-    ensures { IfOk result (λ after. map (λ r. r.now) after.items ≡ filter (λ row. not (region_has region.now row)) (map (λ r. r.now) rows.now)) }
+    ensures { IfOk result (λ after. map (λ r. r.now) after.items
+        ≡ filter (λ row. not (region_has region.now row)) (map (λ r. r.now) rows.now)) }
 {
     let mut after = Vec::new(alloc);
     for row in rows {

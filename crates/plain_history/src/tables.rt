@@ -31,7 +31,8 @@ fn rows_of<'a>(
     region: &Region,
     rows: &[&'a StoredRow],
 ) -> Result<Vec<&'a Row>, AllocError>
-    ensures { IfOk result (λ taken. map (λ r. r.now) taken.items ≡ map (λ stored. stored.row) (filter (region_has region.now) (map (λ r. r.now) rows.now))) }
+    ensures { IfOk result (λ taken. map (λ r. r.now) taken.items
+        ≡ map (λ stored. stored.row) (filter (region_has region.now) (map (λ r. r.now) rows.now))) }
 {
     let mut taken = Vec::new(alloc);
     for stored in rows {
@@ -49,7 +50,8 @@ fn table_of(
     items: &[BoundItem],
     rows: &[&Row],
 ) -> Result<Table, AllocError>
-    ensures { IfOk result (λ table. table ≡ table_of group.now items.now (map (λ r. r.now) rows.now)) }
+    ensures { IfOk result (λ table. table
+        ≡ table_of group.now items.now (map (λ r. r.now) rows.now)) }
 {
     match group {
         [] => one_line(alloc, items, rows),
@@ -62,7 +64,8 @@ fn table_of(
 
 /// All rows in one line.
 fn one_line(alloc: Global, items: &[BoundItem], rows: &[&Row]) -> Result<Table, AllocError>
-    ensures { IfOk result (λ table. table ≡ map (item_of (map (λ r. r.now) rows.now)) items.now ∷ []) }
+    ensures { IfOk result (λ table. table
+        ≡ map (item_of (map (λ r. r.now) rows.now)) items.now ∷ []) }
 {
     let mut lines = Vec::new(alloc);
     lines.push(line_of(alloc, items, rows)?)?;
@@ -77,7 +80,9 @@ fn lines_of(
     rows: &[&Row],
     firsts: &[&Row],
 ) -> Result<Table, AllocError>
-    ensures { IfOk result (λ table. table ≡ map (line_of_key group.now items.now (map (λ r. r.now) rows.now)) (map (λ r. key_of group.now r.now) firsts.now)) }
+    ensures { IfOk result (λ table. table
+        ≡ map (line_of_key group.now items.now (map (λ r. r.now) rows.now))
+        (map (λ r. key_of group.now r.now) firsts.now)) }
 {
     let mut lines = Vec::new(alloc);
     for first in firsts {
@@ -94,7 +99,8 @@ fn group_line(
     rows: &[&Row],
     first: &Row,
 ) -> Result<Line, AllocError>
-    ensures { IfOk result (λ line. line ≡ line_of_key group.now items.now (map (λ r. r.now) rows.now) (key_of group.now first.now)) }
+    ensures { IfOk result (λ line. line
+        ≡ line_of_key group.now items.now (map (λ r. r.now) rows.now) (key_of group.now first.now)) }
 {
     let like = rows_like(alloc, group, rows, first)?;
     line_of(alloc, items, like.as_slice())

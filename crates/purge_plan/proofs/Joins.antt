@@ -5,29 +5,29 @@ use Rattle.cube_values.specs.declared.entry.Entry.{Entry}
 use Rattle.cube_values.specs.declared.entry.Entry.TheVariants.{Run, Mark}
 use Rattle.cube_values.specs.EpochsVector.{IsVector, Leads, NeighboursApart, is_one_with, rows_from, rows_of, with_entry}
 use Rattle.epochs_vector.proofs.Ends.{vector_rows, vector_more}
-use Rattle.purge_plan.specs.Purged.{are_old_runs, joined, with_joined, with_counted}
+use Rattle.purge_plan.specs.Purged.{are_old_runs, merged_entry, with_merged_entry, with_counted_entry}
 
 -- the list with one more entry, where it is joined with the last and where it comes after it
-pub put_over : (p : ℕ) (xs : List Entry) (n : ℕ) (d new : Entry) → length xs ≡ n + 1 → (is_one_with (get_or xs n d) new || are_old_runs p (get_or xs n d) new) ≡ true → slice_set xs n (joined (get_or xs n d) new) ≡ with_joined p xs new
+pub put_over : (p : ℕ) (xs : List Entry) (n : ℕ) (d new : Entry) → length xs ≡ n + 1 → (is_one_with (get_or xs n d) new || are_old_runs p (get_or xs n d) new) ≡ true → slice_set xs n (merged_entry (get_or xs n d) new) ≡ with_merged_entry p xs new
 put_over p [] n d new l h = absurd (omega arith)
 put_over p (x ∷ []) zero d new l h = let f : (is_one_with x new || are_old_runs p x new) ≡ true = h in rw f
 put_over p (x ∷ []) (suc n) d new l h = absurd (omega arith)
 put_over p (x ∷ y ∷ xs) zero d new l h = absurd (omega arith)
 put_over p (x ∷ y ∷ xs) (suc n) d new l h = ap (λ t. x ∷ t) (put_over p (y ∷ xs) n d new (omega arith) h)
 
-pub put_after : (p : ℕ) (xs : List Entry) (n : ℕ) (d new : Entry) → length xs ≡ n + 1 → (is_one_with (get_or xs n d) new || are_old_runs p (get_or xs n d) new) ≡ false → xs ++ new ∷ [] ≡ with_joined p xs new
+pub put_after : (p : ℕ) (xs : List Entry) (n : ℕ) (d new : Entry) → length xs ≡ n + 1 → (is_one_with (get_or xs n d) new || are_old_runs p (get_or xs n d) new) ≡ false → xs ++ new ∷ [] ≡ with_merged_entry p xs new
 put_after p [] n d new l h = absurd (omega arith)
 put_after p (x ∷ []) zero d new l h = let f : (is_one_with x new || are_old_runs p x new) ≡ false = h in rw f
 put_after p (x ∷ []) (suc n) d new l h = absurd (omega arith)
 put_after p (x ∷ y ∷ xs) zero d new l h = absurd (omega arith)
 put_after p (x ∷ y ∷ xs) (suc n) d new l h = ap (λ t. x ∷ t) (put_after p (y ∷ xs) n d new (omega arith) h)
 
-pub put_first : (p : ℕ) (xs : List Entry) (new : Entry) → length xs ≡ 0 → xs ++ new ∷ [] ≡ with_joined p xs new
+pub put_first : (p : ℕ) (xs : List Entry) (new : Entry) → length xs ≡ 0 → xs ++ new ∷ [] ≡ with_merged_entry p xs new
 put_first p [] new l = refl
 put_first p (x ∷ xs) new l = absurd (omega arith)
 
 -- the rows that it leads to
-rows_end : (p from : ℕ) (last new : Entry) (b : Bool) → (is_one_with last new || are_old_runs p last new) ≡ b → rows_from from (if b then joined last new ∷ [] else last ∷ new ∷ []) ≡ rows_from (rows_from from (last ∷ [])) (new ∷ [])
+rows_end : (p from : ℕ) (last new : Entry) (b : Bool) → (is_one_with last new || are_old_runs p last new) ≡ b → rows_from from (if b then merged_entry last new ∷ [] else last ∷ new ∷ []) ≡ rows_from (rows_from from (last ∷ [])) (new ∷ [])
 rows_end p from (Run e x) new false h = refl
 rows_end p from (Mark e x) new false h = refl
 rows_end p from (Run e x) (Run f y) true h = refl
@@ -35,17 +35,17 @@ rows_end p from (Mark e x) (Mark f y) true h = refl
 rows_end p from (Run e x) (Mark f y) true h = cc
 rows_end p from (Mark e x) (Run f y) true h = cc
 
-rows_joined : (p from : ℕ) (xs : List Entry) (new : Entry) → rows_from from (with_joined p xs new) ≡ rows_from (rows_from from xs) (new ∷ [])
+rows_joined : (p from : ℕ) (xs : List Entry) (new : Entry) → rows_from from (with_merged_entry p xs new) ≡ rows_from (rows_from from xs) (new ∷ [])
 rows_joined p from [] new = refl
 rows_joined p from (last ∷ []) new = rows_end p from last new (is_one_with last new || are_old_runs p last new) refl
 rows_joined p from (Run e x ∷ next ∷ xs) new = rows_joined p x (next ∷ xs) new
 rows_joined p from (Mark e x ∷ next ∷ xs) new = rows_joined p from (next ∷ xs) new
 
-rows_run : (p : ℕ) (xs : List Entry) (e end : ℕ) (b : Bool) → (end == rows_of xs) ≡ b → rows_of (if b then xs else with_joined p xs (Run e end)) ≡ end
+rows_run : (p : ℕ) (xs : List Entry) (e end : ℕ) (b : Bool) → (end == rows_of xs) ≡ b → rows_of (if b then xs else with_merged_entry p xs (Run e end)) ≡ end
 rows_run p xs e end true h = grind (arith, nat_tests)
 rows_run p xs e end false h = rows_joined p 0 xs (Run e end)
 
-pub rows_counted : (p : ℕ) (xs : List Entry) (new : Entry) → rows_of (with_counted p xs new) ≡ rows_from (rows_of xs) (new ∷ [])
+pub rows_counted : (p : ℕ) (xs : List Entry) (new : Entry) → rows_of (with_counted_entry p xs new) ≡ rows_from (rows_of xs) (new ∷ [])
 rows_counted p xs (Run e end) = rows_run p xs e end (end == rows_of xs) refl
 rows_counted p xs (Mark e at) = rows_joined p 0 xs (Mark e at)
 
@@ -73,7 +73,7 @@ off : (a b : Bool) → (a || false) ≡ b → a ≡ b
 off true b h = h
 off false b h = h
 
-flat_end : (p : ℕ) (last new : Entry) (b : Bool) → (is_one_with last new || are_old_runs p last new) ≡ b → flat p (if b then joined last new ∷ [] else last ∷ new ∷ []) ≡ (if is_one_with (level p last) (level p new) then level p new ∷ [] else level p last ∷ level p new ∷ [])
+flat_end : (p : ℕ) (last new : Entry) (b : Bool) → (is_one_with last new || are_old_runs p last new) ≡ b → flat p (if b then merged_entry last new ∷ [] else last ∷ new ∷ []) ≡ (if is_one_with (level p last) (level p new) then level p new ∷ [] else level p last ∷ level p new ∷ [])
 flat_end p (Run e x) (Run f y) true h =
     let s : max p e ≡ max p f = same_level p e f h in
     let b = one_level p e f s in
@@ -86,7 +86,7 @@ flat_end p (Mark e x) (Run f y) true h = cc
 flat_end p (Run e x) (Mark f y) false h = refl
 flat_end p (Mark e x) (Run f y) false h = refl
 
-flat_joined : (p : ℕ) (xs : List Entry) (new : Entry) → flat p (with_joined p xs new) ≡ with_entry (flat p xs) (level p new)
+flat_joined : (p : ℕ) (xs : List Entry) (new : Entry) → flat p (with_merged_entry p xs new) ≡ with_entry (flat p xs) (level p new)
 flat_joined p [] new = refl
 flat_joined p (last ∷ []) new = flat_end p last new (is_one_with last new || are_old_runs p last new) refl
 flat_joined p (first ∷ next ∷ xs) new = ap (λ l. level p first ∷ l) (flat_joined p (next ∷ xs) new)
@@ -103,12 +103,12 @@ rows_flat p from (Run e x ∷ xs) = rows_flat p x xs
 rows_flat p from (Mark e x ∷ xs) = rows_flat p from xs
 
 -- a vector of such entries stays one
-vector_joined : (p : ℕ) (xs : List Entry) (new : Entry) (rows more : ℕ) → IsVector (flat p xs) rows → Leads rows (level p new ∷ []) more → IsVector (flat p (with_joined p xs new)) more
+vector_joined : (p : ℕ) (xs : List Entry) (new : Entry) (rows more : ℕ) → IsVector (flat p xs) rows → Leads rows (level p new ∷ []) more → IsVector (flat p (with_merged_entry p xs new)) more
 vector_joined p xs new rows more v l =
     let P : List Entry → Type 0 = λ ys. IsVector ys more in
     subst P (sym (flat_joined p xs new)) (vector_more (flat p xs) (level p new) rows more v l)
 
-vector_run : (p : ℕ) (xs : List Entry) (e end rows : ℕ) (b : Bool) → (end == rows_of xs) ≡ b → IsVector (flat p xs) rows → rows ≤ end → IsVector (flat p (if b then xs else with_joined p xs (Run e end))) end
+vector_run : (p : ℕ) (xs : List Entry) (e end rows : ℕ) (b : Bool) → (end == rows_of xs) ≡ b → IsVector (flat p xs) rows → rows ≤ end → IsVector (flat p (if b then xs else with_merged_entry p xs (Run e end))) end
 vector_run p xs e end rows true h v l =
     let r : rows_of xs ≡ rows = sym (rows_flat p 0 xs) ∙ vector_rows (flat p xs) rows v in
     let P : ℕ → Type 0 = λ n. IsVector (flat p xs) n in
@@ -119,18 +119,18 @@ vector_run p xs e end rows false h v l =
     let q : rows < end = grind (arith, nat_tests) in
     vector_joined p xs (Run e end) rows end v (q, refl)
 
-pub vector_with : (p : ℕ) (xs : List Entry) (new : Entry) (rows more : ℕ) → IsVector (flat p xs) rows → LeadsOn rows (new ∷ []) more → IsVector (flat p (with_counted p xs new)) more
+pub vector_with : (p : ℕ) (xs : List Entry) (new : Entry) (rows more : ℕ) → IsVector (flat p xs) rows → LeadsOn rows (new ∷ []) more → IsVector (flat p (with_counted_entry p xs new)) more
 vector_with p xs (Run e end) rows more v l =
-    let P : ℕ → Type 0 = λ n. IsVector (flat p (with_counted p xs (Run e end))) n in
+    let P : ℕ → Type 0 = λ n. IsVector (flat p (with_counted_entry p xs (Run e end))) n in
     subst P l.1 (vector_run p xs e end rows (end == rows_of xs) refl v l.0)
 vector_with p xs (Mark e at) rows more v l = vector_joined p xs (Mark e at) rows more v l
 
-pub vector_counted : (p : ℕ) (ys xs : List Entry) (rows more : ℕ) → IsVector (flat p xs) rows → LeadsOn rows ys more → IsVector (flat p (fold (with_counted p) xs ys)) more
+pub vector_counted : (p : ℕ) (ys xs : List Entry) (rows more : ℕ) → IsVector (flat p xs) rows → LeadsOn rows ys more → IsVector (flat p (fold (with_counted_entry p) xs ys)) more
 vector_counted p [] xs rows more v l = let P : ℕ → Type 0 = λ n. IsVector (flat p xs) n in subst P l v
 vector_counted p (Run e end ∷ ys) xs rows more v l =
-    vector_counted p ys (with_counted p xs (Run e end)) end more (vector_with p xs (Run e end) rows end v (l.0, refl)) l.1
+    vector_counted p ys (with_counted_entry p xs (Run e end)) end more (vector_with p xs (Run e end) rows end v (l.0, refl)) l.1
 vector_counted p (Mark e at ∷ ys) xs rows more v l =
-    vector_counted p ys (with_counted p xs (Mark e at)) rows more (vector_with p xs (Mark e at) rows rows v (l.0, refl)) l.1
+    vector_counted p ys (with_counted_entry p xs (Mark e at)) rows more (vector_with p xs (Mark e at) rows rows v (l.0, refl)) l.1
 
 -- and so are the entries themselves one
 leads_flat : (p from : ℕ) (xs : List Entry) (to : ℕ) → Leads from (flat p xs) to → Leads from xs to

@@ -11,12 +11,12 @@ use Rattle.cube_values.specs.declared.entry.Entry.{Entry}
 use Rattle.cube_values.specs.declared.entry.Entry.TheVariants.{Run, Mark}
 use Rattle.cube_values.specs.BitRows.{filled_bits}
 use Rattle.cube_values.specs.EpochsVector.{IsVector, Leads, epoch_at, maker, rows_after, rows_from, rows_of, with_rows_after}
-use Rattle.epochs_vector.specs.Without.{staying_before}
+use Rattle.epochs_vector.specs.Without.{set_bits_before}
 use Rattle.epochs_vector.proofs.Ends.{vector_rows}
 use Rattle.epochs_vector.proofs.VisibleRows.{in_run, past_run, lead_up, long_filled, at_below, at_inside, at_above}
 use Rattle.epochs_vector.specs.declared.limit.Limit.{Limit}
 use Rattle.epochs_vector.specs.Limits.{is_below}
-use Rattle.purge_plan.specs.Purged.{is_removed_by, is_kept, kept, is_old_mark, counted, with_counted, purged}
+use Rattle.purge_plan.specs.Purged.{is_removed_by, is_spared, spared_bits, is_old_mark, counted_entries, with_counted_entry, purged_entries}
 use Rattle.purge_plan.proofs.Counts.{counted_old, counted_new, leads_kept, length-kept, rows_alike}
 use Rattle.purge_plan.proofs.Joins.{rows_counted}
 
@@ -91,7 +91,7 @@ cleared_more bits keep new from first to k s low high w f =
       full = λ i p q. there i ∙ at_above keep from first false low u i (omega arith) ∙ k.full i (omega arith) q;
     }
 
-parted_rows : (bits : List Bool) (from first to : ℕ) → IsParted bits from first to → from ≤ first → first ≤ to → to ≤ length bits → staying_before bits to ≡ staying_before bits from + (to - first)
+parted_rows : (bits : List Bool) (from first to : ℕ) → IsParted bits from first to → from ≤ first → first ≤ to → to ≤ length bits → set_bits_before bits to ≡ set_bits_before bits from + (to - first)
 parted_rows bits from first to s low high w =
     omega (arith, rows_alike bits from first false low (omega arith) (removed bits from first to s high), rows_alike bits first to true high w (stays bits from first to s low))
 
@@ -99,10 +99,10 @@ parted_rows bits from first to s low high w =
 pub record IsPlaced (p : ℕ) (bits : List Bool) (old items : List Entry) (at len from rows : ℕ) : Type 0 where
   pub rest : drop at items ≡ drop at old
   pub within : len ≤ at
-  pub counted_rows : rows ≡ staying_before bits from
+  pub counted_rows : rows ≡ set_bits_before bits from
   pub below : rows ≤ from
   pub led : rows_of (take len items) ≡ rows
-  pub front : fold (with_counted p) (take len items) (counted p bits (drop at old)) ≡ fold (with_counted p) [] (counted p bits old)
+  pub front : fold (with_counted_entry p) (take len items) (counted_entries p bits (drop at old)) ≡ fold (with_counted_entry p) [] (counted_entries p bits old)
 
 pub record IsPurgedSoFar (p : ℕ) (limit : Limit) (bits : List Bool) (old items : List Entry) (keep : List Bool) (at len from rows : ℕ) : Type 0 where
   pub left : IsLeft limit bits (drop at old) from
@@ -110,13 +110,13 @@ pub record IsPurgedSoFar (p : ℕ) (limit : Limit) (bits : List Bool) (old items
   pub placed : IsPlaced p bits old items at len from rows
 
 -- at the start
-true_kept : (p : ℕ) (limit : Limit) (xs : List Entry) → ((j i : ℕ) → list_any (is_removed_by p j i) xs ≡ is_below limit j i) → (i : ℕ) → i < rows_of xs → get_or (kept p xs) i false ≡ not (option_map_or (λ j. is_below limit j i) (epoch_at xs i) false)
+true_kept : (p : ℕ) (limit : Limit) (xs : List Entry) → ((j i : ℕ) → list_any (is_removed_by p j i) xs ≡ is_below limit j i) → (i : ℕ) → i < rows_of xs → get_or (spared_bits p xs) i false ≡ not (option_map_or (λ j. is_below limit j i) (epoch_at xs i) false)
 true_kept p limit xs h i q =
-    get_or-map-range_with_len (is_kept p xs) 0 (rows_of xs) i i false q (omega arith) ∙ ap (λ (f : ℕ → Bool). not (option_map_or f (epoch_at xs i) false)) (λ t j. h j i t)
+    get_or-map-range_with_len (is_spared p xs) 0 (rows_of xs) i i false q (omega arith) ∙ ap (λ (f : ℕ → Bool). not (option_map_or f (epoch_at xs i) false)) (λ t j. h j i t)
 
-pub purged_none : (p : ℕ) (limit : Limit) (old : List Entry) (keep : List Bool) → IsVector old (length keep) → keep ≡ replicate (length keep) true → ((j i : ℕ) → list_any (is_removed_by p j i) old ≡ is_below limit j i) → IsPurgedSoFar p limit (kept p old) old old keep 0 0 0 0
+pub purged_none : (p : ℕ) (limit : Limit) (old : List Entry) (keep : List Bool) → IsVector old (length keep) → keep ≡ replicate (length keep) true → ((j i : ℕ) → list_any (is_removed_by p j i) old ≡ is_below limit j i) → IsPurgedSoFar p limit (spared_bits p old) old old keep 0 0 0 0
 purged_none p limit old keep v a h =
-    let e : length (kept p old) ≡ length keep = length-kept p old (length keep) v in
+    let e : length (spared_bits p old) ≡ length keep = length-kept p old (length keep) v in
     let r : rows_of old ≡ length keep = vector_rows old (length keep) v in
     record {
       left = record {
@@ -160,11 +160,11 @@ rows_still : (p : ℕ) (entry : Entry) (from rows first : ℕ) → is_old_mark p
 rows_still p (Run e end) from rows first b l h = cc
 rows_still p (Mark e at) from rows first b l h = omega (arith, l.0)
 
-drops_old : (p : ℕ) (bits : List Bool) (entry : Entry) (xs : List Entry) → is_old_mark p entry ≡ true → counted p bits (entry ∷ xs) ≡ counted p bits xs
+drops_old : (p : ℕ) (bits : List Bool) (entry : Entry) (xs : List Entry) → is_old_mark p entry ≡ true → counted_entries p bits (entry ∷ xs) ≡ counted_entries p bits xs
 drops_old p bits (Run e end) xs b = cc
 drops_old p bits (Mark e at) xs b = counted_old p bits e at xs b
 
-counts_new : (p : ℕ) (bits : List Bool) (entry : Entry) (xs : List Entry) → is_old_mark p entry ≡ false → counted p bits (entry ∷ xs) ≡ with_rows_after entry (staying_before bits (rows_after entry)) ∷ counted p bits xs
+counts_new : (p : ℕ) (bits : List Bool) (entry : Entry) (xs : List Entry) → is_old_mark p entry ≡ false → counted_entries p bits (entry ∷ xs) ≡ with_rows_after entry (set_bits_before bits (rows_after entry)) ∷ counted_entries p bits xs
 counts_new p bits (Run e end) xs b = refl
 counts_new p bits (Mark e at) xs b = counted_new p bits e at xs b
 
@@ -193,17 +193,17 @@ purged_old p limit bits old items keep new at len from rows first d entry h e b 
         counted_rows = omega (arith, k.placed.counted_rows, parted_rows bits from first (rows_after entry) s t.low t.high n.within);
         below = omega (arith, k.placed.below, t.low, t.high);
         led = k.placed.led ∙ rows_still p entry from rows first b n.one t.low;
-        front = ap (fold (with_counted p) (take len items)) (sym (ap (counted p bits) x ∙ drops_old p bits entry (drop (at + 1) old) b)) ∙ k.placed.front;
+        front = ap (fold (with_counted_entry p) (take len items)) (sym (ap (counted_entries p bits) x ∙ drops_old p bits entry (drop (at + 1) old) b)) ∙ k.placed.front;
       };
     }
 
-pub purged_new : (p : ℕ) (limit : Limit) (bits : List Bool) (old items placed : List Entry) (keep new : List Bool) (at len more from rows first : ℕ) (d entry : Entry) → at < length old → get_or items at d ≡ entry → is_old_mark p entry ≡ false → IsPurgedSoFar p limit bits old items keep at len from rows → IsStep limit entry from first keep new → take more placed ≡ with_counted p (take len items) (with_rows_after entry (rows + (rows_after entry - first))) → ((n : ℕ) → len < n → drop n placed ≡ drop n items) → more ≤ len + 1 → IsPurgedSoFar p limit bits old placed new (at + 1) more (rows_after entry) (rows + (rows_after entry - first))
+pub purged_new : (p : ℕ) (limit : Limit) (bits : List Bool) (old items placed : List Entry) (keep new : List Bool) (at len more from rows first : ℕ) (d entry : Entry) → at < length old → get_or items at d ≡ entry → is_old_mark p entry ≡ false → IsPurgedSoFar p limit bits old items keep at len from rows → IsStep limit entry from first keep new → take more placed ≡ with_counted_entry p (take len items) (with_rows_after entry (rows + (rows_after entry - first))) → ((n : ℕ) → len < n → drop n placed ≡ drop n items) → more ≤ len + 1 → IsPurgedSoFar p limit bits old placed new (at + 1) more (rows_after entry) (rows + (rows_after entry - first))
 purged_new p limit bits old items placed keep new at len more from rows first d entry h e b k t f r m =
     let n = purged_next p limit bits old items keep at len from rows d entry h e k in
     let x = from_here p limit bits old items keep at len from rows d entry h e k in
     let s = parted limit bits keep new entry (drop (at + 1) old) from first n t in
-    let c : rows + (rows_after entry - first) ≡ staying_before bits (rows_after entry) = omega (arith, k.placed.counted_rows, parted_rows bits from first (rows_after entry) s t.low t.high n.within) in
-    let o : counted p bits (drop at old) ≡ with_rows_after entry (rows + (rows_after entry - first)) ∷ counted p bits (drop (at + 1) old) = ap (counted p bits) x ∙ counts_new p bits entry (drop (at + 1) old) b ∙ ap (λ y. with_rows_after entry y ∷ counted p bits (drop (at + 1) old)) (sym c) in
+    let c : rows + (rows_after entry - first) ≡ set_bits_before bits (rows_after entry) = omega (arith, k.placed.counted_rows, parted_rows bits from first (rows_after entry) s t.low t.high n.within) in
+    let o : counted_entries p bits (drop at old) ≡ with_rows_after entry (rows + (rows_after entry - first)) ∷ counted_entries p bits (drop (at + 1) old) = ap (counted_entries p bits) x ∙ counts_new p bits entry (drop (at + 1) old) b ∙ ap (λ y. with_rows_after entry y ∷ counted_entries p bits (drop (at + 1) old)) (sym c) in
     record {
       left = n.next;
       cleared = cleared_more bits keep new from first (rows_after entry) k.cleared s t.low t.high n.within t.fill;
@@ -213,15 +213,15 @@ purged_new p limit bits old items placed keep new at len more from rows first d 
         counted_rows = c;
         below = omega (arith, k.placed.below, t.low, t.high);
         led = ap rows_of f ∙ rows_counted p (take len items) (with_rows_after entry (rows + (rows_after entry - first))) ∙ ap (λ y. rows_from y (with_rows_after entry (rows + (rows_after entry - first)) ∷ [])) k.placed.led ∙ rows_put entry from rows first n.one t.low;
-        front = ap (λ l. fold (with_counted p) l (counted p bits (drop (at + 1) old))) f ∙ ap (fold (with_counted p) (take len items)) (sym o) ∙ k.placed.front;
+        front = ap (λ l. fold (with_counted_entry p) l (counted_entries p bits (drop (at + 1) old))) f ∙ ap (fold (with_counted_entry p) (take len items)) (sym o) ∙ k.placed.front;
       };
     }
 
 -- past all entries
-pub purged_all : (p : ℕ) (limit : Limit) (old items : List Entry) (keep : List Bool) (at len from rows : ℕ) → length old ≤ at → IsPurgedSoFar p limit (kept p old) old items keep at len from rows → (take len items ≡ purged p old) × (keep ≡ kept p old)
+pub purged_all : (p : ℕ) (limit : Limit) (old items : List Entry) (keep : List Bool) (at len from rows : ℕ) → length old ≤ at → IsPurgedSoFar p limit (spared_bits p old) old items keep at len from rows → (take len items ≡ purged_entries p old) × (keep ≡ spared_bits p old)
 purged_all p limit old items keep at len from rows h k =
-    let bits : List Bool = kept p old in
+    let bits : List Bool = spared_bits p old in
     let x : drop at old ≡ [] = drop_all at old h in
     let P : List Entry → Type 0 = λ l. Leads from l (length bits) in
     let end : from ≡ length bits = subst P x k.left.leads in
-    (ap (λ l. fold (with_counted p) (take len items) (counted p bits l)) (sym x) ∙ k.placed.front, ext_get_or false keep bits k.cleared.long (λ i q. k.cleared.done i (omega (arith, k.cleared.long))))
+    (ap (λ l. fold (with_counted_entry p) (take len items) (counted_entries p bits l)) (sym x) ∙ k.placed.front, ext_get_or false keep bits k.cleared.long (λ i q. k.cleared.done i (omega (arith, k.cleared.long))))

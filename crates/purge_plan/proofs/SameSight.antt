@@ -10,7 +10,7 @@ use Rattle.cube_values.specs.declared.entry.Entry.{Entry}
 use Rattle.cube_values.specs.declared.snapshot.Snapshot.{Snapshot}
 use Rattle.cube_values.specs.EpochsVector.{IsVector, epoch_at, is_hidden_by, sees_row}
 use Rattle.cube_values.specs.Sees.{sees, IsAdmissible}
-use Rattle.purge_plan.specs.Purged.{is_removed_by, is_kept, kept, counted, purged}
+use Rattle.purge_plan.specs.Purged.{is_removed_by, is_spared, spared_bits, counted_entries, purged_entries}
 use Rattle.purge_plan.specs.Sight.{number_after, sees_after, ChangesNothingSeen}
 use Rattle.purge_plan.proofs.Counts.{length-kept, leads_kept, kept_bit}
 use Rattle.purge_plan.proofs.SameEpochs.{later_epochs}
@@ -55,16 +55,16 @@ at_removed s r g None k h = cc
 at_removed s r g (Some j) k h = and_off (sees s j) (not (g j)) (ap not (h j (flip (r j) true k)))
 
 -- one row
-kept_row : (s : Snapshot) (p rows : ℕ) (entries : List Entry) → IsVector entries rows → IsAdmissible s p → (i : ℕ) → i < rows → is_kept p entries i ≡ true → sees_after s p entries i ≡ sees_row s entries i
+kept_row : (s : Snapshot) (p rows : ℕ) (entries : List Entry) → IsVector entries rows → IsAdmissible s p → (i : ℕ) → i < rows → is_spared p entries i ≡ true → sees_after s p entries i ≡ sees_row s entries i
 kept_row s p rows entries v a i q t =
-    let bits : List Bool = kept p entries in
+    let bits : List Bool = spared_bits p entries in
     let within : i < length bits = omega (arith, length-kept p entries rows v) in
     let n : ℕ = number_after p entries i in
-    let g : ℕ → Bool = λ j. sees s j && not (list_any (is_hidden_by s j n) (counted p bits entries)) in
+    let g : ℕ → Bool = λ j. sees s j && not (list_any (is_hidden_by s j n) (counted_entries p bits entries)) in
     let level : (j : ℕ) → g j ≡ g (max p j) = λ j z. sees_level s p j a z && not (hidden_level p s bits j n entries z) in
-    ap (λ (f : ℕ → Bool). option_map_or f (epoch_at (purged p entries) n) false) (λ z j. sees s j && not (hidden_fold p s j n (counted p bits entries) [] z)) ∙ by_level g p level (epoch_at (purged p entries) n) ∙ ap (λ o. option_map_or g o false) (later_epochs p rows entries v i q t) ∙ sym (by_level g p level (epoch_at entries i)) ∙ at_kept s (λ j. list_any (is_removed_by p j i) entries) (λ j. list_any (is_hidden_by s j n) (counted p bits entries)) (λ j. list_any (is_hidden_by s j i) entries) (epoch_at entries i) t (λ j k. hidden_there p s bits j i entries 0 (leads_kept p entries rows v) within (kept_bit p entries rows i v q t) k)
+    ap (λ (f : ℕ → Bool). option_map_or f (epoch_at (purged_entries p entries) n) false) (λ z j. sees s j && not (hidden_fold p s j n (counted_entries p bits entries) [] z)) ∙ by_level g p level (epoch_at (purged_entries p entries) n) ∙ ap (λ o. option_map_or g o false) (later_epochs p rows entries v i q t) ∙ sym (by_level g p level (epoch_at entries i)) ∙ at_kept s (λ j. list_any (is_removed_by p j i) entries) (λ j. list_any (is_hidden_by s j n) (counted_entries p bits entries)) (λ j. list_any (is_hidden_by s j i) entries) (epoch_at entries i) t (λ j k. hidden_there p s bits j i entries 0 (leads_kept p entries rows v) within (kept_bit p entries rows i v q t) k)
 
-removed_row : (s : Snapshot) (p : ℕ) (entries : List Entry) → IsAdmissible s p → (i : ℕ) → is_kept p entries i ≡ false → sees_row s entries i ≡ false
+removed_row : (s : Snapshot) (p : ℕ) (entries : List Entry) → IsAdmissible s p → (i : ℕ) → is_spared p entries i ≡ false → sees_row s entries i ≡ false
 removed_row s p entries a i t =
     at_removed s (λ j. list_any (is_removed_by p j i) entries) (λ j. list_any (is_hidden_by s j i) entries) (epoch_at entries i) t (λ j k. gone p s j i entries (λ e. sees_old s p e a) k)
 
@@ -83,5 +83,5 @@ nothing_seen s p rows entries v a =
     record {
       alike = kept_row s p rows entries v a;
       unseen = λ i _ t. removed_row s p entries a i t;
-      in_order = filters (sees_after s p entries) (is_kept p entries) (sees_row s entries) rows 0 rows (omega arith) (kept_row s p rows entries v a) (λ i _ t. removed_row s p entries a i t);
+      in_order = filters (sees_after s p entries) (is_spared p entries) (sees_row s entries) rows 0 rows (omega arith) (kept_row s p rows entries v a) (λ i _ t. removed_row s p entries a i t);
     }

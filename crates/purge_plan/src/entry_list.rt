@@ -2,7 +2,7 @@
 
 ghost use Rattle.std.specs.Prelude.{◌≡◌, ℕ, ◌+◌, ◌<◌, ◌≤◌, ◌||◌, length, take, drop};
 ghost use Rattle.cube_values.specs.EpochsVector.{rows_of, is_one_with};
-ghost use Rattle.purge_plan.specs.Purged.{is_old_mark, are_old_runs, joined, with_joined, with_counted};
+ghost use Rattle.purge_plan.specs.Purged.{is_old_mark, are_old_runs, merged_entry, with_merged_entry, with_counted_entry};
 
 use cube_values::Entry;
 
@@ -12,27 +12,27 @@ use cube_values::Entry;
 pub fn put(entries: &mut [Entry], len: usize, rows: u64, new: Entry, epoch: u64) -> usize
     requires room { len < length entries.old }
     requires rows { rows_of (take len entries.old) ≡ rows }
-    ensures front { take result entries.new ≡ with_counted epoch (take len entries.old) new }
+    ensures front { take result entries.new ≡ with_counted_entry epoch (take len entries.old) new }
     ensures rest { (n : ℕ) → len < n → drop n entries.new ≡ drop n entries.old }
     ensures within { result ≤ len + 1 }
     ensures long { length entries.new ≡ length entries.old }
 {
     match new {
         Entry::Run { end, .. } if end == rows => len,
-        _ => put_joined(entries, len, new, epoch),
+        _ => put_merged(entries, len, new, epoch),
     }
 }
 
 // The same for an entry that is no empty run.
-fn put_joined(entries: &mut [Entry], len: usize, new: Entry, epoch: u64) -> usize
+fn put_merged(entries: &mut [Entry], len: usize, new: Entry, epoch: u64) -> usize
     requires { len < length entries.old }
-    ensures front { take result entries.new ≡ with_joined epoch (take len entries.old) new }
+    ensures front { take result entries.new ≡ with_merged_entry epoch (take len entries.old) new }
     ensures rest { (n : ℕ) → len < n → drop n entries.new ≡ drop n entries.old }
     ensures within { result ≤ len + 1 }
     ensures long { length entries.new ≡ length entries.old }
 {
-    if len > 0 && are_joined(entries[len - 1], new, epoch) {
-        entries[len - 1] = one_of(entries[len - 1], new);
+    if len > 0 && are_merged(entries[len - 1], new, epoch) {
+        entries[len - 1] = merged_entry(entries[len - 1], new);
         len
     } else {
         entries[len] = new;
@@ -41,7 +41,7 @@ fn put_joined(entries: &mut [Entry], len: usize, new: Entry, epoch: u64) -> usiz
 }
 
 // Whether two neighbours become one in a purge at `most`.
-fn are_joined(a: Entry, b: Entry, most: u64) -> bool
+fn are_merged(a: Entry, b: Entry, most: u64) -> bool
     ensures { result ≡ (is_one_with a b || are_old_runs most a b) }
 {
     a.is_one_with(b) || are_old(a, b, most)
@@ -57,9 +57,9 @@ fn are_old(a: Entry, b: Entry, most: u64) -> bool
     }
 }
 
-// What two neighbours become that are joined.
-fn one_of(a: Entry, b: Entry) -> Entry
-    ensures { result ≡ joined a b }
+// What two neighbours become that are merged.
+fn merged_entry(a: Entry, b: Entry) -> Entry
+    ensures { result ≡ merged_entry a b }
 {
     match (a, b) {
         (Entry::Run { epoch, .. }, Entry::Run { epoch: next, end }) => Entry::Run {

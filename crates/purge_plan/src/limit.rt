@@ -14,14 +14,15 @@ pub fn limit_of(entries: &[Entry], epoch: u64) -> Limit
 {
     let mut limit = Limit { epoch: 0, row: 0 };
     for entry in entries {
-        limit = with_entry(limit, *entry, epoch);
+        limit = with_mark(limit, *entry, epoch);
     }
     limit
 }
 
 // What the limit removes and the entry besides, where it is a mark at or below `most`.
-fn with_entry(limit: Limit, entry: Entry, most: u64) -> Limit
-    ensures { (j i : ℕ) → is_below result j i ≡ (is_below limit j i || is_removed_by most j i entry) }
+fn with_mark(limit: Limit, entry: Entry, most: u64) -> Limit
+    ensures { (j i : ℕ)
+        → is_below result j i ≡ (is_below limit j i || is_removed_by most j i entry) }
 {
     match entry {
         Entry::Run { .. } => limit,

@@ -5,7 +5,7 @@ ghost use Rattle.std.specs.List.{list_any};
 ghost use Rattle.cube_values.specs.BitRows.{set_bits};
 ghost use Rattle.cube_values.specs.EpochsVector.{IsVector};
 ghost use Rattle.epochs_vector.specs.Limits.{is_below};
-ghost use Rattle.purge_plan.specs.Purged.{is_removed_by, kept, purged};
+ghost use Rattle.purge_plan.specs.Purged.{is_removed_by, spared_bits, purged_entries};
 
 use crate::entry_list::{is_old, put};
 use crate::limit::limit_of;
@@ -19,8 +19,8 @@ use epochs_vector::Limit;
 pub fn plan(entries: &mut Vec<Entry>, epoch: u64, keep: &mut Bits)
     requires vector { IsVector entries.old.items (length keep.old.bits) }
     requires all { keep.old.bits ≡ replicate (length keep.old.bits) true }
-    ensures entries { entries.new.items ≡ purged epoch entries.old.items }
-    ensures keep { keep.new.bits ≡ kept epoch entries.old.items }
+    ensures entries { entries.new.items ≡ purged_entries epoch entries.old.items }
+    ensures keep { keep.new.bits ≡ spared_bits epoch entries.old.items }
     ensures vector { IsVector entries.new.items (set_bits keep.new.bits) }
     ensures fewer { vec_len entries.new ≤ vec_len entries.old }
     ensures capacity { vec_capacity entries.new ≡ vec_capacity entries.old }
@@ -36,10 +36,11 @@ pub fn plan(entries: &mut Vec<Entry>, epoch: u64, keep: &mut Bits)
 fn leave(entries: &mut [Entry], epoch: u64, limit: &Limit, keep: &mut Bits) -> usize
     requires vector { IsVector entries.old (length keep.old.bits) }
     requires all { keep.old.bits ≡ replicate (length keep.old.bits) true }
-    requires limit { (j i : ℕ) → list_any (is_removed_by epoch j i) entries.old ≡ is_below limit.now j i }
-    ensures front { take result entries.new ≡ purged epoch entries.old }
+    requires limit { (j i : ℕ)
+        → list_any (is_removed_by epoch j i) entries.old ≡ is_below limit.now j i }
+    ensures front { take result entries.new ≡ purged_entries epoch entries.old }
     ensures within { result ≤ length entries.old }
-    ensures keep { keep.new.bits ≡ kept epoch entries.old }
+    ensures keep { keep.new.bits ≡ spared_bits epoch entries.old }
     ensures room { keep.new.room ≡ keep.old.room }
 {
     let mut len = 0;

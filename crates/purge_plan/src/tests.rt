@@ -2,7 +2,7 @@
 
 ghost use Rattle.std.specs.Prelude.{◌≡◌, ◌≤◌, true, replicate};
 ghost use Rattle.cube_values.specs.EpochsVector.{rows_of};
-ghost use Rattle.purge_plan.specs.Purged.{kept, purged};
+ghost use Rattle.purge_plan.specs.Purged.{spared_bits, purged_entries};
 
 use crate::{plan, purge_changes_nothing_seen, purge_keeps_later_epochs, purge_leaves_no_old_mark};
 use cube_values::{Bits, Entry, EpochList, Snapshot};
@@ -45,8 +45,8 @@ fn purge_alone(alloc: Global, epochs: &Epochs, epoch: u64) -> Result<Left, Alloc
 // Purges the vector itself.
 fn purge_within(epochs: &mut Epochs, epoch: u64, keep: &mut Bits)
     requires { keep.old.bits ≡ replicate (rows_of epochs.old.entries) true }
-    ensures entries { epochs.new.entries ≡ purged epoch epochs.old.entries }
-    ensures keep { keep.new.bits ≡ kept epoch epochs.old.entries }
+    ensures entries { epochs.new.entries ≡ purged_entries epoch epochs.old.entries }
+    ensures keep { keep.new.bits ≡ spared_bits epoch epochs.old.entries }
     ensures spare { epochs.old.spare ≤ epochs.new.spare }
 {
     let _entries = epochs.entries();

@@ -7,8 +7,8 @@ use super::histories::{
 };
 use crate::{answer, region_has, visible_rows};
 use cube_values::{
-    BoundItem, EpochList, Field, Operation, Query, Sequence, Snapshot, StoredRow, Table, ValueTest,
-    Text, Transaction, Value,
+    BoundItem, EpochList, Field, Operation, Query, Sequence, Snapshot, StoredRow, Table, Text,
+    Transaction, Value, ValueTest,
 };
 use std::alloc::{AllocError, Global};
 use std::test::Fail;

@@ -5,7 +5,7 @@ ghost use Rattle.cube_values.specs.Visible.{RisesByEpoch};
 
 use cube_values::{
     Condition, Conditions, EpochList, Operation, Operations, Region, Row, Sequence, Snapshot,
-    StoredRow, ValueTest, Text, Transaction, Value, Values,
+    StoredRow, Text, Transaction, Value, ValueTest, Values,
 };
 use std::alloc::{AllocError, Global};
 
@@ -55,7 +55,12 @@ pub fn all_of(alloc: Global, cube: &str) -> Result<Region, AllocError> {
 }
 
 /// The rows of a cube whose value at a place passes a test.
-pub fn part_of(alloc: Global, cube: &str, place: u32, test: ValueTest) -> Result<Region, AllocError> {
+pub fn part_of(
+    alloc: Global,
+    cube: &str,
+    place: u32,
+    test: ValueTest,
+) -> Result<Region, AllocError> {
     let mut conditions = Vec::new(alloc);
     conditions.push(Condition { place, test })?;
     let cube = Text::new(alloc, cube)?;

@@ -54,7 +54,7 @@ returns-clause-covers t c =
     let more = take (length c.args.parts.now - 1) (drop 1 c.args.parts.now) in
     let g = first_rest c.args.parts.now c.part-item.result c.in-len1-up-parts.len_at_least ∙ ap (λ p. p ∷ more) (sym c.part-item.is) in
     let left : c.args.bricks / c.ranges_of.result ≡ bricks_of rest = rw (c.requires.bricks, c.ranges_of.ensures) f.below in
-    rw c.joined.ensures (cover_step c.args.sizes.now rest c.args.parts.now more s c.part-item.result c.args.brick c.bounds_of-bounds.result.start
+    rw c.cover_with.ensures (cover_step c.args.sizes.now rest c.args.parts.now more s c.part-item.result c.args.brick c.bounds_of-bounds.result.start
     c.bounds_of-bounds.result.end c.share_of-first.result c.cover_of-others.result e g c.requires.sound (rw (← c.requires.bricks) c.requires.brick)
     (c.bounds_of-bounds.ensures.start ∙ ap (λ n. coord_at s (c.args.brick / n) 0) left)
     (c.bounds_of-bounds.ensures.end ∙ ap (λ n. coord_at s (c.args.brick / n) (length_of s (c.args.brick / n))) left)

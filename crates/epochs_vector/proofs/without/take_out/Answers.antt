@@ -2,7 +2,7 @@ use Rattle.std.proofs.Common.{◌≡◌, ◌<◌, ◌==◌, true, false, length,
 use Rattle.std.proofs.lemmas.Bool.Decides.{nat_tests}
 use Rattle.cube_values.specs.declared.entry.Entry.TheVariants.{Run}
 use Rattle.cube_values.specs.EpochsVector.{maker}
-use Rattle.epochs_vector.specs.Without.{staying}
+use Rattle.epochs_vector.specs.Without.{staying_bits}
 use Rattle.epochs_vector.proofs.WhatStays.{out_none, out_next, out_same, out_other, out_all}
 use Rattle.epochs_vector.proofs.without.take_out.Goals as goal
 use Rattle.epochs_vector.proofs.without.take_out.Goals.{then-maker-epoch, else-maker-epoch}
@@ -14,7 +14,7 @@ pub fill-requires-clause-within : goal.fill-requires-clause-within
 fill-requires-clause-within c =
     let l = c.loop-at in
     let old = c.args.entries.now in
-    let kept = staying c.args.epoch old in
+    let kept = staying_bits c.args.epoch old in
     let entry = get_or l.entries l.at (Run 0 0) in
     let n = out_next c.args.epoch kept old l.entries l.keep.bits l.at l.len l.from l.rows (Run 0 0) entry (omega arith) refl l.invariant.0 in
     omega (arith, n.within, l.invariant.0.long, c.rows_after-to.ensures)
@@ -23,7 +23,7 @@ pub loop-at-preserved : goal.loop-at-preserved
 loop-at-preserved c =
     let l = c.loop-at in
     let old = c.args.entries.now in
-    let kept = staying c.args.epoch old in
+    let kept = staying_bits c.args.epoch old in
     let entry = get_or l.entries l.at (Run 0 0) in
     let there : l.at < length old = omega arith in
     elim c.if-maker-epoch.branch [

@@ -2,7 +2,7 @@ use Rattle.std.proofs.Common.{◌≡◌, ◌<◌, true, false, length, get_or, r
 use Rattle.std.proofs.lemmas.Bool.Decides.{nat_tests}
 use Rattle.cube_values.specs.declared.entry.Entry.TheVariants.{Run}
 use Rattle.epochs_vector.specs.Limits.{is_below}
-use Rattle.purge_plan.specs.Purged.{is_old_mark, kept}
+use Rattle.purge_plan.specs.Purged.{is_old_mark, spared_bits}
 use Rattle.purge_plan.proofs.Passing.{IsStep, purged_none, purged_next, purged_old, purged_new, purged_all}
 use Rattle.purge_plan.proofs.purge.leave.Goals as goal
 use Rattle.purge_plan.proofs.purge.leave.Goals.{then-not-is_old, else-not-is_old}
@@ -15,7 +15,7 @@ fill-requires-clause-within c =
     let l = c.loop-at in
     let old = c.args.entries.now in
     let entry = get_or l.entries l.at (Run 0 0) in
-    let n = purged_next c.args.epoch c.args.limit.now (kept c.args.epoch old) old l.entries l.keep.bits l.at l.len l.from l.rows (Run 0 0) entry (omega arith) refl l.invariant.0 in
+    let n = purged_next c.args.epoch c.args.limit.now (spared_bits c.args.epoch old) old l.entries l.keep.bits l.at l.len l.from l.rows (Run 0 0) entry (omega arith) refl l.invariant.0 in
     omega (arith, n.within, l.invariant.0.cleared.long, c.rows_after-to.ensures, c.first_shown-first.ensures.high)
 
 pub loop-at-preserved : goal.loop-at-preserved
@@ -24,7 +24,7 @@ loop-at-preserved c =
     let p = c.args.epoch in
     let limit = c.args.limit.now in
     let old = c.args.entries.now in
-    let bits = kept p old in
+    let bits = spared_bits p old in
     let first = c.first_shown-first.result in
     let entry = get_or l.entries l.at (Run 0 0) in
     let there : l.at < length old = omega arith in

@@ -1,4 +1,5 @@
-use Rattle.std.proofs.Common.{◌-◌, length, refl, ap, ◌∙◌, arith, rules}
+use Rattle.std.proofs.Common.{◌≡◌, ◌+◌, ◌-◌, length, refl, ap, ◌∙◌, arith, rules}
+use Rattle.cube_values.specs.Rooms.{grown_room}
 use Rattle.brick_columns.specs.Rows.{BrickRows}
 use Rattle.brick_columns.proofs.WholeRows.{seen_length, grows_by, grows_rows, grows_same, grows_whole, grows_roomier}
 use Rattle.brick_columns.proofs.columns.Columns.reserve.Goals as goal
@@ -26,17 +27,21 @@ pub invariant_of-self-then-self-n : goal.invariant_of-self-then-self-n
 invariant_of-self-then-self-n c =
     let old = c.self.inside in
     let grown = c.in_ok-reserve_all.ensures in
-    grows_roomier old c.reserve_all.new.offsets c.reserve_all.new.metrics (c.max-room.result - old.rows) c.max-room.result (rw c.as_mut_slice.ensures.value at c.reserve_all.ensures.offsets) (rw c.as_mut_slice-then-self-n.ensures.value at c.reserve_all.ensures.metrics) grown.offsets_room grown.metrics_room (omega arith) c.self.invariant
+    grows_roomier old c.reserve_all.new.offsets c.reserve_all.new.metrics (c.in_ok-room.room - old.rows) c.in_ok-room.room (rw c.as_mut_slice.ensures.value at c.reserve_all.ensures.offsets) (rw c.as_mut_slice-then-self-n.ensures.value at c.reserve_all.ensures.metrics) grown.offsets_room grown.metrics_room (omega arith) c.self.invariant
 
 pub returns-in_ok-reserve_all-clause-rows : goal.returns-in_ok-reserve_all-clause-rows
 returns-in_ok-reserve_all-clause-rows c =
     let old = c.self.inside in
-    let by = grows_by old c.reserve_all.new.offsets c.reserve_all.new.metrics c.max-room.result (rw c.as_mut_slice.ensures.value at c.reserve_all.ensures.offsets) (rw c.as_mut_slice-then-self-n.ensures.value at c.reserve_all.ensures.metrics) in
+    let by = grows_by old c.reserve_all.new.offsets c.reserve_all.new.metrics c.in_ok-room.room (rw c.as_mut_slice.ensures.value at c.reserve_all.ensures.offsets) (rw c.as_mut_slice-then-self-n.ensures.value at c.reserve_all.ensures.metrics) in
     grows_rows old _ by ∙ ap (λ (v : BrickRows). v.rows) c.self.view_is
 
-pub returns-in_ok-reserve_all-clause-doubled : goal.returns-in_ok-reserve_all-clause-doubled
-returns-in_ok-reserve_all-clause-doubled c =
-    let long = seen_length c.self.inside c.args.self.now c.self.invariant c.self.view_is in
+pub returns-in_ok-reserve_all-clause-grown : goal.returns-in_ok-reserve_all-clause-grown
+returns-in_ok-reserve_all-clause-grown c =
+    let now = c.args.self.now in
+    let old = c.self.inside in
+    let long = seen_length old now c.self.invariant c.self.view_is in
     let spare = ap (λ (v : BrickRows). v.spare) c.self.view_is in
     let rows = ap length (returns-in_ok-reserve_all-clause-rows c) in
-    λ _. omega (arith, rows, c.saturating_mul.ensures, c.max-room.ensures)
+    let room : old.room ≡ length now.rows + now.spare = omega (arith, c.self.invariant.within) in
+    let more : old.rows + c.args.n ≡ length now.rows + c.args.n = omega arith in
+    omega (arith, rows, c.in_ok-room.ensures.enough) ∙ c.in_ok-room.ensures.grown ∙ (λ t. grown_room (room t) (more t))

@@ -11,9 +11,9 @@ IsBelow (Cut dim) dims = dim < dims
 IsBelow cover dims = Unit {0}
 
 -- A first dimension of which nothing is there puts all outside; one of which some is there cuts first.
-abbrev pub joined : Share → Cover → Cover
-joined Empty others = Outside
-joined first Outside = Outside
-joined Whole Inside = Inside
-joined Whole (Cut dim) = Cut (suc dim)
-joined Partial others = Cut 0
+abbrev pub cover_with : Share → Cover → Cover
+cover_with Empty others = Outside
+cover_with first Outside = Outside
+cover_with Whole Inside = Inside
+cover_with Whole (Cut dim) = Cut (suc dim)
+cover_with Partial others = Cut 0

@@ -1,7 +1,7 @@
 use Rattle.std.specs.Int.{w128}
 use Rattle.std.proofs.lemmas.Int.{to_z-of_z}
-use Rattle.plain_history.proofs.Quotients.{average_is}
-use Rattle.plain_history.proofs.numbers.average.Goals as goal
+use Rattle.cube_values.proofs.Quotients.{average_is}
+use Rattle.cube_values.proofs.quotient.average.Goals as goal
 
 pub returns : goal.returns
 returns c =
