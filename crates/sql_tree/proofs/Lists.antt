@@ -2,7 +2,7 @@
 use Rattle.std.proofs.Common.{◌≡◌, ℕ, true, false, zero, suc, ◌<◌, List, [], ◌∷◌, ◌++◌, length, Ok, Err, refl, sym, ap, ◌∙◌, append_assoc, arith}
 use Rattle.cube_values.specs.declared.call_error.CallError.{CallError}
 use Rattle.cube_values.specs.declared.call_error.CallError.TheVariants.{Fault, NoMemory}
-use Rattle.cube_language.specs.Symbols.{Symbol}
+use Rattle.cube_language.specs.declared.symbol.Symbol.{Symbol}
 use Rattle.sql_tree.specs.declared.head.Sign.{Sign}
 use Rattle.sql_tree.specs.Reading.{Read, ◌>>=◌, Fails, is_sign, goes_on, listed, listed_within}
 

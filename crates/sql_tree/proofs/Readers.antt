@@ -2,7 +2,7 @@
 -- on no symbol behind the first that it leaves.
 use Rattle.std.proofs.Common.{◌≡◌, ℕ, List, [], ◌∷◌, ◌++◌, length, Option, Some, None, Ok, Err, refl, sym, ap, subst, ◌∙◌, append_assoc}
 use Rattle.std.proofs.lemmas.List.{append-nil}
-use Rattle.cube_language.specs.Symbols.{Symbol}
+use Rattle.cube_language.specs.declared.symbol.Symbol.{Symbol}
 use Rattle.sql_tree.specs.Reading.{Read, ◌>>=◌, read_first}
 
 -- Where a symbol is left, the answer is the same whatever stands behind it.

@@ -4,11 +4,11 @@ use Rattle.std.specs.List.{AllByRecursion}
 use Rattle.std.proofs.lemmas.Bool.{cases_Bool}
 use Rattle.std.proofs.lemmas.List.{append-nil, length-append}
 use Rattle.cube_language.specs.Grammar.{separated}
-use Rattle.cube_language.specs.Symbols.{Symbol}
+use Rattle.cube_language.specs.declared.symbol.Symbol.{Symbol}
 use Rattle.sql_tree.specs.declared.head.Sign.{Sign}
-use Rattle.sql_tree.specs.Reading.{Read, ◌>>=◌, is_sign, goes_on, listed, listed_within, optional}
-use Rattle.sql_tree.proofs.Keywords.{sign_symbol, is_sign_symbol, is_sign_self}
-use Rattle.sql_tree.proofs.Readers.{given, Tells, IsReader, Always, Formed, sequence, IsThen, second_tells, takes_as}
+use Rattle.sql_tree.specs.Reading.{sign_symbol, Read, ◌>>=◌, is_sign, goes_on, listed, listed_within, optional}
+use Rattle.sql_tree.proofs.Keywords.{is_sign_symbol, is_sign_self}
+use Rattle.sql_tree.proofs.Readers.{given, Tells, IsReader, Always, Formed, sequence, IsThen, reader_ends, second_tells, takes_as}
 
 -- ---- how far a list is read does not hang on the bound
 
@@ -78,10 +78,10 @@ listed_more between form x (y ∷ ys) some = refl
 all_one : {A : Type 0} (P : A → Type 0) (x : A) → P x → AreListed P (x ∷ [])
 all_one P x p = (omega arith, (p, tt))
 
-joined : {A : Type 0} (between : Sign) (P : A → Type 0) (form : A → List Symbol) (xs : List A) (front : List Symbol) → IsThen (Formed P form) (IsBehind between P form) xs front → Formed (AreListed P) (listed_form between form) xs front
-joined between P form xs front h =
+one_more : {A : Type 0} (between : Sign) (P : A → Type 0) (form : A → List Symbol) (xs : List A) (front : List Symbol) → IsThen (Formed P form) (IsBehind between P form) xs front → Formed (AreListed P) (listed_form between form) xs front
+one_more between P form xs front h =
     elim h.is_rest [
-      | inl last ↦ (subst (AreListed P) (sym last.0) (all_one P h.first h.is_first.0), rw last.0 (h.whole ∙ ap (λ rest. h.front ++ rest) last.1 ∙ append-nil h.front ∙ h.is_first.1))
+      | inl last ↦ (subst (AreListed P) (sym last.0) (all_one P h.first h.is_first.0), rw last.0 (h.whole ∙ ap (λ rest. h.front ++ rest) last.1 ∙ append-nil h.front ∙ h.is_first.1 ∙ sym (append-nil (form h.first))))
       | inr more ↦ (
         subst (AreListed P) (sym more.2) (omega arith, (h.is_first.0, more.4.0.1)),
         rw more.2
@@ -147,62 +147,77 @@ item_tells between item others P form symbols (Err left) e one two = record {
   local = λ next behind other e. ap (λ r. r >>= λ x. behind_item between others x.0 x.1) (one.local next behind other e);
 }
 
-list_tells : {A : Type 0} (between : Sign) (item : List Symbol → Read A) (P : A → Type 0) (form : A → List Symbol) → IsReader item (Formed P form) Always → (n : ℕ) (symbols : List Symbol) → length symbols < n
+list_tells : {A : Type 0} (between : Sign) (item : List Symbol → Read A) (P : A → Type 0) (form : A → List Symbol) (E : List Symbol → Type 0) → IsReader item (Formed P form) E → (n : ℕ) (symbols : List Symbol) → length symbols < n
     → Tells (listed between item) (Formed (AreListed P) (listed_form between form)) symbols (listed between item symbols)
-list_tells between item P form r zero symbols less = absurd (omega arith)
-list_tells between item P form r (suc n) symbols less =
-    let short = shorter item (Formed P form) Always r in
+list_tells between item P form E r zero symbols less = absurd (omega arith)
+list_tells between item P form E r (suc n) symbols less =
+    let short = shorter item (Formed P form) E r in
     let all = listed between item in
     let both = sequence item (behind_item between all) in
     let step = item_tells between item all P form symbols (item symbols) refl (r.tells symbols)
-    (λ x e. behind_tells between all P form x.0 x.1 (λ on. let fewer = goes_on_length between x.1 on in let least = short symbols x e in list_tells between item P form r n (drop 1 x.1) (omega arith))) in
+    (λ x e. behind_tells between all P form x.0 x.1 (λ on. let fewer = goes_on_length between x.1 on in let least = short symbols x e in list_tells between item P form E r n (drop 1 x.1) (omega arith))) in
     subst (Tells all (Formed (AreListed P) (listed_form between form)) symbols) (sym (listed_is between item short symbols))
     (same_tells all both (Formed (AreListed P) (listed_form between form)) symbols (both symbols) (listed_is between item short)
-    (takes_as both (IsThen (Formed P form) (IsBehind between P form)) (Formed (AreListed P) (listed_form between form)) symbols (both symbols) (joined between P form) step))
+    (takes_as both (IsThen (Formed P form) (IsBehind between P form)) (Formed (AreListed P) (listed_form between form)) symbols (both symbols) (one_more between P form) step))
 
-list_again : {A : Type 0} (between : Sign) (item : List Symbol → Read A) (P : A → Type 0) (form : A → List Symbol) → IsReader item (Formed P form) Always → (xs : List A) (rest : List Symbol) → AreListed P xs → goes_on between rest ≡ false
+-- An item may be left before the sign.
+abbrev pub MayStandBefore : Sign → (List Symbol → Type 0) → Type 0
+MayStandBefore between E = (rest : List Symbol) → E (sign_symbol between ∷ rest)
+
+list_again : {A : Type 0} (between : Sign) (item : List Symbol → Read A) (P : A → Type 0) (form : A → List Symbol) (E : List Symbol → Type 0) → MayStandBefore between E → IsReader item (Formed P form) E → (xs : List A) (rest : List Symbol) → AreListed P xs → goes_on between rest ≡ false → E rest
     → listed between item (listed_form between form xs ++ rest) ≡ given xs rest
-list_again between item P form r [] rest some off = absurd (omega arith)
-list_again between item P form r (x ∷ []) rest some off =
-    listed_is between item (shorter item (Formed P form) Always r) (form x ++ rest) ∙ ap (λ z. z >>= λ y. behind_item between (listed between item) y.0 y.1) (r.again x (form x) rest (some.1.0, refl) tt) ∙ rw off refl
-list_again between item P form r (x ∷ y ∷ ys) rest some off =
+list_again between item P form E may r [] rest some off e = absurd (omega arith)
+list_again between item P form E may r (x ∷ []) rest some off e =
+    ap (λ (symbols : List Symbol). listed between item (symbols ++ rest)) (append-nil (form x)) ∙ listed_is between item (shorter item (Formed P form) E r) (form x ++ rest) ∙ ap (λ z. z >>= λ y. behind_item between (listed between item) y.0 y.1) (r.again x (form x) rest (some.1.0, refl) e) ∙ rw off refl
+list_again between item P form E may r (x ∷ y ∷ ys) rest some off e =
     let all = listed between item in
     let behind = listed_form between form (y ∷ ys) in
-    ap all (append_assoc (form x) (sign_symbol between ∷ behind) rest) ∙ listed_is between item (shorter item (Formed P form) Always r) (form x ++ sign_symbol between ∷ (behind ++ rest))
-    ∙ ap (λ z. z >>= λ u. behind_item between all u.0 u.1) (r.again x (form x) (sign_symbol between ∷ (behind ++ rest)) (some.1.0, refl) tt)
-    ∙ rw (is_sign_self between) (ap (λ z. z >>= λ xs. Ok (x ∷ xs.0, xs.1)) (list_again between item P form r (y ∷ ys) rest (omega arith, some.1.1) off))
+    ap all (append_assoc (form x) (sign_symbol between ∷ behind) rest) ∙ listed_is between item (shorter item (Formed P form) E r) (form x ++ sign_symbol between ∷ (behind ++ rest))
+    ∙ ap (λ z. z >>= λ u. behind_item between all u.0 u.1) (r.again x (form x) (sign_symbol between ∷ (behind ++ rest)) (some.1.0, refl) (may (behind ++ rest)))
+    ∙ rw (is_sign_self between) (ap (λ z. z >>= λ xs. Ok (x ∷ xs.0, xs.1)) (list_again between item P form E may r (y ∷ ys) rest (omega arith, some.1.1) off e))
 
 -- The rest does not go on with the sign.
 abbrev pub Parted : Sign → List Symbol → Type 0
 Parted between rest = goes_on between rest ≡ false
 
-pub listed_reader : {A : Type 0} (between : Sign) (item : List Symbol → Read A) (P : A → Type 0) (form : A → List Symbol) → IsReader item (Formed P form) Always → IsReader (listed between item) (Formed (AreListed P) (listed_form between form)) (Parted between)
-listed_reader between item P form r =
+-- Nor with what an item goes on with.
+abbrev pub EndsList : Sign → (List Symbol → Type 0) → List Symbol → Type 0
+EndsList between E rest = Parted between rest × E rest
+
+-- A list of items that end before the sign.
+pub list_reader : {A : Type 0} (between : Sign) (item : List Symbol → Read A) (P : A → Type 0) (form : A → List Symbol) (E : List Symbol → Type 0) → MayStandBefore between E → IsReader item (Formed P form) E
+    → IsReader (listed between item) (Formed (AreListed P) (listed_form between form)) (EndsList between E)
+list_reader between item P form E may r =
     let first = r.form.0 in
     record {
       value = r.value ∷ [];
-      example = form r.value;
+      example = listed_form between form (r.value ∷ []);
       form = (all_one P r.value first, refl);
-      tells = λ symbols. list_tells between item P form r (suc (length symbols)) symbols (omega arith);
-      again = λ xs front rest f off. ap (λ (symbols : List Symbol). listed between item (symbols ++ rest)) f.1 ∙ list_again between item P form r xs rest f.0 off;
+      tells = λ symbols. list_tells between item P form E r (suc (length symbols)) symbols (omega arith);
+      again = λ xs front rest f e. ap (λ (symbols : List Symbol). listed between item (symbols ++ rest)) f.1 ∙ list_again between item P form E may r xs rest f.0 e.0 e.1;
     }
+
+-- A list of items that end anywhere.
+pub listed_reader : {A : Type 0} (between : Sign) (item : List Symbol → Read A) (P : A → Type 0) (form : A → List Symbol) → IsReader item (Formed P form) Always → IsReader (listed between item) (Formed (AreListed P) (listed_form between form)) (Parted between)
+listed_reader between item P form r =
+    reader_ends (listed between item) (Formed (AreListed P) (listed_form between form)) (EndsList between Always) (Parted between) (λ rest e. (e, tt)) (list_reader between item P form Always (λ rest. tt) r)
 
 -- ---- a part that may be left out
 
 -- It is left out, or stands behind its sign.
-abbrev pub IsOptional : {A : Type 0} → Sign → (List A → List Symbol → Type 0) → List A → List Symbol → Type 0
-IsOptional wanted F xs front = ((xs ≡ []) × (front ≡ [])) ⊎ ((rest : List Symbol) × (front ≡ sign_symbol wanted ∷ rest) × F xs rest)
+abbrev pub IsOptional : {A : Type 0} → Sign → A → (A → List Symbol → Type 0) → A → List Symbol → Type 0
+IsOptional wanted none F x front = ((x ≡ none) × (front ≡ [])) ⊎ ((rest : List Symbol) × (front ≡ sign_symbol wanted ∷ rest) × F x rest)
 
-present_tells : {A : Type 0} (wanted : Sign) (part : List Symbol → Read (List A)) (F : List A → List Symbol → Type 0) (symbol : Symbol) (symbols : List Symbol) (r : Read (List A)) → is_sign wanted symbol ≡ true → Tells part F symbols r
-    → Tells (optional wanted part) (IsOptional wanted F) (symbol ∷ symbols) r
+present_tells : {A : Type 0} (wanted : Sign) (none : A) (part : List Symbol → Read A) (F : A → List Symbol → Type 0) (symbol : Symbol) (symbols : List Symbol) (r : Read A) → is_sign wanted symbol ≡ true → Tells part F symbols r
+    → Tells (optional wanted none part) (IsOptional wanted none F) (symbol ∷ symbols) r
 unfolding optional
-present_tells wanted part F symbol symbols (Ok xs) on t = record {
+present_tells wanted none part F symbol symbols (Ok x) on t = record {
   front = symbol ∷ t.front;
   whole = ap (λ rest. symbol ∷ rest) t.whole;
   form = inr (t.front, ap (λ s. s ∷ t.front) (is_sign_symbol wanted symbol on), t.form);
   local = λ next behind other e. rw on (t.local next behind other e);
 }
-present_tells wanted part F symbol symbols (Err left) on t = record {
+present_tells wanted none part F symbol symbols (Err left) on t = record {
   front = symbol ∷ t.front;
   rest = t.rest;
   whole = ap (λ rest. symbol ∷ rest) t.whole;
@@ -213,30 +228,31 @@ present_tells wanted part F symbol symbols (Err left) on t = record {
   local = λ next behind other e. rw on (t.local next behind other e);
 }
 
-optional_tells : {A : Type 0} (wanted : Sign) (part : List Symbol → Read (List A)) (F : List A → List Symbol → Type 0) (E : List Symbol → Type 0) → IsReader part F E → (symbols : List Symbol) → Tells (optional wanted part) (IsOptional wanted F) symbols (optional wanted part symbols)
+optional_tells : {A : Type 0} (wanted : Sign) (none : A) (part : List Symbol → Read A) (F : A → List Symbol → Type 0) (E : List Symbol → Type 0) → IsReader part F E → (symbols : List Symbol)
+    → Tells (optional wanted none part) (IsOptional wanted none F) symbols (optional wanted none part symbols)
 unfolding optional
-optional_tells wanted part F E r [] = record { front = []; whole = refl; form = inl (refl, refl); local = λ next behind other e. absurd cc }
-optional_tells wanted part F E r (symbol ∷ symbols) =
+optional_tells wanted none part F E r [] = record { front = []; whole = refl; form = inl (refl, refl); local = λ next behind other e. absurd cc }
+optional_tells wanted none part F E r (symbol ∷ symbols) =
     elim (cases_Bool (is_sign wanted symbol)) [
-      | inl on ↦ rw on (present_tells wanted part F symbol symbols (part symbols) on (r.tells symbols))
+      | inl on ↦ rw on (present_tells wanted none part F symbol symbols (part symbols) on (r.tells symbols))
       | inr off ↦
           rw off (record { front = []; whole = refl; form = inl (refl, refl); local = λ next behind other e. let same : symbol ≡ next = cc in let there : is_sign wanted next ≡ false = ap (is_sign wanted) (sym same) ∙ off in rw there refl })
     ]
 
-optional_again : {A : Type 0} (wanted : Sign) (part : List Symbol → Read (List A)) (F : List A → List Symbol → Type 0) (E : List Symbol → Type 0) → IsReader part F E → (xs : List A) (front rest : List Symbol) → IsOptional wanted F xs front → Parted wanted rest → E rest
-    → optional wanted part (front ++ rest) ≡ given xs rest
+optional_again : {A : Type 0} (wanted : Sign) (none : A) (part : List Symbol → Read A) (F : A → List Symbol → Type 0) (E : List Symbol → Type 0) → IsReader part F E → (x : A) (front rest : List Symbol) → IsOptional wanted none F x front → Parted wanted rest → E rest
+    → optional wanted none part (front ++ rest) ≡ given x rest
 unfolding optional
-optional_again wanted part F E r xs front rest f off e =
+optional_again wanted none part F E r x front rest f off e =
     elim f [
-      | inl none ↦ rw (none.0, none.1, off) refl
-      | inr some ↦ let on = is_sign_self wanted in rw (some.1, on) (r.again xs some.0 rest some.2 e)
+      | inl absent ↦ rw (absent.0, absent.1, off) refl
+      | inr some ↦ let on = is_sign_self wanted in rw (some.1, on) (r.again x some.0 rest some.2 e)
     ]
 
-pub optional_reader : {A : Type 0} (wanted : Sign) (part : List Symbol → Read (List A)) (F : List A → List Symbol → Type 0) (E : List Symbol → Type 0) → IsReader part F E → IsReader (optional wanted part) (IsOptional wanted F) (λ rest. Parted wanted rest × E rest)
-optional_reader wanted part F E r = record {
-  value = [];
+pub optional_reader : {A : Type 0} (wanted : Sign) (none : A) (part : List Symbol → Read A) (F : A → List Symbol → Type 0) (E : List Symbol → Type 0) → IsReader part F E → IsReader (optional wanted none part) (IsOptional wanted none F) (EndsList wanted E)
+optional_reader wanted none part F E r = record {
+  value = none;
   example = [];
   form = inl (refl, refl);
-  tells = optional_tells wanted part F E r;
-  again = λ xs front rest f e. optional_again wanted part F E r xs front rest f e.0 e.1;
+  tells = optional_tells wanted none part F E r;
+  again = λ x front rest f e. optional_again wanted none part F E r x front rest f e.0 e.1;
 }

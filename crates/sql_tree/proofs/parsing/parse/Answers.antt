@@ -13,7 +13,12 @@ statement-requires c = rw c.as_slice-all.ensures (recursion_from_All (StandsIn c
 pub returns-in-Ok-statement-clause-spelled : goal.returns-in-Ok-statement-clause-spelled
 returns-in-Ok-statement-clause-spelled c =
     let read = read_has_form (symbols_of c.args.text.now c.as_slice-all.result.now) c.in-Ok-statement.statement c.in-Ok-statement.ensures in
-    (c.as_slice-all.result.now, subst (AreTokens c.args.text.now) (sym c.as_slice-all.ensures) c.in-Ok.ensures.found, read.1, read.0)
+    record {
+      tokens = c.as_slice-all.result.now;
+      are = subst (AreTokens c.args.text.now) (sym c.as_slice-all.ensures) c.in-Ok.ensures.found;
+      form = read.form;
+      proper = read.proper;
+    }
 
 pub place_left-requires : goal.place_left-requires
 place_left-requires c =
