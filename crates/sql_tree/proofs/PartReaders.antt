@@ -19,7 +19,7 @@ use Rattle.sql_tree.specs.declared.head.Sign.TheVariants as sign
 use Rattle.sql_tree.specs.declared.head.Aggregate.TheVariants as aggregate
 use Rattle.sql_tree.specs.declared.head.Operator.{Operator}
 use Rattle.sql_tree.specs.declared.head.Operator.TheVariants as operator
-use Rattle.sql_tree.specs.Reading.{sign_symbol, Read, ItemHead, Named, Aggregated, enclosed, listed, read_first, item_head, item_behind, operator_in, cond_behind, expect, read_name, read_value, read_tuple, read_metric, read_star, read_item, read_cond, read_where, read_by, read_group}
+use Rattle.sql_tree.specs.Reading.{sign_symbol, Readout, ItemHead, Named, Aggregated, enclosed, listed, read_first, item_head, item_behind, operator_in, cond_behind, expect, read_name, read_value, read_tuple, read_metric, read_star, read_item, read_cond, read_where, read_by, read_group}
 use Rattle.sql_tree.proofs.Readers.{given, IsReader, Always, Formed, IsMade, IsThen, IsLed, sequence, reader_as, sequence_reader, done_reader, made_reader, led_reader}
 use Rattle.sql_tree.proofs.ReadersOfLists.{AreListed, listed_form, Parted, IsOptional, listed_reader, optional_reader}
 use Rattle.sql_tree.proofs.SymbolReaders.{Any, IsName, IsHead, head_symbol, operator_symbol, value_symbol, value_form_is, IsSigned, signed_reader, expect_reader, name_reader, value_symbol_reader, value_reader, head_reader, operator_reader}
@@ -63,7 +63,7 @@ enclosed_from P form xs front f = (
   },
 )
 
-pub enclosed_reader : {A : Type 0} (item : List Symbol → Read A) (P : A → Type 0) (form : A → List Symbol) → IsReader item (Formed P form) Always → IsReader (enclosed item) (Formed (AreEnclosed P) (list_form form)) Always
+pub enclosed_reader : {A : Type 0} (item : List Symbol → Readout A) (P : A → Type 0) (form : A → List Symbol) → IsReader item (Formed P form) Always → IsReader (enclosed item) (Formed (AreEnclosed P) (list_form form)) Always
 unfolding enclosed
 enclosed_reader {A} item P form r =
     let closed = λ (xs : List A). sequence (expect sign.Close) (λ u. given xs) in

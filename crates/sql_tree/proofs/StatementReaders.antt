@@ -25,7 +25,7 @@ use Rattle.sql_tree.specs.declared.head.Shown.TheVariants as shown
 use Rattle.sql_tree.specs.declared.head.Sign.TheVariants as sign
 use Rattle.sql_tree.specs.declared.head.Verb.{Verb}
 use Rattle.sql_tree.specs.declared.head.Verb.TheVariants as verb
-use Rattle.sql_tree.specs.Reading.{Read, enclosed, listed, read_first, shown_in, verb_in, expect, read_name, read_text, read_count, read_tuple, read_item, read_where, read_group, read_selection, read_having, read_order, read_limit, read_column, read_select, read_watch, read_insert, read_load, read_delete, read_create, read_show, statement_shown, statement_behind, ended, read_begun, read_statement}
+use Rattle.sql_tree.specs.Reading.{Readout, enclosed, listed, read_first, shown_in, verb_in, expect, read_name, read_text, read_count, read_tuple, read_item, read_where, read_group, read_selection, read_having, read_order, read_limit, read_column, read_select, read_watch, read_insert, read_load, read_delete, read_create, read_show, statement_shown, statement_behind, ended, read_begun, read_statement}
 use Rattle.sql_tree.proofs.Readers.{given, Tells, IsReader, Always, Formed, IsMade, IsThen, IsLed, sequence, reader_as, reader_ends, sequence_reader, done_reader, made_reader, led_reader}
 use Rattle.sql_tree.proofs.ReadersOfLists.{AreListed, listed_form, Parted, listed_reader}
 use Rattle.sql_tree.proofs.SymbolReaders.{Any, IsName, IsCount, IsSigned, shown_keyword, signed_reader, expect_reader, name_reader, text_reader, count_reader, shown_reader, verb_keyword, verb_reader}
@@ -286,7 +286,7 @@ BehindVerb verb.Create = IsCreate
 BehindVerb verb.Watch = IsWatch
 
 -- a reader that ends anywhere ends there
-at_end : (read : List Symbol → Read Statement) (F : Statement → List Symbol → Type 0) → IsReader read F Always → IsReader read F IsEnd
+at_end : (read : List Symbol → Readout Statement) (F : Statement → List Symbol → Type 0) → IsReader read F Always → IsReader read F IsEnd
 at_end read F r = reader_ends read F Always IsEnd (λ rest e. tt) r
 
 alone : (s : Statement) → IsReader (given s) (IsDone s) IsEnd

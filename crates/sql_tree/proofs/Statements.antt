@@ -9,9 +9,9 @@ use Rattle.cube_language.specs.Symbols.{symbol_of, symbols_of}
 use Rattle.cube_language.specs.Syntax.{IsForm, CanBegin, GoesWrongAt, GoesWrong}
 use Rattle.cube_language.specs.Tokens.{AreTokens, fault_at}
 use Rattle.sql_tree.specs.Laws.{AnyStatement, AnySyntaxFault}
-use Rattle.sql_tree.specs.Reading.{Read, ◌>>=◌, ended, read_begun, read_statement}
+use Rattle.sql_tree.specs.Reading.{Readout, ◌>>=◌, ended, read_begun, read_statement}
 use Rattle.sql_words.specs.Laws.{AnyTokens, AnyTokenFault}
-use Rattle.sql_tree.specs.Places.{place_of}
+use Rattle.sql_tree.specs.Places.{first_place}
 use Rattle.sql_tree.proofs.Readers.{given, Tells, IsLocal, stuck}
 use Rattle.sql_tree.proofs.StatementReaders.{HasForm, statement_reader}
 
@@ -29,7 +29,7 @@ form_is_one a b symbols f g =
     let same : alone a ≡ alone b = cc in
     ap (λ (z : Statement × List Symbol). z.0) same
 
-tells_whole : (symbols : List Symbol) (r : Read Statement) → Tells read_statement HasForm symbols r → (s : Statement) → r ≡ Ok (s, []) → HasForm s symbols
+tells_whole : (symbols : List Symbol) (r : Readout Statement) → Tells read_statement HasForm symbols r → (s : Statement) → r ≡ Ok (s, []) → HasForm s symbols
 tells_whole symbols (Ok x) t s e =
     let same : x.0 ≡ s = let pair : x ≡ (s, []) = cc in ap (λ (z : Statement × List Symbol). z.0) pair in
     let none : x.1 ≡ [] = let pair : x ≡ (s, []) = cc in ap (λ (z : Statement × List Symbol). z.1) pair in
@@ -68,7 +68,7 @@ is_wrong front (symbol ∷ symbols) local e = λ begins.
     let both : given begins.statement [] ≡ stuck (symbol ∷ begins.more) = sym there ∙ here in
     cc
 
-tells_stop : (symbols : List Symbol) (r : Read Statement) → read_statement symbols ≡ r → Tells read_statement HasForm symbols r → (left : ℕ) → r ≡ Err left → StopsThere symbols left
+tells_stop : (symbols : List Symbol) (r : Readout Statement) → read_statement symbols ≡ r → Tells read_statement HasForm symbols r → (left : ℕ) → r ≡ Err left → StopsThere symbols left
 tells_stop symbols (Ok x) is t left e = absurd cc
 tells_stop symbols (Err n) is t left e =
     let same : n ≡ left = cc in
@@ -86,12 +86,12 @@ stops_there symbols left e = tells_stop symbols (read_statement symbols) refl (s
 
 -- ---- the place of what is left
 
-wrong_at : (text : List ℕ) (front rest : List Token) (at : ℕ) → IsWrong (symbols_of text front) (symbols_of text rest) → at ≡ place_of text rest → GoesWrongAt text front rest at
+wrong_at : (text : List ℕ) (front rest : List Token) (at : ℕ) → IsWrong (symbols_of text front) (symbols_of text rest) → at ≡ first_place text rest → GoesWrongAt text front rest at
 wrong_at text front [] at wrong e = (wrong, e)
 wrong_at text front (t ∷ ts) at wrong e = (subst (λ (symbols : List Symbol). CanBegin symbols → ⊥) (sym (map-append (symbol_of text) front (t ∷ []))) wrong, e)
 
 -- what is left of the symbols is what those of the tokens say that are left
-pub goes_wrong : (text : List ℕ) (tokens : List Token) (left at : ℕ) → AreTokens text tokens → read_statement (symbols_of text tokens) ≡ Err left → at ≡ place_of text (drop (length tokens - left) tokens) → GoesWrong text at
+pub goes_wrong : (text : List ℕ) (tokens : List Token) (left at : ℕ) → AreTokens text tokens → read_statement (symbols_of text tokens) ≡ Err left → at ≡ first_place text (drop (length tokens - left) tokens) → GoesWrong text at
 goes_wrong text tokens left at are e place =
     let stop = stops_there (symbols_of text tokens) left e in
     let k = length stop.front in
@@ -104,7 +104,7 @@ goes_wrong text tokens left at are e place =
       rest = drop k tokens;
       tokens = subst (AreTokens text) (sym (take-append-drop k tokens)) are;
       begins = subst CanBegin (sym front) stop.begins;
-      wrong = wrong_at text (take k tokens) (drop k tokens) at (rw (front, rest) stop.wrong) (place ∙ ap (λ n. place_of text (drop n tokens)) there);
+      wrong = wrong_at text (take k tokens) (drop k tokens) at (rw (front, rest) stop.wrong) (place ∙ ap (λ n. first_place text (drop n tokens)) there);
     }
 
 -- ---- the laws, where a text has one list of tokens at most
@@ -186,7 +186,7 @@ left_fits text tokens left e =
 
 -- ---- a text spells a statement or goes wrong
 
-ended_at : (r : Read Statement) (x : Statement × List Symbol) → (r >>= λ read. ended read.0 read.1) ≡ Ok x → x.1 ≡ []
+ended_at : (r : Readout Statement) (x : Statement × List Symbol) → (r >>= λ read. ended read.0 read.1) ≡ Ok x → x.1 ≡ []
 ended_at (Ok (s, [])) x e = let same : alone s ≡ x = cc in ap (λ (z : Statement × List Symbol). z.1) (sym same)
 ended_at (Ok (s, symbol ∷ symbols)) x e = absurd cc
 ended_at (Err left) x e = absurd cc
@@ -196,13 +196,13 @@ nothing_left : (symbols : List Symbol) (x : Statement × List Symbol) → read_s
 unfolding read_statement
 nothing_left symbols x e = ended_at (read_begun symbols) x e
 
-by_tokens : (text : List ℕ) (tokens : List Token) → AreTokens text tokens → (r : Read Statement) → read_statement (symbols_of text tokens) ≡ r → AnyStatement text ⊎ AnySyntaxFault text
+by_tokens : (text : List ℕ) (tokens : List Token) → AreTokens text tokens → (r : Readout Statement) → read_statement (symbols_of text tokens) ≡ r → AnyStatement text ⊎ AnySyntaxFault text
 by_tokens text tokens are (Ok x) e =
     let whole : read_statement (symbols_of text tokens) ≡ given x.0 [] = e ∙ ap (λ rest. given x.0 rest) (nothing_left (symbols_of text tokens) x e) in
     let f = read_has_form (symbols_of text tokens) x.0 whole in
     inl (x.0, record { tokens = tokens; are = are; form = f.form; proper = f.proper })
 by_tokens text tokens are (Err left) e =
-    inr (place_of text (drop (length tokens - left) tokens), inr (goes_wrong text tokens left (place_of text (drop (length tokens - left) tokens)) are e refl))
+    inr (first_place text (drop (length tokens - left) tokens), inr (goes_wrong text tokens left (first_place text (drop (length tokens - left) tokens)) are e refl))
 
 -- where a text has tokens or a fault among them
 pub statement_or_fault : (text : List ℕ) → AnyTokens text ⊎ AnyTokenFault text → AnyStatement text ⊎ AnySyntaxFault text

@@ -24,7 +24,7 @@ use Rattle.sql_tree.specs.declared.head.Shown.{Shown}
 use Rattle.sql_tree.specs.declared.head.Shown.TheVariants as shown
 use Rattle.sql_tree.specs.declared.head.Verb.{Verb}
 use Rattle.sql_tree.specs.declared.head.Verb.TheVariants as verb
-use Rattle.sql_tree.specs.Reading.{sign_symbol, Read, ItemHead, Named, Aggregated, read_first, is_sign, sign_in, fits, name_in, number_in, value_in, text_in, count_in, size_in, operator_in, aggregate_in, verb_in, shown_in, column_head_in, kind_in, item_head, expect, read_name, read_number, read_value, read_text, read_count, read_size}
+use Rattle.sql_tree.specs.Reading.{sign_symbol, Readout, ItemHead, Named, Aggregated, read_first, is_sign, sign_in, fits, name_in, number_in, value_in, text_in, count_in, size_in, operator_in, aggregate_in, verb_in, shown_in, column_head_in, kind_in, item_head, expect, read_name, read_number, read_value, read_text, read_count, read_size}
 use Rattle.sql_tree.proofs.Keywords.{is_sign_symbol, is_sign_self}
 use Rattle.sql_tree.proofs.Readers.{IsReader, Always, Formed, IsLed, Means, sequence, first_reader, led_reader, reader_as}
 
@@ -55,7 +55,7 @@ expect_reader wanted = first_reader (sign_in wanted) Any (λ u. sign_symbol want
 abbrev pub IsSigned : {B : Type 0} → Sign → (B → List Symbol → Type 0) → B → List Symbol → Type 0
 IsSigned wanted G y front = (rest : List Symbol) × (front ≡ sign_symbol wanted ∷ rest) × G y rest
 
-pub signed_reader : {B : Type 0} (wanted : Sign) (q : List Symbol → Read B) (G : B → List Symbol → Type 0) (E : List Symbol → Type 0) → IsReader q G E → IsReader (sequence (expect wanted) (λ u. q)) (IsSigned wanted G) E
+pub signed_reader : {B : Type 0} (wanted : Sign) (q : List Symbol → Readout B) (G : B → List Symbol → Type 0) (E : List Symbol → Type 0) → IsReader q G E → IsReader (sequence (expect wanted) (λ u. q)) (IsSigned wanted G) E
 signed_reader wanted q G E r =
     reader_as (sequence (expect wanted) (λ u. q)) (IsLed Any (λ u. sign_symbol wanted) (λ u. G)) (IsSigned wanted G) E
     (λ y front h. (h.2, h.3, h.4))

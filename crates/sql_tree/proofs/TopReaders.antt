@@ -21,7 +21,7 @@ use Rattle.sql_tree.specs.declared.head.Aggregate.TheVariants as aggregate
 use Rattle.sql_tree.specs.declared.head.Operator.{Operator}
 use Rattle.sql_tree.specs.declared.head.Operator.TheVariants as operator
 use Rattle.sql_tree.specs.declared.head.Sign.TheVariants as sign
-use Rattle.sql_tree.specs.Reading.{Read, Aggregated, read_first, expect, enclosed, listed, operator_in, aggregate_in, direction_in, item_behind, bound_behind, read_number, read_count, read_item, read_bound, read_aggregate, read_test, read_having, read_direction, read_key, read_keys, read_order, read_some_count, read_limit}
+use Rattle.sql_tree.specs.Reading.{Readout, Aggregated, read_first, expect, enclosed, listed, operator_in, aggregate_in, direction_in, item_behind, bound_behind, read_number, read_count, read_item, read_bound, read_aggregate, read_test, read_having, read_direction, read_key, read_keys, read_order, read_some_count, read_limit}
 use Rattle.sql_tree.proofs.Readers.{given, Tells, IsReader, Always, Formed, IsMade, IsThen, IsLed, sequence, reader_as, sequence_reader, made_reader, led_reader}
 use Rattle.sql_tree.proofs.ReadersOfLists.{AreListed, listed_form, Parted, EndsList, IsOptional, list_reader, listed_reader, optional_reader}
 use Rattle.sql_tree.proofs.SymbolReaders.{Any, IsCount, IsSigned, aggregate_keyword, operator_symbol, signed_reader, number_reader, number_symbol_reader, count_reader, operator_reader, aggregate_word_reader}

@@ -102,12 +102,7 @@ fn put_insert(out: &mut Vec<Symbol>, cube: &Text, rows: &[Values]) -> Result<(),
 }
 
 /// Appends a LOAD.
-fn put_load(
-    out: &mut Vec<Symbol>,
-    cube: &Text,
-    path: &Text,
-    reject: u64,
-) -> Result<(), AllocError>
+fn put_load(out: &mut Vec<Symbol>, cube: &Text, path: &Text, reject: u64) -> Result<(), AllocError>
     ensures { OnOk result (out.new.items ≡ out.old.items ++ form_of (statement.Load cube.now path.now reject)) }
 {
     put_keyword(out, Keyword::Load)?;

@@ -108,7 +108,11 @@ pub(crate) fn aggregate<'a>(
 
 /// An item, and the tokens behind it.
 #[tactic(auto, unfolding(crate::specs::Reading::read_item, crate::specs::Reading::read_name))]
-pub(crate) fn item<'a>(alloc: Global, text: &str, tokens: &'a [Token]) -> Result<(Item, &'a [Token]), Miss>
+pub(crate) fn item<'a>(
+    alloc: Global,
+    text: &str,
+    tokens: &'a [Token],
+) -> Result<(Item, &'a [Token]), Miss>
     requires { AreIn text.now tokens.now }
     ensures read { Gives (λ x. (x.0, symbols_of text.now x.1.now)) result (read_item (symbols_of text.now tokens.now)) }
     ensures rest { IfOk result (λ x. IsRest text.now tokens.now x.1.now) }

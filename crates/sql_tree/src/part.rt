@@ -4,7 +4,7 @@ ghost use Rattle.std.specs.Prelude.{◌≡◌, List, IfOk};
 ghost use Rattle.cube_language.specs.declared.symbol.Symbol.{Symbol};
 ghost use Rattle.cube_language.specs.Symbols.{symbols_of};
 ghost use Rattle.sql_tree.specs.Places.{AreIn, IsRest};
-ghost use Rattle.sql_tree.specs.Reading.{Gives, Read, enclosed, listed, read_name, read_number, read_value};
+ghost use Rattle.sql_tree.specs.Reading.{Gives, Readout, enclosed, listed, read_name, read_number, read_value};
 
 use crate::head::Sign;
 use crate::read::{Miss, after, name, number, sign, value};
@@ -15,7 +15,7 @@ use std::alloc::Global;
 /// A part of a statement that is read from its tokens.
 pub(crate) trait Part: Sized {
     /// How it is read from symbols.
-    ghost reading: { List Symbol → Read Self };
+    ghost reading: { List Symbol → Readout Self };
 
     /// The part that stands first, and the tokens behind it.
     fn part<'a>(alloc: Global, text: &str, tokens: &'a [Token]) -> Result<(Self, &'a [Token]), Miss>

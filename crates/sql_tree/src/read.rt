@@ -3,7 +3,7 @@
 ghost use Rattle.std.specs.Prelude.{◌≡◌, false, IfOk, IfSome, IfNone};
 ghost use Rattle.cube_language.specs.Symbols.{symbols_of};
 ghost use Rattle.sql_tree.specs.Places.{AreIn, BeginsWith, IsRest};
-ghost use Rattle.sql_tree.specs.Reading.{Gives, expect, goes_on, read_count, read_name, read_number, read_size, read_text, read_value};
+ghost use Rattle.sql_tree.specs.Reading.{Gives, expect, stands_first, read_count, read_name, read_number, read_size, read_text, read_value};
 
 use crate::head::Sign;
 use crate::symbol::{count_in, is_sign, name_in, number_in, size_in, text_in, value_in};
@@ -19,7 +19,7 @@ pub(crate) type Miss = CallError<usize>;
 pub(crate) fn after<'a>(text: &str, tokens: &'a [Token], wanted: Sign) -> Option<&'a [Token]>
     requires { AreIn text.now tokens.now }
     ensures some { IfSome result (λ rest. BeginsWith wanted text.now tokens.now rest.now) }
-    ensures none { IfNone result (goes_on wanted (symbols_of text.now tokens.now) ≡ false) }
+    ensures none { IfNone result (stands_first wanted (symbols_of text.now tokens.now) ≡ false) }
 {
     match tokens {
         [first, rest @ ..] if is_sign(text, first, wanted) => Some(rest),

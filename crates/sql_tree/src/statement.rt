@@ -134,10 +134,7 @@ fn create<'a>(
 
 /// What is shown, and the tokens behind it.
 #[tactic(auto, unfolding(crate::specs::Reading::read_show))]
-fn show<'a>(
-    text: &str,
-    tokens: &'a [Token],
-) -> Result<(Statement, &'a [Token]), Miss>
+fn show<'a>(text: &str, tokens: &'a [Token]) -> Result<(Statement, &'a [Token]), Miss>
     requires { AreIn text.now tokens.now }
     ensures read { Gives (λ x. (x.0, symbols_of text.now x.1.now)) result (read_show (symbols_of text.now tokens.now)) }
     ensures rest { IfOk result (λ x. IsRest text.now tokens.now x.1.now) }

@@ -1,9 +1,7 @@
 //! Texts with the printed form of the statement that each spells, or with the place where each goes wrong,
 //! worked out by hand.
 
-use crate::{
-    a_text_spells_or_has_one_fault, parse, print, what_is_printed_spells_its_statement,
-};
+use crate::{a_text_spells_or_has_one_fault, parse, print, what_is_printed_spells_its_statement};
 use cube_language::Statement;
 use cube_values::CallError;
 use std::alloc::{AllocError, Global};
@@ -94,9 +92,15 @@ const TEXTS: [(&str, &str); 72] = [
         "select a,count(*),avg(m) from t group by a having count(*)=3 and sum(m) in(1,-2) and avg(m) between -5 and 5 order by a asc,sum(m) desc,count(*) limit 010",
         "SELECT a, COUNT(*), AVG(m) FROM t GROUP BY a HAVING COUNT(*) = 3 AND SUM(m) IN (1, -2) AND AVG(m) BETWEEN -5 AND 5 ORDER BY a, SUM(m) DESC, COUNT(*) LIMIT 10",
     ),
-    ("SELECT a FROM t ORDER BY a ASC", "SELECT a FROM t ORDER BY a"),
+    (
+        "SELECT a FROM t ORDER BY a ASC",
+        "SELECT a FROM t ORDER BY a",
+    ),
     ("SELECT a FROM t LIMIT -0", "SELECT a FROM t LIMIT 0"),
-    ("SELECT COUNT(*) FROM t HAVING MIN(m) = 1", "SELECT COUNT(*) FROM t HAVING MIN(m) = 1"),
+    (
+        "SELECT COUNT(*) FROM t HAVING MIN(m) = 1",
+        "SELECT COUNT(*) FROM t HAVING MIN(m) = 1",
+    ),
     (
         "create cube t(metric m,dim x int 05 2,metric k,dim y text 4294967295 -0)",
         "CREATE CUBE t (DIM x INT 5 2, DIM y TEXT 4294967295 0, METRIC m, METRIC k)",
@@ -116,7 +120,10 @@ const TEXTS: [(&str, &str); 72] = [
     ("SELECT a FROM t ORDER BY a ASC DESC", "Syntax at 31"),
     ("SELECT a FROM t ORDER BY asc", "Syntax at 25"),
     ("SELECT a FROM t LIMIT 1 ORDER BY a", "Syntax at 24"),
-    ("SELECT a FROM t ORDER BY a HAVING SUM(m) = 1", "Syntax at 27"),
+    (
+        "SELECT a FROM t ORDER BY a HAVING SUM(m) = 1",
+        "Syntax at 27",
+    ),
     ("WATCH SELECT a FROM t HAVING SUM(m) = 1", "Syntax at 22"),
     ("WATCH SELECT a FROM t ORDER BY a", "Syntax at 22"),
     ("WATCH SELECT a FROM t LIMIT 1", "Syntax at 22"),
@@ -124,7 +131,10 @@ const TEXTS: [(&str, &str); 72] = [
     ("SHOW", "Syntax at 4"),
     ("SHOW CUBE", "Syntax at 5"),
     ("CREATE CUBE t ()", "Syntax at 15"),
-    ("CREATE CUBE t (DIM x INT 4294967296 2, METRIC m)", "Syntax at 25"),
+    (
+        "CREATE CUBE t (DIM x INT 4294967296 2, METRIC m)",
+        "Syntax at 25",
+    ),
     ("CREATE CUBE t (DIM x INT 5 -2, METRIC m)", "Syntax at 27"),
     ("CREATE CUBE t (DIM x 5 2)", "Syntax at 21"),
     ("CREATE CUBE t (METRIC m,)", "Syntax at 24"),
@@ -220,8 +230,18 @@ enum Change {
 /// The changes of a form's tokens, by their numbers from 0, behind which the text goes wrong at another place,
 /// or not at all.
 const OTHERWISE: [(&str, usize, Change, Option<u64>); 9] = [
-    ("SELECT a FROM t GROUP BY a HAVING", 37, Change::LeftOut, None),
-    ("SELECT a FROM t GROUP BY a HAVING", 43, Change::LeftOut, None),
+    (
+        "SELECT a FROM t GROUP BY a HAVING",
+        37,
+        Change::LeftOut,
+        None,
+    ),
+    (
+        "SELECT a FROM t GROUP BY a HAVING",
+        43,
+        Change::LeftOut,
+        None,
+    ),
     ("SELECT a FROM t ORDER BY", 10, Change::LeftOut, None),
     ("CREATE CUBE", 10, Change::LeftOut, Some(39)),
     ("CREATE CUBE", 10, Change::Doubled, Some(41)),

@@ -45,11 +45,7 @@ fn bounded<'a>(
 
 /// A bound, and the tokens behind it.
 #[tactic(auto, unfolding(crate::specs::Reading::read_bound))]
-fn bound<'a>(
-    alloc: Global,
-    text: &str,
-    tokens: &'a [Token],
-) -> Result<(Bound, &'a [Token]), Miss>
+fn bound<'a>(alloc: Global, text: &str, tokens: &'a [Token]) -> Result<(Bound, &'a [Token]), Miss>
     requires { AreIn text.now tokens.now }
     ensures read { Gives (λ x. (x.0, symbols_of text.now x.1.now)) result (read_bound (symbols_of text.now tokens.now)) }
     ensures rest { IfOk result (λ x. IsRest text.now tokens.now x.1.now) }
@@ -160,10 +156,7 @@ pub(crate) fn order<'a>(
 
 /// `LIMIT count`, no limit where it does not come, and the tokens behind it.
 #[tactic(auto, unfolding(crate::specs::Reading::read_limit, crate::specs::Reading::read_some_count, crate::specs::Reading::optional))]
-pub(crate) fn limit<'a>(
-    text: &str,
-    tokens: &'a [Token],
-) -> Result<(Option<u64>, &'a [Token]), Miss>
+pub(crate) fn limit<'a>(text: &str, tokens: &'a [Token]) -> Result<(Option<u64>, &'a [Token]), Miss>
     requires { AreIn text.now tokens.now }
     ensures read { Gives (λ x. (x.0, symbols_of text.now x.1.now)) result (read_limit (symbols_of text.now tokens.now)) }
     ensures rest { IfOk result (λ x. IsRest text.now tokens.now x.1.now) }
