@@ -13,5 +13,6 @@ pub mod Printed
 pub mod StatementParts
 pub mod SameItems
 pub mod ColumnUses
+pub mod Columns
 pub mod RowFaults
 pub mod Misfits

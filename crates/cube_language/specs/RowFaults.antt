@@ -1,6 +1,6 @@
 -- Which rows a cube can store.
 -- Source: this project's own.
-use Rattle.std.specs.Prelude.{ℕ, ◌+◌, not, ◌&&◌, ◌==◌, nat_lt, List, [], ◌∷◌, ◌++◌, length, map, pos, negsuc, ℤ, Option, Some, None, if◌then◌else◌}
+use Rattle.std.specs.Prelude.{ℕ, ◌+◌, not, ◌&&◌, ◌==◌, nat_lt, List, [], ◌∷◌, length, pos, negsuc, ℤ, Option, Some, None, if◌then◌else◌}
 use Rattle.std.specs.Option.{option_map, option_or}
 use Rattle.cube_values.specs.declared.value.Value.{Value}
 use Rattle.cube_values.specs.declared.value.Value.TheVariants.{Text, Int}
@@ -9,21 +9,11 @@ use Rattle.cube_language.specs.declared.bad_row.BadRow.TheVariants as bad
 use Rattle.cube_language.specs.declared.bad_row.Reason.{Reason}
 use Rattle.cube_language.specs.declared.bad_row.Reason.TheVariants.{NotNumber, OutOfRange, NotText, TooLong}
 use Rattle.cube_language.specs.declared.bad_row.TheConstants.{TEXT_BYTES}
+use Rattle.cube_language.specs.Columns.{columns_of, column_name}
+use Rattle.cube_language.specs.declared.decl.Column.{Column}
+use Rattle.cube_language.specs.declared.decl.Column.TheVariants.{Dim, Metric}
 use Rattle.cube_language.specs.declared.decl.Decl.{Decl}
 use Rattle.cube_language.specs.declared.decl.DimDecl.{DimDecl}
-
--- A column of a cube.
-pub data Column : Type 0 where
-  Dim : DimDecl → Column
-  Metric : List ℕ → Column
-
--- The columns of a cube, dimensions first.
-abbrev pub columns_of : Decl → List Column
-columns_of d = map Dim d.dims ++ map Metric d.metrics
-
-abbrev pub column_name : Column → List ℕ
-column_name (Dim dim) = dim.name
-column_name (Metric name) = name
 
 -- Why a text is no value of a dimension of texts.
 abbrev pub text_reason : List ℕ → Option Reason

@@ -4,22 +4,12 @@ use Rattle.std.specs.Prelude.{ℕ, ◌-◌, ◌==◌, ◌&&◌, List, [], ◌∷
 use Rattle.std.specs.Option.{option_map_or}
 use Rattle.cube_language.specs.Keywords.{keyword_of}
 use Rattle.cube_language.specs.declared.keyword.Keyword.{Keyword as KeywordWord}
+use Rattle.cube_language.specs.declared.symbol.Symbol.{Symbol}
+use Rattle.cube_language.specs.declared.symbol.Symbol.TheVariants.{Keyword, Word, Number, Text, Open, Close, Comma, Equals, Star}
 use Rattle.cube_language.specs.declared.token.Token.{Token}
 use Rattle.cube_language.specs.declared.token.TokenKind.{TokenKind}
 use Rattle.cube_language.specs.declared.token.TokenKind.TheVariants as kind
 use Rattle.cube_language.specs.Tokens.{token_bytes}
-
--- What a token says.
-pub data Symbol : Type 0 where
-  Keyword : KeywordWord → Symbol
-  Word : List ℕ → Symbol
-  Number : ℤ → Symbol
-  Text : List ℕ → Symbol
-  Open : Symbol
-  Close : Symbol
-  Comma : Symbol
-  Equals : Symbol
-  Star : Symbol
 
 -- A word says the keyword that it spells, or else itself.
 abbrev pub word_symbol : List ℕ → Symbol

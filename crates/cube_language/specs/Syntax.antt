@@ -4,17 +4,21 @@ use Rattle.std.specs.Prelude.{◌≡◌, ℕ, ◌⊎◌, List, [], ◌∷◌, �
 use Rattle.cube_language.specs.declared.statement.Statement.{Statement}
 use Rattle.cube_language.specs.declared.token.Token.{Token}
 use Rattle.cube_language.specs.declared.token.TokenFault.{TokenFault}
-use Rattle.cube_language.specs.Grammar.{form_of, IsProper}
-use Rattle.cube_language.specs.Symbols.{Symbol, symbols_of}
+use Rattle.cube_language.specs.Grammar.{IsFormOf, IsProper}
+use Rattle.cube_language.specs.declared.symbol.Symbol.{Symbol}
+use Rattle.cube_language.specs.Symbols.{symbols_of}
 use Rattle.cube_language.specs.Tokens.{AreTokens, HasTokenFault, fault_at}
 
--- These are the symbols of a statement.
+-- The symbols are a form of some statement.
 abbrev pub IsForm : List Symbol → Type 0
-IsForm symbols = (statement : Statement) × IsProper statement × (form_of statement ≡ symbols)
+IsForm symbols = (statement : Statement) × IsProper statement × IsFormOf statement symbols
 
--- The symbols of some statement begin with these.
-abbrev pub CanBegin : List Symbol → Type 0
-CanBegin symbols = (statement : Statement) × IsProper statement × (more : List Symbol) × (form_of statement ≡ symbols ++ more)
+-- A form of some statement begins with the symbols.
+pub record CanBegin (symbols : List Symbol) : Type 0 where
+  pub statement : Statement
+  pub proper : IsProper statement
+  pub more : List Symbol
+  pub form : IsFormOf statement (symbols ++ more)
 
 -- Behind tokens with which a statement can begin, the text ends although they are none yet, or no statement goes
 -- on with the next token.

@@ -20,6 +20,16 @@ pub type DimDecls = Sequence<DimDecl>;
 /// Names in order.
 pub type Names = Sequence<Text>;
 
+/// A column of a cube: a dimension, or a metric by its name.
+#[derive(Clone, Debug, PartialEq, Eq, Drop)]
+pub enum Column {
+    Dim(DimDecl),
+    Metric(Text),
+}
+
+/// Columns in order.
+pub type Columns = Sequence<Column>;
+
 /// A cube with its dimensions and metrics.
 #[derive(Clone, Debug, PartialEq, Eq, Drop)]
 pub struct Decl {

@@ -12,7 +12,7 @@ use crate::files::{read_cubes, read_script};
 use crate::session::run_text;
 use cube_schema::a_text_declares_or_has_one_fault;
 use outside::{Shelf, Sink, put_whole};
-use sql_tree::{a_text_spells_one_statement, a_text_spells_or_has_one_fault};
+use sql_tree::a_text_spells_or_has_one_fault;
 use sql_words::a_script_has_statements_or_one_fault;
 use std::alloc::Global;
 
@@ -101,7 +101,6 @@ fn finish_files<H: Shelf, K: Sink>(
 {
     a_text_declares_or_has_one_fault();
     a_script_has_statements_or_one_fault();
-    a_text_spells_one_statement();
     a_text_spells_or_has_one_fault();
     finish(run_files(alloc, cubes, script, shelf, sink))
 }

@@ -10,11 +10,13 @@ use Rattle.cube_language.specs.Keywords.{spells, is_keyword, keyword_text, keywo
 use Rattle.cube_language.specs.Names.{is_name, is_word}
 use Rattle.cube_language.specs.declared.keyword.Keyword.{Keyword as KeywordWord}
 use Rattle.cube_language.specs.declared.keyword.Keyword.TheVariants as keyword
-use Rattle.cube_language.specs.Symbols.{Symbol, Keyword, Word, Open, Close, Comma, Star, word_symbol}
+use Rattle.cube_language.specs.declared.symbol.Symbol.{Symbol}
+use Rattle.cube_language.specs.declared.symbol.Symbol.TheVariants.{Keyword, Word, Open, Close, Comma, Star}
+use Rattle.cube_language.specs.Symbols.{word_symbol}
 use Rattle.sql_tree.specs.declared.head.Aggregate.{Aggregate}
 use Rattle.sql_tree.specs.declared.head.Sign.{Sign}
 use Rattle.sql_tree.specs.declared.head.Sign.TheVariants as sign
-use Rattle.sql_tree.specs.Reading.{aggregate_in, same_keyword, is_sign, keyword_in, name_in, value_in, text_in, count_in}
+use Rattle.sql_tree.specs.Reading.{aggregate_in, column_head_in, direction_in, kind_in, shown_in, same_keyword, sign_symbol, is_sign, keyword_in, name_in, number_in, size_in, value_in, text_in, count_in}
 
 -- a word that spells a keyword is that keyword
 pub spelled_is : (k : KeywordWord) (word : List ℕ) → map to_ascii_lowercase word ≡ keyword_text k → keyword_of word ≡ Some k
@@ -59,13 +61,6 @@ pub same_keyword_self : (k : KeywordWord) → same_keyword k k ≡ true
 same_keyword_self k = (bytes_eq-Decides (keyword_text k) (keyword_text k)).1 refl
 
 -- ---- signs
-
-abbrev pub sign_symbol : Sign → Symbol
-sign_symbol (sign.Keyword k) = Keyword k
-sign_symbol sign.Open = Open
-sign_symbol sign.Close = Close
-sign_symbol sign.Comma = Comma
-sign_symbol sign.Star = Star
 
 pub is_sign_symbol : (wanted : Sign) (symbol : Symbol) → is_sign wanted symbol ≡ true → symbol ≡ sign_symbol wanted
 is_sign_symbol (sign.Keyword wanted) (Keyword k) e = ap Keyword (same_keyword_is wanted k e)
@@ -120,6 +115,20 @@ text_in_said word None = refl
 pub text_in_word : (word : List ℕ) → text_in (word_symbol word) ≡ None
 text_in_word word = text_in_said word (keyword_of word)
 
+number_in_said : (word : List ℕ) (o : Option KeywordWord) → number_in (said word o) ≡ None
+number_in_said word (Some k) = refl
+number_in_said word None = refl
+
+pub number_in_word : (word : List ℕ) → number_in (word_symbol word) ≡ None
+number_in_word word = number_in_said word (keyword_of word)
+
+size_in_said : (word : List ℕ) (o : Option KeywordWord) → size_in (said word o) ≡ None
+size_in_said word (Some k) = refl
+size_in_said word None = refl
+
+pub size_in_word : (word : List ℕ) → size_in (word_symbol word) ≡ None
+size_in_word word = size_in_said word (keyword_of word)
+
 count_in_said : (word : List ℕ) (o : Option KeywordWord) → count_in (said word o) ≡ None
 count_in_said word (Some k) = refl
 count_in_said word None = refl
@@ -160,3 +169,23 @@ no_aggregate keyword.Max sum min max avg count = absurd (max refl)
 no_aggregate keyword.Avg sum min max avg count = absurd (avg refl)
 no_aggregate keyword.Count sum min max avg count = absurd (count refl)
 no_aggregate k sum min max avg count = refl
+
+pub no_shown : (k : KeywordWord) → (k ≡ keyword.Epochs → ⊥) → (k ≡ keyword.Watch → ⊥) → None ≡ shown_in (Keyword k)
+no_shown keyword.Epochs one two = absurd (one refl)
+no_shown keyword.Watch one two = absurd (two refl)
+no_shown k one two = refl
+
+pub no_direction : (k : KeywordWord) → (k ≡ keyword.Asc → ⊥) → (k ≡ keyword.Desc → ⊥) → None ≡ direction_in (Keyword k)
+no_direction keyword.Asc one two = absurd (one refl)
+no_direction keyword.Desc one two = absurd (two refl)
+no_direction k one two = refl
+
+pub no_column_head : (k : KeywordWord) → (k ≡ keyword.Dim → ⊥) → (k ≡ keyword.Metric → ⊥) → None ≡ column_head_in (Keyword k)
+no_column_head keyword.Dim one two = absurd (one refl)
+no_column_head keyword.Metric one two = absurd (two refl)
+no_column_head k one two = refl
+
+pub no_kind : (k : KeywordWord) → (k ≡ keyword.Text → ⊥) → (k ≡ keyword.Int → ⊥) → None ≡ kind_in (Keyword k)
+no_kind keyword.Text one two = absurd (one refl)
+no_kind keyword.Int one two = absurd (two refl)
+no_kind k one two = refl

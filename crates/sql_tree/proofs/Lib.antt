@@ -3,12 +3,12 @@ pub mod Keywords
 pub mod ReadersOfLists
 pub mod SymbolReaders
 pub mod PartReaders
+pub mod TopReaders
+pub mod ColumnReaders
 pub mod StatementReaders
 pub mod Statements
 pub mod Halves
 pub mod Lists
-pub mod Spaces
-pub mod StatementTexts
 pub mod SymbolTexts
 pub mod PrintedTokens
 pub mod SoundForms

@@ -11,15 +11,15 @@ use Rattle.cube_language.specs.declared.statement.Cond.TheVariants as cond
 use Rattle.cube_language.specs.declared.statement.Item.{Item}
 use Rattle.cube_language.specs.declared.statement.Item.TheVariants as item
 use Rattle.cube_language.specs.declared.keyword.Keyword.TheVariants as keyword
-use Rattle.cube_language.specs.Grammar.{separated, name_form, value_form, tuple_form, item_form, cond_form, where_form, group_form, IsProperValue, IsProperTuple, IsProperItem, IsProperCond}
-use Rattle.cube_language.specs.Symbols.{Symbol, Keyword, Word, Open, Close, Comma, Equals, Star}
+use Rattle.cube_language.specs.Grammar.{separated, name_form, value_form, list_form, tuple_form, item_form, cond_form, where_form, group_form, IsProperValue, IsProperTuple, IsProperItem, IsProperCond}
+use Rattle.cube_language.specs.declared.symbol.Symbol.{Symbol}
+use Rattle.cube_language.specs.declared.symbol.Symbol.TheVariants.{Keyword, Word, Open, Close, Comma, Equals, Star}
 use Rattle.sql_tree.specs.declared.head.Sign.{Sign}
 use Rattle.sql_tree.specs.declared.head.Sign.TheVariants as sign
 use Rattle.sql_tree.specs.declared.head.Aggregate.TheVariants as aggregate
 use Rattle.sql_tree.specs.declared.head.Operator.{Operator}
 use Rattle.sql_tree.specs.declared.head.Operator.TheVariants as operator
-use Rattle.sql_tree.specs.Reading.{ItemHead, Named, Aggregated, listed, read_first, item_head, item_behind, operator_in, cond_behind, expect, read_name, read_value, read_tuple, read_metric, read_star, read_item, read_cond, read_where, read_by, read_group}
-use Rattle.sql_tree.proofs.Keywords.{sign_symbol}
+use Rattle.sql_tree.specs.Reading.{sign_symbol, Readout, ItemHead, Named, Aggregated, enclosed, listed, read_first, item_head, item_behind, operator_in, cond_behind, expect, read_name, read_value, read_tuple, read_metric, read_star, read_item, read_cond, read_where, read_by, read_group}
 use Rattle.sql_tree.proofs.Readers.{given, IsReader, Always, Formed, IsMade, IsThen, IsLed, sequence, reader_as, sequence_reader, done_reader, made_reader, led_reader}
 use Rattle.sql_tree.proofs.ReadersOfLists.{AreListed, listed_form, Parted, IsOptional, listed_reader, optional_reader}
 use Rattle.sql_tree.proofs.SymbolReaders.{Any, IsName, IsHead, head_symbol, operator_symbol, value_symbol, value_form_is, IsSigned, signed_reader, expect_reader, name_reader, value_symbol_reader, value_reader, head_reader, operator_reader}
@@ -31,47 +31,55 @@ IsDone x y front = (y ≡ x) × (front ≡ [])
 pub closed_reader : {B : Type 0} (wanted : Sign) (y : B) → IsReader (sequence (expect wanted) (λ u. given y)) (IsSigned wanted (IsDone y)) Always
 closed_reader wanted y = signed_reader wanted (given y) (IsDone y) Always (done_reader y)
 
--- ---- tuples
+-- ---- lists in parentheses
 
-values_reader : IsReader (sequence (listed sign.Comma read_value) (λ values. sequence (expect sign.Close) (λ u. given values))) (IsThen (Formed (AreListed IsProperValue) (listed_form sign.Comma value_form)) (λ values. IsSigned sign.Close (IsDone values))) Always
-values_reader =
-    sequence_reader (listed sign.Comma read_value) (λ values. sequence (expect sign.Close) (λ u. given values)) (Formed (AreListed IsProperValue) (listed_form sign.Comma value_form)) (λ values. IsSigned sign.Close (IsDone values)) (Parted sign.Comma) Always
-    (listed_reader sign.Comma read_value IsProperValue value_form value_reader)
-    (λ values. closed_reader sign.Close values)
-    (λ values y front rest h e. rw h.1 refl)
+-- Some values of a form.
+abbrev pub AreEnclosed : {A : Type 0} → (A → Type 0) → List A → Type 0
+AreEnclosed P xs = (0 < length xs) × All P xs
 
-tuple_to : (values : List Value) (front : List Symbol) → IsSigned sign.Open (IsThen (Formed (AreListed IsProperValue) (listed_form sign.Comma value_form)) (λ values. IsSigned sign.Close (IsDone values))) values front → Formed IsProperTuple tuple_form values front
-tuple_to values front h =
+-- They, and a closing parenthesis behind them.
+abbrev IsInside : {A : Type 0} → (A → Type 0) → (A → List Symbol) → List A → List Symbol → Type 0
+IsInside P form = IsThen (Formed (AreListed P) (listed_form sign.Comma form)) (λ xs. IsSigned sign.Close (IsDone xs))
+
+enclosed_to : {A : Type 0} (P : A → Type 0) (form : A → List Symbol) (xs : List A) (front : List Symbol) → IsSigned sign.Open (IsInside P form) xs front → Formed (AreEnclosed P) (list_form form) xs front
+enclosed_to P form xs front h =
     let inner = h.2 in
-    let same : values ≡ inner.first = inner.is_rest.2.0 in (
-      rw same (inner.is_first.0.0, All-from_recursion IsProperValue inner.first inner.is_first.0.1),
+    let same : xs ≡ inner.first = inner.is_rest.2.0 in (
+      rw same (inner.is_first.0.0, All-from_recursion P inner.first inner.is_first.0.1),
       rw (same, h.1, inner.whole, inner.is_first.1, inner.is_rest.1, inner.is_rest.2.1) refl,
     )
 
-tuple_from : (values : List Value) (front : List Symbol) → Formed IsProperTuple tuple_form values front → IsSigned sign.Open (IsThen (Formed (AreListed IsProperValue) (listed_form sign.Comma value_form)) (λ values. IsSigned sign.Close (IsDone values))) values front
-tuple_from values front f = (
-  separated Comma value_form values ++ Close ∷ [],
+enclosed_from : {A : Type 0} (P : A → Type 0) (form : A → List Symbol) (xs : List A) (front : List Symbol) → Formed (AreEnclosed P) (list_form form) xs front → IsSigned sign.Open (IsInside P form) xs front
+enclosed_from P form xs front f = (
+  separated Comma form xs ++ Close ∷ [],
   f.1,
   record {
-    first = values;
-    front = separated Comma value_form values;
+    first = xs;
+    front = separated Comma form xs;
     behind = Close ∷ [];
     whole = refl;
-    is_first = ((f.0.0, recursion_from_All IsProperValue values f.0.1), refl);
+    is_first = ((f.0.0, recursion_from_All P xs f.0.1), refl);
     is_rest = ([], refl, (refl, refl));
   },
 )
 
+pub enclosed_reader : {A : Type 0} (item : List Symbol → Readout A) (P : A → Type 0) (form : A → List Symbol) → IsReader item (Formed P form) Always → IsReader (enclosed item) (Formed (AreEnclosed P) (list_form form)) Always
+unfolding enclosed
+enclosed_reader {A} item P form r =
+    let closed = λ (xs : List A). sequence (expect sign.Close) (λ u. given xs) in
+    reader_as (enclosed item) (IsSigned sign.Open (IsInside P form)) (Formed (AreEnclosed P) (list_form form)) Always (enclosed_to P form) (enclosed_from P form)
+    (signed_reader sign.Open (sequence (listed sign.Comma item) closed) (IsInside P form) Always
+    (sequence_reader (listed sign.Comma item) closed (Formed (AreListed P) (listed_form sign.Comma form)) (λ xs. IsSigned sign.Close (IsDone xs)) (Parted sign.Comma) Always (listed_reader sign.Comma item P form r) (λ xs. closed_reader sign.Close xs)
+    (λ xs y front rest h e. rw h.1 refl)))
+
 pub tuple_reader : IsReader read_tuple (Formed IsProperTuple tuple_form) Always
 unfolding read_tuple
-tuple_reader =
-    reader_as read_tuple (IsSigned sign.Open (IsThen (Formed (AreListed IsProperValue) (listed_form sign.Comma value_form)) (λ values. IsSigned sign.Close (IsDone values)))) (Formed IsProperTuple tuple_form) Always tuple_to tuple_from
-    (signed_reader sign.Open (sequence (listed sign.Comma read_value) (λ values. sequence (expect sign.Close) (λ u. given values))) (IsThen (Formed (AreListed IsProperValue) (listed_form sign.Comma value_form)) (λ values. IsSigned sign.Close (IsDone values))) Always values_reader)
+tuple_reader = enclosed_reader read_value IsProperValue value_form value_reader
 
 -- ---- items
 
 -- `(metric)`
-abbrev metric_form : List ℕ → List Symbol
+abbrev pub metric_form : List ℕ → List Symbol
 metric_form metric = Open ∷ Word metric ∷ Close ∷ []
 
 abbrev IsMetric : List ℕ → List Symbol → Type 0
@@ -91,7 +99,7 @@ metric_reader =
     (led_reader read_name (λ metric. sequence (expect sign.Close) (λ u. given metric)) IsName Word (λ metric. IsSigned sign.Close (IsDone metric)) Always name_reader (λ metric. closed_reader sign.Close metric)))
 
 -- `(*)`
-abbrev star_form : Unit {0} → List Symbol
+abbrev pub star_form : Unit {0} → List Symbol
 star_form u = Open ∷ Star ∷ Close ∷ []
 
 pub star_reader : IsReader read_star (Formed Any star_form) Always
@@ -104,7 +112,7 @@ star_reader =
     (signed_reader sign.Star (expect sign.Close) (Formed Any (λ u. sign_symbol sign.Close ∷ [])) Always (expect_reader sign.Close)))
 
 -- What comes behind the first symbol of an item.
-abbrev BehindHead : ItemHead → Item → List Symbol → Type 0
+abbrev pub BehindHead : ItemHead → Item → List Symbol → Type 0
 BehindHead (Named name) = IsDone (item.Plain name)
 BehindHead (Aggregated aggregate.Sum) = IsMade (Formed IsName metric_form) item.Sum
 BehindHead (Aggregated aggregate.Min) = IsMade (Formed IsName metric_form) item.Min
@@ -112,7 +120,7 @@ BehindHead (Aggregated aggregate.Max) = IsMade (Formed IsName metric_form) item.
 BehindHead (Aggregated aggregate.Avg) = IsMade (Formed IsName metric_form) item.Avg
 BehindHead (Aggregated aggregate.Count) = IsMade (Formed Any star_form) (λ u. item.CountAll)
 
-head_behind_reader : (head : ItemHead) → IsReader (item_behind head) (BehindHead head) Always
+pub head_behind_reader : (head : ItemHead) → IsReader (item_behind head) (BehindHead head) Always
 head_behind_reader (Named name) = done_reader (item.Plain name)
 head_behind_reader (Aggregated aggregate.Sum) = made_reader read_metric item.Sum (Formed IsName metric_form) Always metric_reader
 head_behind_reader (Aggregated aggregate.Min) = made_reader read_metric item.Min (Formed IsName metric_form) Always metric_reader
@@ -120,7 +128,7 @@ head_behind_reader (Aggregated aggregate.Max) = made_reader read_metric item.Max
 head_behind_reader (Aggregated aggregate.Avg) = made_reader read_metric item.Avg (Formed IsName metric_form) Always metric_reader
 head_behind_reader (Aggregated aggregate.Count) = made_reader read_star (λ u. item.CountAll) (Formed Any star_form) Always star_reader
 
-item_to : (head : ItemHead) (x : Item) (front rest : List Symbol) → IsHead head → front ≡ head_symbol head ∷ rest → BehindHead head x rest → Formed IsProperItem item_form x front
+pub item_to : (head : ItemHead) (x : Item) (front rest : List Symbol) → IsHead head → front ≡ head_symbol head ∷ rest → BehindHead head x rest → Formed IsProperItem item_form x front
 item_to (Named name) x front rest p e h = (rw h.0 p, rw (h.0, e, h.1) refl)
 item_to (Aggregated aggregate.Sum) x front rest p e h = (rw h.made h.form.0, rw (h.made, e, h.form.1) refl)
 item_to (Aggregated aggregate.Min) x front rest p e h = (rw h.made h.form.0, rw (h.made, e, h.form.1) refl)
@@ -195,7 +203,7 @@ cond_reader =
 -- ---- WHERE and GROUP BY
 
 abbrev IsWhere : List Cond → List Symbol → Type 0
-IsWhere = IsOptional (sign.Keyword keyword.Where) (Formed (AreListed IsProperCond) (listed_form (sign.Keyword keyword.And) cond_form))
+IsWhere = IsOptional (sign.Keyword keyword.Where) [] (Formed (AreListed IsProperCond) (listed_form (sign.Keyword keyword.And) cond_form))
 
 abbrev pub AreConds : List Cond → Type 0
 AreConds conds = All IsProperCond conds
@@ -223,7 +231,7 @@ pub where_reader : IsReader read_where (Formed AreConds where_form) EndsWhere
 unfolding read_where
 where_reader =
     reader_as read_where IsWhere (Formed AreConds where_form) EndsWhere where_to where_from
-    (optional_reader (sign.Keyword keyword.Where) (listed (sign.Keyword keyword.And) read_cond) (Formed (AreListed IsProperCond) (listed_form (sign.Keyword keyword.And) cond_form)) (Parted (sign.Keyword keyword.And))
+    (optional_reader (sign.Keyword keyword.Where) [] (listed (sign.Keyword keyword.And) read_cond) (Formed (AreListed IsProperCond) (listed_form (sign.Keyword keyword.And) cond_form)) (Parted (sign.Keyword keyword.And))
     (listed_reader (sign.Keyword keyword.And) read_cond IsProperCond cond_form cond_reader))
 
 abbrev IsBy : List (List ℕ) → List Symbol → Type 0
@@ -251,7 +259,7 @@ group_some : (names : List (List ℕ)) → 0 < length names → group_form names
 group_some [] some = absurd (omega arith)
 group_some (name ∷ names) some = refl
 
-group_to : (names : List (List ℕ)) (front : List Symbol) → IsOptional (sign.Keyword keyword.Group) IsBy names front → Formed AreNames group_form names front
+group_to : (names : List (List ℕ)) (front : List Symbol) → IsOptional (sign.Keyword keyword.Group) [] IsBy names front → Formed AreNames group_form names front
 group_to names front h =
     elim h [
       | inl none ↦ (rw none.0 refl, rw (none.0, none.1) refl)
@@ -260,7 +268,7 @@ group_to names front h =
           (names_to names by.2.0.1, some.1 ∙ ap (λ rest. Keyword keyword.Group ∷ rest) by.1 ∙ ap (λ rest. Keyword keyword.Group ∷ Keyword keyword.By ∷ rest) by.2.1 ∙ sym (group_some names by.2.0.0))
     ]
 
-group_from : (names : List (List ℕ)) (front : List Symbol) → Formed AreNames group_form names front → IsOptional (sign.Keyword keyword.Group) IsBy names front
+group_from : (names : List (List ℕ)) (front : List Symbol) → Formed AreNames group_form names front → IsOptional (sign.Keyword keyword.Group) [] IsBy names front
 group_from [] front f = inl (refl, f.1)
 group_from (name ∷ names) front f =
     let listed = separated Comma name_form (name ∷ names) in
@@ -269,4 +277,4 @@ group_from (name ∷ names) front f =
 pub group_reader : IsReader read_group (Formed AreNames group_form) EndsGroup
 unfolding read_group
 group_reader =
-    reader_as read_group (IsOptional (sign.Keyword keyword.Group) IsBy) (Formed AreNames group_form) EndsGroup group_to group_from (optional_reader (sign.Keyword keyword.Group) read_by IsBy (Parted sign.Comma) by_reader)
+    reader_as read_group (IsOptional (sign.Keyword keyword.Group) [] IsBy) (Formed AreNames group_form) EndsGroup group_to group_from (optional_reader (sign.Keyword keyword.Group) [] read_by IsBy (Parted sign.Comma) by_reader)

@@ -5,10 +5,11 @@ use Rattle.std.proofs.lemmas.Bool.{cases_Bool}
 use Rattle.std.proofs.lemmas.List.{append-nil, length-append, take_at, drop_at}
 use Rattle.cube_language.specs.declared.token.Token.{Token}
 use Rattle.cube_language.specs.Parts.{Other, IsGap}
-use Rattle.cube_language.specs.Printed.{symbol_text, touch, is_aggregate, spaced}
-use Rattle.cube_language.specs.Symbols.{Symbol, Keyword, Word, Number, Text, Open, Close, Comma, Equals, Star, symbol_in, symbol_of, symbols_of}
+use Rattle.cube_language.specs.Printed.{symbol_text, touch, is_aggregate, gap, spaced_behind, spaced}
+use Rattle.cube_language.specs.declared.symbol.Symbol.{Symbol}
+use Rattle.cube_language.specs.declared.symbol.Symbol.TheVariants.{Keyword, Word, Number, Text, Open, Close, Comma, Equals, Star}
+use Rattle.cube_language.specs.Symbols.{symbol_in, symbol_of, symbols_of}
 use Rattle.cube_language.specs.Tokens.{Begins, AreTokensBefore, AreTokens, token_bytes}
-use Rattle.sql_tree.proofs.Spaces.{gap}
 use Rattle.sql_tree.proofs.SymbolTexts.{IsSound, kind_of, AreEnded, Ends, is_end, text_says, text_is_token}
 
 -- ---- gaps
@@ -39,18 +40,9 @@ space_is_gap space rest is =
 
 -- ---- what stands behind a symbol
 
--- The text behind a symbol.
-abbrev behind_text : Symbol → List Symbol → List ℕ
-behind_text symbol [] = []
-behind_text symbol (next ∷ symbols) = gap symbol next ++ spaced (next ∷ symbols)
-
-spaced-cons : (symbol : Symbol) (symbols : List Symbol) → spaced (symbol ∷ symbols) ≡ symbol_text symbol ++ behind_text symbol symbols
-spaced-cons symbol [] = sym (append-nil (symbol_text symbol))
-spaced-cons symbol (next ∷ symbols) = refl
-
 -- a mark ends what stands before it
 mark_ends : (mark : Symbol) (byte : ℕ) (symbols : List Symbol) → symbol_text mark ≡ byte ∷ [] → is_end byte ≡ true → AreEnded (spaced (mark ∷ symbols))
-mark_ends mark byte symbols text end = rw (spaced-cons mark symbols, text) end
+mark_ends mark byte symbols text end = rw text end
 
 open_ends : (touching : Bool) (symbols : List Symbol) → AreEnded ((if touching then [] else codes " ") ++ spaced (Open ∷ symbols))
 open_ends true symbols = mark_ends Open 40 symbols refl refl
@@ -73,7 +65,7 @@ next_ends Equals next symbols = tt
 next_ends Star next symbols = tt
 next_ends symbol next symbols = refl
 
-behind_ends : (symbol : Symbol) (symbols : List Symbol) → Ends symbol (behind_text symbol symbols)
+behind_ends : (symbol : Symbol) (symbols : List Symbol) → Ends symbol (spaced_behind symbol symbols)
 behind_ends (Keyword k) [] = tt
 behind_ends (Word word) [] = tt
 behind_ends (Number n) [] = tt
@@ -97,11 +89,11 @@ printed_tokens at (symbol ∷ []) = token_at at symbol ∷ []
 printed_tokens at (symbol ∷ next ∷ symbols) = token_at at symbol ∷ printed_tokens (at + length (symbol_text symbol) + length (gap symbol next)) (next ∷ symbols)
 
 begins : (place : ℕ) (space : List ℕ) (symbol : Symbol) (symbols : List Symbol) → IsSpace space → IsSound symbol
-    → Begins place (space ++ spaced (symbol ∷ symbols)) (token_at (place + length space) symbol) (record { gap = space; token = symbol_text symbol; rest = behind_text symbol symbols })
+    → Begins place (space ++ spaced (symbol ∷ symbols)) (token_at (place + length space) symbol) (record { gap = space; token = symbol_text symbol; rest = spaced_behind symbol symbols })
 begins place space symbol symbols is sound = record {
-  whole = ap (λ rest. space ++ rest) (spaced-cons symbol symbols);
-  gap = space_is_gap space (symbol_text symbol ++ behind_text symbol symbols) is;
-  token = text_is_token symbol (behind_text symbol symbols) sound (behind_ends symbol symbols);
+  whole = refl;
+  gap = space_is_gap space (symbol_text symbol ++ spaced_behind symbol symbols) is;
+  token = text_is_token symbol (spaced_behind symbol symbols) sound (behind_ends symbol symbols);
   start = refl;
   end = refl;
 }
@@ -109,7 +101,7 @@ begins place space symbol symbols is sound = record {
 are_tokens : (place : ℕ) (space : List ℕ) (symbol : Symbol) (symbols : List Symbol) → IsSpace space → AllByRecursion IsSound (symbol ∷ symbols) → AreTokensBefore place (space ++ spaced (symbol ∷ symbols)) (printed_tokens (place + length space) (symbol ∷ symbols)) []
 are_tokens place space symbol [] is sound = (record { gap = space; token = symbol_text symbol; rest = [] }, begins place space symbol [] is sound.0, ([], refl, no_gap []))
 are_tokens place space symbol (next ∷ symbols) is sound =
-    (record { gap = space; token = symbol_text symbol; rest = behind_text symbol (next ∷ symbols) }, begins place space symbol (next ∷ symbols) is sound.0, are_tokens (place + length space + length (symbol_text symbol)) (gap symbol next) next symbols (gap_is_space symbol next) sound.1)
+    (record { gap = space; token = symbol_text symbol; rest = spaced_behind symbol (next ∷ symbols) }, begins place space symbol (next ∷ symbols) is sound.0, are_tokens (place + length space + length (symbol_text symbol)) (gap symbol next) next symbols (gap_is_space symbol next) sound.1)
 
 -- ---- what they say
 
@@ -124,10 +116,10 @@ token_says text before symbol behind parts sound =
 tokens_say : (text before : List ℕ) (at : ℕ) (symbols : List Symbol) → at ≡ length before → text ≡ before ++ spaced symbols → AllByRecursion IsSound symbols → symbols_of text (printed_tokens at symbols) ≡ symbols
 tokens_say text before at [] e parts sound = refl
 tokens_say text before at (symbol ∷ []) e parts sound =
-    let one = token_says text before symbol [] (parts ∙ ap (λ rest. before ++ rest) (spaced-cons symbol [])) sound.0 in
+    let one = token_says text before symbol [] parts sound.0 in
     rw e (ap (λ s. s ∷ []) one)
 tokens_say text before at (symbol ∷ next ∷ symbols) e parts sound =
-    let one = token_says text before symbol (behind_text symbol (next ∷ symbols)) parts sound.0 in
+    let one = token_says text before symbol (spaced_behind symbol (next ∷ symbols)) parts sound.0 in
     let later = before ++ (symbol_text symbol ++ gap symbol next) in
     let place : at + length (symbol_text symbol) + length (gap symbol next) ≡ length later = omega (arith, e, length-append before (symbol_text symbol ++ gap symbol next), length-append (symbol_text symbol) (gap symbol next)) in
     let regrouped : text ≡ later ++ spaced (next ∷ symbols) = parts ∙ simp append_assoc in

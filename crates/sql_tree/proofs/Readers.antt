@@ -2,28 +2,28 @@
 -- on no symbol behind the first that it leaves.
 use Rattle.std.proofs.Common.{◌≡◌, ℕ, List, [], ◌∷◌, ◌++◌, length, Option, Some, None, Ok, Err, refl, sym, ap, subst, ◌∙◌, append_assoc}
 use Rattle.std.proofs.lemmas.List.{append-nil}
-use Rattle.cube_language.specs.Symbols.{Symbol}
-use Rattle.sql_tree.specs.Reading.{Read, ◌>>=◌, read_first}
+use Rattle.cube_language.specs.declared.symbol.Symbol.{Symbol}
+use Rattle.sql_tree.specs.Reading.{Readout, ◌>>=◌, read_first}
 
 -- Where a symbol is left, the answer is the same whatever stands behind it.
-abbrev pub IsLocal : {A : Type 0} → (List Symbol → Read A) → List Symbol → List Symbol → (List Symbol → Read A) → Type 0
+abbrev pub IsLocal : {A : Type 0} → (List Symbol → Readout A) → List Symbol → List Symbol → (List Symbol → Readout A) → Type 0
 IsLocal read front rest answer = (next : Symbol) (behind other : List Symbol) → rest ≡ next ∷ behind → read (front ++ next ∷ other) ≡ answer (next ∷ other)
 
-abbrev pub given : {A : Type 0} → A → List Symbol → Read A
+abbrev pub given : {A : Type 0} → A → List Symbol → Readout A
 given x rest = Ok (x, rest)
 
-abbrev pub stuck : {A : Type 0} → List Symbol → Read A
+abbrev pub stuck : {A : Type 0} → List Symbol → Readout A
 stuck rest = Err (length rest)
 
 -- The reader took a front that has the form of the value.
-pub record Takes {A : Type 0} (read : List Symbol → Read A) (Form : A → List Symbol → Type 0) (symbols : List Symbol) (x : A) (rest : List Symbol) : Type 0 where
+pub record Takes {A : Type 0} (read : List Symbol → Readout A) (Form : A → List Symbol → Type 0) (symbols : List Symbol) (x : A) (rest : List Symbol) : Type 0 where
   pub front : List Symbol
   pub whole : symbols ≡ front ++ rest
   pub form : Form x front
   pub local : IsLocal read front rest (given x)
 
 -- The reader stopped behind a front that the form of some value begins with.
-pub record Stops {A : Type 0} (read : List Symbol → Read A) (Form : A → List Symbol → Type 0) (symbols : List Symbol) (left : ℕ) : Type 0 where
+pub record Stops {A : Type 0} (read : List Symbol → Readout A) (Form : A → List Symbol → Type 0) (symbols : List Symbol) (left : ℕ) : Type 0 where
   pub front : List Symbol
   pub rest : List Symbol
   pub whole : symbols ≡ front ++ rest
@@ -33,11 +33,11 @@ pub record Stops {A : Type 0} (read : List Symbol → Read A) (Form : A → List
   pub form : Form value (front ++ more)
   pub local : IsLocal read front rest stuck
 
-abbrev pub Tells : {A : Type 0} → (List Symbol → Read A) → (A → List Symbol → Type 0) → List Symbol → Read A → Type 0
+abbrev pub Tells : {A : Type 0} → (List Symbol → Readout A) → (A → List Symbol → Type 0) → List Symbol → Readout A → Type 0
 Tells read Form symbols (Ok x) = Takes read Form symbols x.0 x.1
 Tells read Form symbols (Err left) = Stops read Form symbols left
 
-pub record IsReader {A : Type 0} (read : List Symbol → Read A) (Form : A → List Symbol → Type 0) (Ends : List Symbol → Type 0) : Type 0 where
+pub record IsReader {A : Type 0} (read : List Symbol → Readout A) (Form : A → List Symbol → Type 0) (Ends : List Symbol → Type 0) : Type 0 where
   pub value : A
   pub example : List Symbol
   pub form : Form value example
@@ -49,7 +49,7 @@ Always rest = Unit {0}
 
 -- ---- another word for the form
 
-pub takes_as : {A : Type 0} (read : List Symbol → Read A) (F G : A → List Symbol → Type 0) (symbols : List Symbol) (r : Read A) → ((x : A) (front : List Symbol) → F x front → G x front) → Tells read F symbols r → Tells read G symbols r
+pub takes_as : {A : Type 0} (read : List Symbol → Readout A) (F G : A → List Symbol → Type 0) (symbols : List Symbol) (r : Readout A) → ((x : A) (front : List Symbol) → F x front → G x front) → Tells read F symbols r → Tells read G symbols r
 takes_as read F G symbols (Ok x) to t = record { front = t.front; whole = t.whole; form = to x.0 t.front t.form; local = t.local }
 takes_as read F G symbols (Err left) to t = record {
   front = t.front;
@@ -62,7 +62,7 @@ takes_as read F G symbols (Err left) to t = record {
   local = t.local;
 }
 
-pub reader_as : {A : Type 0} (read : List Symbol → Read A) (F G : A → List Symbol → Type 0) (E : List Symbol → Type 0) → ((x : A) (front : List Symbol) → F x front → G x front) → ((x : A) (front : List Symbol) → G x front → F x front)
+pub reader_as : {A : Type 0} (read : List Symbol → Readout A) (F G : A → List Symbol → Type 0) (E : List Symbol → Type 0) → ((x : A) (front : List Symbol) → F x front → G x front) → ((x : A) (front : List Symbol) → G x front → F x front)
     → IsReader read F E → IsReader read G E
 reader_as read F G E to from r = record {
   value = r.value;
@@ -72,7 +72,7 @@ reader_as read F G E to from r = record {
   again = λ x front rest g e. r.again x front rest (from x front g) e;
 }
 
-pub reader_ends : {A : Type 0} (read : List Symbol → Read A) (F : A → List Symbol → Type 0) (D E : List Symbol → Type 0) → ((rest : List Symbol) → E rest → D rest) → IsReader read F D → IsReader read F E
+pub reader_ends : {A : Type 0} (read : List Symbol → Readout A) (F : A → List Symbol → Type 0) (D E : List Symbol → Type 0) → ((rest : List Symbol) → E rest → D rest) → IsReader read F D → IsReader read F E
 reader_ends read F D E narrow r = record {
   value = r.value;
   example = r.example;
@@ -83,7 +83,7 @@ reader_ends read F D E narrow r = record {
 
 -- ---- one reader behind another
 
-abbrev pub sequence : {A B : Type 0} → (List Symbol → Read A) → (A → List Symbol → Read B) → List Symbol → Read B
+abbrev pub sequence : {A B : Type 0} → (List Symbol → Readout A) → (A → List Symbol → Readout B) → List Symbol → Readout B
 sequence p q symbols = p symbols >>= λ x. q x.0 x.1
 
 pub record IsThen {A B : Type 0} (F : A → List Symbol → Type 0) (G : A → B → List Symbol → Type 0) (y : B) (symbols : List Symbol) : Type 0 where
@@ -94,14 +94,14 @@ pub record IsThen {A B : Type 0} (F : A → List Symbol → Type 0) (G : A → B
   pub is_first : F first front
   pub is_rest : G first y behind
 
-local_then : {A B : Type 0} (p : List Symbol → Read A) (q : A → List Symbol → Read B) (x : A) (front middle second rest : List Symbol) (answer : List Symbol → Read B)
+local_then : {A B : Type 0} (p : List Symbol → Readout A) (q : A → List Symbol → Readout B) (x : A) (front middle second rest : List Symbol) (answer : List Symbol → Readout B)
     → IsLocal p front middle (given x) → middle ≡ second ++ rest → IsLocal (q x) second rest answer → IsLocal (sequence p q) (front ++ second) rest answer
 local_then p q x front middle [] rest answer one m two next behind other e =
     ap (sequence p q) (append_assoc front [] (next ∷ other)) ∙ ap (λ r. r >>= λ x. q x.0 x.1) (one next behind other (m ∙ e)) ∙ two next behind other e
 local_then p q x front middle (z ∷ zs) rest answer one m two next behind other e =
     ap (sequence p q) (append_assoc front (z ∷ zs) (next ∷ other)) ∙ ap (λ r. r >>= λ x. q x.0 x.1) (one z (zs ++ rest) (zs ++ next ∷ other) m) ∙ two next behind other e
 
-pub second_tells : {A B : Type 0} (p : List Symbol → Read A) (q : A → List Symbol → Read B) (F : A → List Symbol → Type 0) (G : A → B → List Symbol → Type 0) (symbols : List Symbol) (x : A) (middle : List Symbol) (r : Read B)
+pub second_tells : {A B : Type 0} (p : List Symbol → Readout A) (q : A → List Symbol → Readout B) (F : A → List Symbol → Type 0) (G : A → B → List Symbol → Type 0) (symbols : List Symbol) (x : A) (middle : List Symbol) (r : Readout B)
     → Takes p F symbols x middle → Tells (q x) (G x) middle r → Tells (sequence p q) (IsThen F G) symbols r
 second_tells p q F G symbols x middle (Ok y) one two = record {
   front = one.front ++ two.front;
@@ -120,7 +120,7 @@ second_tells p q F G symbols x middle (Err left) one two = record {
   local = local_then p q x one.front middle two.front two.rest stuck one.local two.whole two.local;
 }
 
-first_tells : {A B : Type 0} (p : List Symbol → Read A) (q : A → List Symbol → Read B) (F : A → List Symbol → Type 0) (G : A → B → List Symbol → Type 0) (E : List Symbol → Type 0) (symbols : List Symbol) (r : Read A)
+first_tells : {A B : Type 0} (p : List Symbol → Readout A) (q : A → List Symbol → Readout B) (F : A → List Symbol → Type 0) (G : A → B → List Symbol → Type 0) (E : List Symbol → Type 0) (symbols : List Symbol) (r : Readout A)
     → ((x : A) → IsReader (q x) (G x) E) → Tells p F symbols r → Tells (sequence p q) (IsThen F G) symbols (r >>= λ x. q x.0 x.1)
 first_tells p q F G E symbols (Ok x) two one = second_tells p q F G symbols x.0 x.1 (q x.0 x.1) one ((two x.0).tells x.1)
 first_tells p q F G E symbols (Err left) two one =
@@ -136,7 +136,7 @@ first_tells p q F G E symbols (Err left) two one =
       local = λ later behind other e. ap (λ r. r >>= λ x. q x.0 x.1) (one.local later behind other e);
     }
 
-pub sequence_reader : {A B : Type 0} (p : List Symbol → Read A) (q : A → List Symbol → Read B) (F : A → List Symbol → Type 0) (G : A → B → List Symbol → Type 0) (D E : List Symbol → Type 0)
+pub sequence_reader : {A B : Type 0} (p : List Symbol → Readout A) (q : A → List Symbol → Readout B) (F : A → List Symbol → Type 0) (G : A → B → List Symbol → Type 0) (D E : List Symbol → Type 0)
     → IsReader p F D → ((x : A) → IsReader (q x) (G x) E) → ((x : A) (y : B) (front rest : List Symbol) → G x y front → E rest → D (front ++ rest)) → IsReader (sequence p q) (IsThen F G) E
 sequence_reader p q F G D E one two ends =
     let next = two one.value in
@@ -167,7 +167,7 @@ pub record IsMade {A B : Type 0} (F : A → List Symbol → Type 0) (f : A → B
   pub form : F value front
 
 -- What a reader gives, made into another value.
-pub made_reader : {A B : Type 0} (p : List Symbol → Read A) (f : A → B) (F : A → List Symbol → Type 0) (E : List Symbol → Type 0) → IsReader p F E → IsReader (sequence p (λ x. given (f x))) (IsMade F f) E
+pub made_reader : {A B : Type 0} (p : List Symbol → Readout A) (f : A → B) (F : A → List Symbol → Type 0) (E : List Symbol → Type 0) → IsReader p F E → IsReader (sequence p (λ x. given (f x))) (IsMade F f) E
 made_reader p f F E r =
     reader_as (sequence p (λ x. given (f x))) (IsThen F (λ x y front. (y ≡ f x) × (front ≡ []))) (IsMade F f) E
     (λ y front h. record {
@@ -242,7 +242,7 @@ first_reader meaning P form m = record {
 abbrev pub IsLed : {A B : Type 0} → (A → Type 0) → (A → Symbol) → (A → B → List Symbol → Type 0) → B → List Symbol → Type 0
 IsLed {A} P symbol G y front = (x : A) × P x × (rest : List Symbol) × (front ≡ symbol x ∷ rest) × G x y rest
 
-pub led_reader : {A B : Type 0} (p : List Symbol → Read A) (q : A → List Symbol → Read B) (P : A → Type 0) (symbol : A → Symbol) (G : A → B → List Symbol → Type 0) (E : List Symbol → Type 0)
+pub led_reader : {A B : Type 0} (p : List Symbol → Readout A) (q : A → List Symbol → Readout B) (P : A → Type 0) (symbol : A → Symbol) (G : A → B → List Symbol → Type 0) (E : List Symbol → Type 0)
     → IsReader p (Formed P (λ x. symbol x ∷ [])) Always → ((x : A) → IsReader (q x) (G x) E) → IsReader (sequence p q) (IsLed P symbol G) E
 led_reader p q P symbol G E one two =
     reader_as (sequence p q) (IsThen (Formed P (λ x. symbol x ∷ [])) G) (IsLed P symbol G) E

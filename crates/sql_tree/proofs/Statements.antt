@@ -1,43 +1,44 @@
 -- What reading says of the forms of statements.
-use Rattle.std.proofs.Common.{◌≡◌, ℕ, ◌-◌, ◌+◌, ◌≤◌, List, [], ◌∷◌, ◌++◌, length, take, drop, Ok, Err, refl, sym, ap, subst, ◌∙◌, append_assoc, arith}
+use Rattle.std.proofs.Common.{◌≡◌, ℕ, ◌-◌, ◌+◌, ◌≤◌, ◌⊎◌, inl, inr, List, [], ◌∷◌, ◌++◌, length, take, drop, Ok, Err, refl, sym, ap, subst, ◌∙◌, append_assoc, arith}
 use Rattle.std.proofs.lemmas.List.{append-nil, length-append, length-map, map-append, take-append-drop, take-map, drop-map, take_at, drop_at}
 use Rattle.cube_language.specs.declared.statement.Statement.{Statement}
 use Rattle.cube_language.specs.declared.token.Token.{Token}
-use Rattle.cube_language.specs.Grammar.{form_of, IsProper, Spells}
-use Rattle.cube_language.specs.Symbols.{Symbol, symbol_of, symbols_of}
+use Rattle.cube_language.specs.Grammar.{IsFormOf, IsProper, Spells}
+use Rattle.cube_language.specs.declared.symbol.Symbol.{Symbol}
+use Rattle.cube_language.specs.Symbols.{symbol_of, symbols_of}
 use Rattle.cube_language.specs.Syntax.{IsForm, CanBegin, GoesWrongAt, GoesWrong}
-use Rattle.cube_language.specs.Tokens.{AreTokens}
-use Rattle.sql_tree.specs.Reading.{Read, read_statement}
-use Rattle.sql_tree.specs.Places.{place_of}
-use Rattle.sql_tree.proofs.Readers.{given, Formed, Tells, IsLocal, stuck}
-use Rattle.sql_tree.proofs.StatementReaders.{statement_reader}
+use Rattle.cube_language.specs.Tokens.{AreTokens, fault_at}
+use Rattle.sql_tree.specs.Laws.{AnyStatement, AnySyntaxFault}
+use Rattle.sql_tree.specs.Reading.{Readout, ◌>>=◌, ended, read_begun, read_statement}
+use Rattle.sql_words.specs.Laws.{AnyTokens, AnyTokenFault}
+use Rattle.sql_tree.specs.Places.{first_place}
+use Rattle.sql_tree.proofs.Readers.{given, Tells, IsLocal, stuck}
+use Rattle.sql_tree.proofs.StatementReaders.{HasForm, statement_reader}
 
 -- what has a form is read
-pub form_is_read : (s : Statement) → IsProper s → read_statement (form_of s) ≡ Ok (s, [])
-form_is_read s p = ap read_statement (sym (append-nil (form_of s))) ∙ statement_reader.again s (form_of s) [] (p, refl) refl
+pub form_is_read : (s : Statement) (symbols : List Symbol) → HasForm s symbols → read_statement symbols ≡ Ok (s, [])
+form_is_read s symbols f = ap read_statement (sym (append-nil symbols)) ∙ statement_reader.again s symbols [] f refl
 
 abbrev alone : Statement → Statement × List Symbol
 alone s = (s, [])
 
--- a form is of one statement
-pub form_is_one : (a b : Statement) → IsProper a → IsProper b → form_of a ≡ form_of b → a ≡ b
-form_is_one a b p q e =
-    let one = form_is_read a p in
-    let two = form_is_read b q in
-    let both : read_statement (form_of a) ≡ Ok (b, []) = ap read_statement e ∙ two in
-    let pairs : given a [] ≡ given b [] = sym one ∙ both in
+-- symbols are a form of one statement
+pub form_is_one : (a b : Statement) (symbols : List Symbol) → HasForm a symbols → HasForm b symbols → a ≡ b
+form_is_one a b symbols f g =
+    let pairs : given a [] ≡ given b [] = sym (form_is_read a symbols f) ∙ form_is_read b symbols g in
     let same : alone a ≡ alone b = cc in
     ap (λ (z : Statement × List Symbol). z.0) same
 
-tells_whole : (symbols : List Symbol) (r : Read Statement) → Tells read_statement (Formed IsProper form_of) symbols r → (s : Statement) → r ≡ Ok (s, []) → IsProper s × (symbols ≡ form_of s)
+tells_whole : (symbols : List Symbol) (r : Readout Statement) → Tells read_statement HasForm symbols r → (s : Statement) → r ≡ Ok (s, []) → HasForm s symbols
 tells_whole symbols (Ok x) t s e =
     let same : x.0 ≡ s = let pair : x ≡ (s, []) = cc in ap (λ (z : Statement × List Symbol). z.0) pair in
     let none : x.1 ≡ [] = let pair : x ≡ (s, []) = cc in ap (λ (z : Statement × List Symbol). z.1) pair in
-    (subst IsProper same t.form.0, t.whole ∙ ap (λ rest. t.front ++ rest) none ∙ append-nil t.front ∙ t.form.1 ∙ ap form_of same)
+    let whole : symbols ≡ t.front = t.whole ∙ ap (λ rest. t.front ++ rest) none ∙ append-nil t.front in
+    subst (λ front. HasForm s front) (sym whole) (subst (λ (u : Statement). HasForm u t.front) same t.form)
 tells_whole symbols (Err left) t s e = absurd cc
 
 -- what is read has its form
-pub read_has_form : (symbols : List Symbol) (s : Statement) → read_statement symbols ≡ Ok (s, []) → IsProper s × (symbols ≡ form_of s)
+pub read_has_form : (symbols : List Symbol) (s : Statement) → read_statement symbols ≡ Ok (s, []) → HasForm s symbols
 read_has_form symbols s e = tells_whole symbols (read_statement symbols) (statement_reader.tells symbols) s e
 
 -- No statement goes on so: the symbols are none yet where they end, or none goes on with the next.
@@ -56,18 +57,18 @@ pub record StopsThere (symbols : List Symbol) (left : ℕ) : Type 0 where
 
 is_wrong : (front rest : List Symbol) → IsLocal read_statement front rest stuck → read_statement (front ++ rest) ≡ Err (length rest) → IsWrong front rest
 is_wrong front [] local e = λ form.
-    let there = form_is_read form.0 form.1 in
-    let here : read_statement (form_of form.0) ≡ Err 0 = ap read_statement (form.2 ∙ sym (append-nil front)) ∙ e in
+    let there = form_is_read form.0 front (record { proper = form.1; form = form.2 }) in
+    let here : read_statement front ≡ Err 0 = ap read_statement (sym (append-nil front)) ∙ e in
     let both : given form.0 [] ≡ Err 0 = sym there ∙ here in
     cc
 is_wrong front (symbol ∷ symbols) local e = λ begins.
-    let there = form_is_read begins.0 begins.1 in
-    let regrouped : form_of begins.0 ≡ front ++ symbol ∷ begins.2 = begins.3 ∙ append_assoc front (symbol ∷ []) begins.2 in
-    let here : read_statement (form_of begins.0) ≡ stuck (symbol ∷ begins.2) = ap read_statement regrouped ∙ local symbol symbols begins.2 refl in
-    let both : given begins.0 [] ≡ stuck (symbol ∷ begins.2) = sym there ∙ here in
+    let whole = (front ++ symbol ∷ []) ++ begins.more in
+    let there = form_is_read begins.statement whole (record { proper = begins.proper; form = begins.form }) in
+    let here : read_statement whole ≡ stuck (symbol ∷ begins.more) = ap read_statement (append_assoc front (symbol ∷ []) begins.more) ∙ local symbol symbols begins.more refl in
+    let both : given begins.statement [] ≡ stuck (symbol ∷ begins.more) = sym there ∙ here in
     cc
 
-tells_stop : (symbols : List Symbol) (r : Read Statement) → read_statement symbols ≡ r → Tells read_statement (Formed IsProper form_of) symbols r → (left : ℕ) → r ≡ Err left → StopsThere symbols left
+tells_stop : (symbols : List Symbol) (r : Readout Statement) → read_statement symbols ≡ r → Tells read_statement HasForm symbols r → (left : ℕ) → r ≡ Err left → StopsThere symbols left
 tells_stop symbols (Ok x) is t left e = absurd cc
 tells_stop symbols (Err n) is t left e =
     let same : n ≡ left = cc in
@@ -76,7 +77,7 @@ tells_stop symbols (Err n) is t left e =
       rest = t.rest;
       whole = t.whole;
       left_is = sym same ∙ t.left_is;
-      begins = (t.value, t.form.0, t.more, sym t.form.1);
+      begins = record { statement = t.value; proper = t.form.proper; more = t.more; form = t.form.form };
       wrong = is_wrong t.front t.rest t.local (ap read_statement (sym t.whole) ∙ is ∙ ap (λ (k : ℕ). Err k) t.left_is);
     }
 
@@ -85,12 +86,12 @@ stops_there symbols left e = tells_stop symbols (read_statement symbols) refl (s
 
 -- ---- the place of what is left
 
-wrong_at : (text : List ℕ) (front rest : List Token) (at : ℕ) → IsWrong (symbols_of text front) (symbols_of text rest) → at ≡ place_of text rest → GoesWrongAt text front rest at
+wrong_at : (text : List ℕ) (front rest : List Token) (at : ℕ) → IsWrong (symbols_of text front) (symbols_of text rest) → at ≡ first_place text rest → GoesWrongAt text front rest at
 wrong_at text front [] at wrong e = (wrong, e)
 wrong_at text front (t ∷ ts) at wrong e = (subst (λ (symbols : List Symbol). CanBegin symbols → ⊥) (sym (map-append (symbol_of text) front (t ∷ []))) wrong, e)
 
 -- what is left of the symbols is what those of the tokens say that are left
-pub goes_wrong : (text : List ℕ) (tokens : List Token) (left at : ℕ) → AreTokens text tokens → read_statement (symbols_of text tokens) ≡ Err left → at ≡ place_of text (drop (length tokens - left) tokens) → GoesWrong text at
+pub goes_wrong : (text : List ℕ) (tokens : List Token) (left at : ℕ) → AreTokens text tokens → read_statement (symbols_of text tokens) ≡ Err left → at ≡ first_place text (drop (length tokens - left) tokens) → GoesWrong text at
 goes_wrong text tokens left at are e place =
     let stop = stops_there (symbols_of text tokens) left e in
     let k = length stop.front in
@@ -103,29 +104,41 @@ goes_wrong text tokens left at are e place =
       rest = drop k tokens;
       tokens = subst (AreTokens text) (sym (take-append-drop k tokens)) are;
       begins = subst CanBegin (sym front) stop.begins;
-      wrong = wrong_at text (take k tokens) (drop k tokens) at (rw (front, rest) stop.wrong) (place ∙ ap (λ n. place_of text (drop n tokens)) there);
+      wrong = wrong_at text (take k tokens) (drop k tokens) at (rw (front, rest) stop.wrong) (place ∙ ap (λ n. first_place text (drop n tokens)) there);
     }
 
 -- ---- the laws, where a text has one list of tokens at most
 
 pub one_statement : (text : List ℕ) (a b : Statement) → ((ts us : List Token) → AreTokens text ts → AreTokens text us → ts ≡ us) → Spells text a → Spells text b → a ≡ b
-one_statement text a b one x y = form_is_one a b x.3 y.3 (sym x.2 ∙ ap (symbols_of text) (one x.0 y.0 x.1 y.1) ∙ y.2)
+one_statement text a b one x y =
+    let same : y.tokens ≡ x.tokens = one y.tokens x.tokens y.are x.are in
+    form_is_one a b (symbols_of text x.tokens) (record { proper = x.proper; form = x.form }) (record { proper = y.proper; form = subst (λ ts. IsFormOf b (symbols_of text ts)) same y.form })
 
 -- a front of what can begin a statement can begin one
 shorter_begins : (front more : List Symbol) → CanBegin (front ++ more) → CanBegin front
-shorter_begins front more begins = (begins.0, begins.1, more ++ begins.2, begins.3 ∙ append_assoc front more begins.2)
+shorter_begins front more begins = record {
+  statement = begins.statement;
+  proper = begins.proper;
+  more = more ++ begins.more;
+  form = subst (λ symbols. IsFormOf begins.statement symbols) (append_assoc front more begins.more) begins.form;
+}
 
 next_begins : (text : List ℕ) (front : List Token) (t : Token) (more : List Token) → CanBegin (symbols_of text (front ++ t ∷ more)) → CanBegin (symbols_of text (front ++ t ∷ []))
 next_begins text front t more begins =
     let regrouped : symbols_of text (front ++ t ∷ more) ≡ symbols_of text (front ++ t ∷ []) ++ symbols_of text more = ap (symbols_of text) (sym (append_assoc front (t ∷ []) more)) ∙ map-append (symbol_of text) (front ++ t ∷ []) more in
     shorter_begins (symbols_of text (front ++ t ∷ [])) (symbols_of text more) (subst CanBegin regrouped begins)
 
-no_statement : (text : List ℕ) (at : ℕ) (s : Statement) (front rest : List Token) → symbols_of text (front ++ rest) ≡ form_of s → IsProper s → GoesWrongAt text front rest at → ⊥
-no_statement text at s front [] e p wrong = wrong.0 (s, p, sym e ∙ ap (symbols_of text) (append-nil front))
-no_statement text at s front (t ∷ rest) e p wrong = wrong.0 (next_begins text front t rest (s, p, [], sym e ∙ sym (append-nil (symbols_of text (front ++ t ∷ rest)))))
+-- a form begins with all of itself
+whole_begins : (s : Statement) (symbols : List Symbol) → IsProper s → IsFormOf s symbols → CanBegin symbols
+whole_begins s symbols p f = record { statement = s; proper = p; more = []; form = subst (λ front. IsFormOf s front) (sym (append-nil symbols)) f }
+
+no_statement : (text : List ℕ) (at : ℕ) (s : Statement) (front rest : List Token) → IsFormOf s (symbols_of text (front ++ rest)) → IsProper s → GoesWrongAt text front rest at → ⊥
+no_statement text at s front [] f p wrong = wrong.0 (s, p, subst (λ ts. IsFormOf s (symbols_of text ts)) (append-nil front) f)
+no_statement text at s front (t ∷ rest) f p wrong = wrong.0 (next_begins text front t rest (whole_begins s (symbols_of text (front ++ t ∷ rest)) p f))
 
 pub spells_none : (text : List ℕ) (s : Statement) (at : ℕ) → ((ts us : List Token) → AreTokens text ts → AreTokens text us → ts ≡ us) → Spells text s → GoesWrong text at → ⊥
-spells_none text s at one x w = no_statement text at s w.front w.rest (ap (symbols_of text) (one (w.front ++ w.rest) x.0 w.tokens x.1) ∙ x.2) x.3 w.wrong
+spells_none text s at one x w =
+    no_statement text at s w.front w.rest (subst (λ ts. IsFormOf s (symbols_of text ts)) (one x.tokens (w.front ++ w.rest) x.are w.tokens) x.form) x.proper w.wrong
 
 same_place : (text : List ℕ) (front rest : List Token) (a b : ℕ) → GoesWrongAt text front rest a → GoesWrongAt text front rest b → a ≡ b
 same_place text front [] a b v w = v.1 ∙ sym w.1
@@ -170,3 +183,28 @@ pub left_fits : (text : List ℕ) (tokens : List Token) (left : ℕ) → read_st
 left_fits text tokens left e =
     let stop = stops_there (symbols_of text tokens) left e in
     omega (arith, stop.left_is, length-append stop.front stop.rest, ap length stop.whole, length-map tokens (symbol_of text))
+
+-- ---- a text spells a statement or goes wrong
+
+ended_at : (r : Readout Statement) (x : Statement × List Symbol) → (r >>= λ read. ended read.0 read.1) ≡ Ok x → x.1 ≡ []
+ended_at (Ok (s, [])) x e = let same : alone s ≡ x = cc in ap (λ (z : Statement × List Symbol). z.1) (sym same)
+ended_at (Ok (s, symbol ∷ symbols)) x e = absurd cc
+ended_at (Err left) x e = absurd cc
+
+-- all symbols are read
+nothing_left : (symbols : List Symbol) (x : Statement × List Symbol) → read_statement symbols ≡ Ok x → x.1 ≡ []
+unfolding read_statement
+nothing_left symbols x e = ended_at (read_begun symbols) x e
+
+by_tokens : (text : List ℕ) (tokens : List Token) → AreTokens text tokens → (r : Readout Statement) → read_statement (symbols_of text tokens) ≡ r → AnyStatement text ⊎ AnySyntaxFault text
+by_tokens text tokens are (Ok x) e =
+    let whole : read_statement (symbols_of text tokens) ≡ given x.0 [] = e ∙ ap (λ rest. given x.0 rest) (nothing_left (symbols_of text tokens) x e) in
+    let f = read_has_form (symbols_of text tokens) x.0 whole in
+    inl (x.0, record { tokens = tokens; are = are; form = f.form; proper = f.proper })
+by_tokens text tokens are (Err left) e =
+    inr (first_place text (drop (length tokens - left) tokens), inr (goes_wrong text tokens left (first_place text (drop (length tokens - left) tokens)) are e refl))
+
+-- where a text has tokens or a fault among them
+pub statement_or_fault : (text : List ℕ) → AnyTokens text ⊎ AnyTokenFault text → AnyStatement text ⊎ AnySyntaxFault text
+statement_or_fault text (inl found) = by_tokens text found.0 found.1 (read_statement (symbols_of text found.0)) refl
+statement_or_fault text (inr fault) = inr (fault_at fault.0, inl (fault.0, fault.1, refl))

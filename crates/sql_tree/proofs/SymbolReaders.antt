@@ -10,17 +10,22 @@ use Rattle.cube_language.specs.Keywords.{keyword_of}
 use Rattle.cube_language.specs.Names.{is_name}
 use Rattle.cube_language.specs.declared.keyword.Keyword.{Keyword as KeywordWord}
 use Rattle.cube_language.specs.declared.keyword.Keyword.TheVariants as keyword
-use Rattle.cube_language.specs.Grammar.{name_form, value_form, IsProperValue}
-use Rattle.cube_language.specs.Symbols.{Symbol, Keyword, Word, Number, Text, Equals}
+use Rattle.cube_language.specs.Grammar.{name_form, number_form, value_form, kind_keyword, IsProperValue}
+use Rattle.cube_language.specs.declared.symbol.Symbol.{Symbol}
+use Rattle.cube_language.specs.declared.symbol.Symbol.TheVariants.{Keyword, Word, Number, Text, Equals}
 use Rattle.sql_tree.specs.declared.head.Sign.{Sign}
 use Rattle.sql_tree.specs.declared.head.Aggregate.{Aggregate}
 use Rattle.sql_tree.specs.declared.head.Aggregate.TheVariants as aggregate
 use Rattle.sql_tree.specs.declared.head.Operator.{Operator}
 use Rattle.sql_tree.specs.declared.head.Operator.TheVariants as operator
+use Rattle.sql_tree.specs.declared.head.ColumnHead.{ColumnHead}
+use Rattle.sql_tree.specs.declared.head.ColumnHead.TheVariants as column_head
+use Rattle.sql_tree.specs.declared.head.Shown.{Shown}
+use Rattle.sql_tree.specs.declared.head.Shown.TheVariants as shown
 use Rattle.sql_tree.specs.declared.head.Verb.{Verb}
 use Rattle.sql_tree.specs.declared.head.Verb.TheVariants as verb
-use Rattle.sql_tree.specs.Reading.{Read, ItemHead, Named, Aggregated, read_first, is_sign, sign_in, fits, name_in, value_in, text_in, count_in, operator_in, verb_in, item_head, expect, read_name, read_value, read_text, read_count}
-use Rattle.sql_tree.proofs.Keywords.{sign_symbol, is_sign_symbol, is_sign_self}
+use Rattle.sql_tree.specs.Reading.{sign_symbol, Readout, ItemHead, Named, Aggregated, read_first, is_sign, sign_in, fits, name_in, number_in, value_in, text_in, count_in, size_in, operator_in, aggregate_in, verb_in, shown_in, column_head_in, kind_in, item_head, expect, read_name, read_number, read_value, read_text, read_count, read_size}
+use Rattle.sql_tree.proofs.Keywords.{is_sign_symbol, is_sign_self}
 use Rattle.sql_tree.proofs.Readers.{IsReader, Always, Formed, IsLed, Means, sequence, first_reader, led_reader, reader_as}
 
 -- a test that was passed
@@ -50,7 +55,7 @@ expect_reader wanted = first_reader (sign_in wanted) Any (λ u. sign_symbol want
 abbrev pub IsSigned : {B : Type 0} → Sign → (B → List Symbol → Type 0) → B → List Symbol → Type 0
 IsSigned wanted G y front = (rest : List Symbol) × (front ≡ sign_symbol wanted ∷ rest) × G y rest
 
-pub signed_reader : {B : Type 0} (wanted : Sign) (q : List Symbol → Read B) (G : B → List Symbol → Type 0) (E : List Symbol → Type 0) → IsReader q G E → IsReader (sequence (expect wanted) (λ u. q)) (IsSigned wanted G) E
+pub signed_reader : {B : Type 0} (wanted : Sign) (q : List Symbol → Readout B) (G : B → List Symbol → Type 0) (E : List Symbol → Type 0) → IsReader q G E → IsReader (sequence (expect wanted) (λ u. q)) (IsSigned wanted G) E
 signed_reader wanted q G E r =
     reader_as (sequence (expect wanted) (λ u. q)) (IsLed Any (λ u. sign_symbol wanted) (λ u. G)) (IsSigned wanted G) E
     (λ y front h. (h.2, h.3, h.4))
@@ -115,6 +120,36 @@ value_reader =
     (λ v front f. (f.0, f.1 ∙ sym (value_form_is v)))
     value_symbol_reader
 
+-- ---- numbers
+
+number_tells : (symbol : Symbol) (n : ℤ) → number_in symbol ≡ Some n → FitsSigned w64 n × (symbol ≡ Number n)
+number_tells (Number m) n e = let g = guarded (fits m) m n e in (subst (FitsSigned w64) g.1 (fits_is m g.0), ap Number g.1)
+number_tells symbol n e = absurd cc
+
+number_means : Means number_in (FitsSigned w64) Number
+number_means = record { value = pos 0; is_value = record { sfits = omega arith }; tells = number_tells; again = λ n p. let there = fits_signed n p in rw there refl }
+
+pub number_symbol_reader : IsReader read_number (Formed (FitsSigned w64) (λ n. Number n ∷ [])) Always
+unfolding read_number
+number_symbol_reader = first_reader number_in (FitsSigned w64) Number number_means
+
+pub number_reader : IsReader read_number (Formed (FitsSigned w64) number_form) Always
+number_reader = number_symbol_reader
+
+abbrev pub IsSize : ℕ → Type 0
+IsSize n = n < 2 ^ 32
+
+size_tells : (symbol : Symbol) (n : ℕ) → size_in symbol ≡ Some n → IsSize n × (symbol ≡ Number (pos n))
+size_tells (Number (pos m)) n e = let g = guarded (ltb m (2 ^ 32)) m n e in (subst IsSize g.1 (ltb-true m (2 ^ 32) g.0), ap (λ k. Number (pos k)) g.1)
+size_tells symbol n e = absurd cc
+
+size_means : Means size_in IsSize (λ n. Number (pos n))
+size_means = record { value = 0; is_value = omega arith; tells = size_tells; again = λ n p. let there = lt-ltb n (2 ^ 32) p in rw there refl }
+
+pub size_reader : IsReader read_size (Formed IsSize (λ n. Number (pos n) ∷ [])) Always
+unfolding read_size
+size_reader = first_reader size_in IsSize (λ n. Number (pos n)) size_means
+
 -- ---- a path and a count
 
 text_tells : (symbol : Symbol) (text : List ℕ) → text_in symbol ≡ Some text → Any text × (symbol ≡ Text text)
@@ -169,6 +204,25 @@ aggregate_keyword aggregate.Max = keyword.Max
 aggregate_keyword aggregate.Avg = keyword.Avg
 aggregate_keyword aggregate.Count = keyword.Count
 
+summed : (a b : Aggregate) (k : KeywordWord) → aggregate_in (Keyword k) ≡ Some a → Keyword k ≡ Keyword (aggregate_keyword a) → aggregate_in (Keyword k) ≡ Some b → Any b × (Keyword k ≡ Keyword (aggregate_keyword b))
+summed a b k there symbol e = let same : a ≡ b = cc in (tt, symbol ∙ ap (λ u. Keyword (aggregate_keyword u)) same)
+
+aggregate_tells : (symbol : Symbol) (a : Aggregate) → aggregate_in symbol ≡ Some a → Any a × (symbol ≡ Keyword (aggregate_keyword a))
+aggregate_tells (Keyword keyword.Sum) a e = summed aggregate.Sum a keyword.Sum refl refl e
+aggregate_tells (Keyword keyword.Min) a e = summed aggregate.Min a keyword.Min refl refl e
+aggregate_tells (Keyword keyword.Max) a e = summed aggregate.Max a keyword.Max refl refl e
+aggregate_tells (Keyword keyword.Avg) a e = summed aggregate.Avg a keyword.Avg refl refl e
+aggregate_tells (Keyword keyword.Count) a e = summed aggregate.Count a keyword.Count refl refl e
+aggregate_tells symbol a e = absurd cc
+
+aggregate_again : (a : Aggregate) → Any a → aggregate_in (Keyword (aggregate_keyword a)) ≡ Some a
+aggregate_again aggregate.Sum p = refl
+aggregate_again a p = refl
+
+pub aggregate_word_reader : IsReader (read_first aggregate_in) (Formed Any (λ a. Keyword (aggregate_keyword a) ∷ [])) Always
+aggregate_word_reader =
+    first_reader aggregate_in Any (λ a. Keyword (aggregate_keyword a)) (record { value = aggregate.Count; is_value = tt; tells = aggregate_tells; again = aggregate_again })
+
 abbrev pub head_symbol : ItemHead → Symbol
 head_symbol (Named name) = Word name
 head_symbol (Aggregated a) = Keyword (aggregate_keyword a)
@@ -212,6 +266,8 @@ verb_keyword verb.Rollback = keyword.Rollback
 verb_keyword verb.Flush = keyword.Flush
 verb_keyword verb.Purge = keyword.Purge
 verb_keyword verb.Show = keyword.Show
+verb_keyword verb.Create = keyword.Create
+verb_keyword verb.Watch = keyword.Watch
 
 begun : (v w : Verb) (k : KeywordWord) → verb_in (Keyword k) ≡ Some v → Keyword k ≡ Keyword (verb_keyword v) → verb_in (Keyword k) ≡ Some w → Any w × (Keyword k ≡ Keyword (verb_keyword w))
 begun v w k there symbol e = let same : v ≡ w = cc in (tt, symbol ∙ ap (λ u. Keyword (verb_keyword u)) same)
@@ -227,6 +283,8 @@ verb_tells (Keyword keyword.Rollback) v e = begun verb.Rollback v keyword.Rollba
 verb_tells (Keyword keyword.Flush) v e = begun verb.Flush v keyword.Flush refl refl e
 verb_tells (Keyword keyword.Purge) v e = begun verb.Purge v keyword.Purge refl refl e
 verb_tells (Keyword keyword.Show) v e = begun verb.Show v keyword.Show refl refl e
+verb_tells (Keyword keyword.Create) v e = begun verb.Create v keyword.Create refl refl e
+verb_tells (Keyword keyword.Watch) v e = begun verb.Watch v keyword.Watch refl refl e
 verb_tells symbol v e = absurd cc
 
 verb_again : (v : Verb) → Any v → verb_in (Keyword (verb_keyword v)) ≡ Some v
@@ -235,3 +293,52 @@ verb_again v p = refl
 
 pub verb_reader : IsReader (read_first verb_in) (Formed Any (λ v. Keyword (verb_keyword v) ∷ [])) Always
 verb_reader = first_reader verb_in Any (λ v. Keyword (verb_keyword v)) (record { value = verb.Begin; is_value = tt; tells = verb_tells; again = verb_again })
+
+-- ---- what is shown
+
+abbrev pub shown_keyword : Shown → KeywordWord
+shown_keyword shown.Epochs = keyword.Epochs
+shown_keyword shown.Watch = keyword.Watch
+
+shown_tells : (symbol : Symbol) (s : Shown) → shown_in symbol ≡ Some s → Any s × (symbol ≡ Keyword (shown_keyword s))
+shown_tells (Keyword keyword.Epochs) s e = let same : shown.Epochs ≡ s = cc in (tt, ap (λ u. Keyword (shown_keyword u)) same)
+shown_tells (Keyword keyword.Watch) s e = let same : shown.Watch ≡ s = cc in (tt, ap (λ u. Keyword (shown_keyword u)) same)
+shown_tells symbol s e = absurd cc
+
+shown_again : (s : Shown) → Any s → shown_in (Keyword (shown_keyword s)) ≡ Some s
+shown_again shown.Epochs p = refl
+shown_again shown.Watch p = refl
+
+pub shown_reader : IsReader (read_first shown_in) (Formed Any (λ s. Keyword (shown_keyword s) ∷ [])) Always
+shown_reader = first_reader shown_in Any (λ s. Keyword (shown_keyword s)) (record { value = shown.Epochs; is_value = tt; tells = shown_tells; again = shown_again })
+
+-- ---- columns
+
+abbrev pub column_keyword : ColumnHead → KeywordWord
+column_keyword column_head.Dim = keyword.Dim
+column_keyword column_head.Metric = keyword.Metric
+
+column_head_tells : (symbol : Symbol) (h : ColumnHead) → column_head_in symbol ≡ Some h → Any h × (symbol ≡ Keyword (column_keyword h))
+column_head_tells (Keyword keyword.Dim) h e = let same : column_head.Dim ≡ h = cc in (tt, ap (λ u. Keyword (column_keyword u)) same)
+column_head_tells (Keyword keyword.Metric) h e = let same : column_head.Metric ≡ h = cc in (tt, ap (λ u. Keyword (column_keyword u)) same)
+column_head_tells symbol h e = absurd cc
+
+column_head_again : (h : ColumnHead) → Any h → column_head_in (Keyword (column_keyword h)) ≡ Some h
+column_head_again column_head.Dim p = refl
+column_head_again column_head.Metric p = refl
+
+pub column_head_reader : IsReader (read_first column_head_in) (Formed Any (λ h. Keyword (column_keyword h) ∷ [])) Always
+column_head_reader =
+    first_reader column_head_in Any (λ h. Keyword (column_keyword h)) (record { value = column_head.Dim; is_value = tt; tells = column_head_tells; again = column_head_again })
+
+kind_tells : (symbol : Symbol) (text : Bool) → kind_in symbol ≡ Some text → Any text × (symbol ≡ Keyword (kind_keyword text))
+kind_tells (Keyword keyword.Text) text e = let same : true ≡ text = cc in (tt, ap (λ u. Keyword (kind_keyword u)) same)
+kind_tells (Keyword keyword.Int) text e = let same : false ≡ text = cc in (tt, ap (λ u. Keyword (kind_keyword u)) same)
+kind_tells symbol text e = absurd cc
+
+kind_again : (text : Bool) → Any text → kind_in (Keyword (kind_keyword text)) ≡ Some text
+kind_again true p = refl
+kind_again false p = refl
+
+pub kind_reader : IsReader (read_first kind_in) (Formed Any (λ text. Keyword (kind_keyword text) ∷ [])) Always
+kind_reader = first_reader kind_in Any (λ text. Keyword (kind_keyword text)) (record { value = true; is_value = tt; tells = kind_tells; again = kind_again })

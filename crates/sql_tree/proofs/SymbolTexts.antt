@@ -20,7 +20,9 @@ use Rattle.cube_language.specs.declared.token.TokenKind.TheVariants as kind
 use Rattle.cube_language.specs.Parts.{Stops}
 use Rattle.cube_language.specs.Printed.{symbol_text}
 use Rattle.cube_language.specs.Quotes.{doubled, quoted}
-use Rattle.cube_language.specs.Symbols.{Symbol, Keyword, Word, Number, Text, Open, Close, Comma, Equals, Star, halved, unquoted, symbol_in}
+use Rattle.cube_language.specs.declared.symbol.Symbol.{Symbol}
+use Rattle.cube_language.specs.declared.symbol.Symbol.TheVariants.{Keyword, Word, Number, Text, Open, Close, Comma, Equals, Star}
+use Rattle.cube_language.specs.Symbols.{halved, unquoted, symbol_in}
 use Rattle.cube_language.specs.Tokens.{is_digits, is_number, IsToken}
 use Rattle.sql_tree.proofs.Halves.{plain_halved}
 use Rattle.sql_tree.proofs.Keywords.{capitals_spell}

@@ -20,6 +20,6 @@ abbrev pub BeginsWith : Sign → List ℕ → List Token → List Token → Type
 BeginsWith wanted text tokens rest = (first : Token) × (tokens ≡ first ∷ rest) × IsTrue (is_sign wanted (symbol_of text first))
 
 -- The place of the first of tokens, or the text's length where none is left.
-abbrev pub place_of : List ℕ → List Token → ℕ
-place_of text [] = length text
-place_of text (t ∷ tokens) = t.start
+abbrev pub first_place : List ℕ → List Token → ℕ
+first_place text [] = length text
+first_place text (t ∷ tokens) = t.start

@@ -6,8 +6,7 @@ ghost use Rattle.sql_tree.specs.Places.{AreIn, IsRest};
 ghost use Rattle.sql_tree.specs.Reading.{Gives, cond_behind, read_cond, read_where};
 
 use crate::head::{Operator, Sign};
-use crate::item::tuple;
-use crate::part::{Part, listed};
+use crate::part::{Part, enclosed, listed};
 use crate::read::{Miss, after, name, sign, value};
 use crate::symbol::operator_in;
 use cube_language::{Cond, Conds, Keyword, Token};
@@ -15,6 +14,7 @@ use cube_values::{CallError, Text};
 use std::alloc::Global;
 
 /// A condition behind its name and its operator, and the tokens behind it.
+#[tactic(auto, unfolding(crate::specs::Reading::read_tuple))]
 fn compared<'a>(
     alloc: Global,
     text: &str,
@@ -32,7 +32,7 @@ fn compared<'a>(
             Ok((Cond::Equal(name, wanted), rest))
         }
         Operator::In => {
-            let (wanted, rest) = tuple(alloc, text, tokens)?;
+            let (wanted, rest) = enclosed(alloc, text, tokens)?;
             Ok((Cond::In(name, wanted), rest))
         }
         Operator::Between => {

@@ -1,6 +1,7 @@
 //! What a statement is read by: the symbols that say nothing but themselves, and the words that choose a form.
 
-use cube_language::Keyword;
+use cube_language::{Conds, Items, Keyword, Names};
+use cube_values::Text;
 
 /// A symbol that says nothing but itself.
 #[derive(Clone, Copy, PartialEq, Eq)]
@@ -43,4 +44,29 @@ pub(crate) enum Verb {
     Flush,
     Purge,
     Show,
+    Create,
+    Watch,
+}
+
+/// What a SHOW shows.
+#[derive(Clone, Copy)]
+pub(crate) enum Shown {
+    Epochs,
+    Watch,
+}
+
+/// The word that a column of a cube begins with.
+#[derive(Clone, Copy)]
+pub(crate) enum ColumnHead {
+    Dim,
+    Metric,
+}
+
+/// What a SELECT asks for before HAVING, ORDER BY and LIMIT.
+#[derive(Drop)]
+pub(crate) struct Selection {
+    pub items: Items,
+    pub cube: Text,
+    pub conds: Conds,
+    pub group: Names,
 }

@@ -3,42 +3,26 @@
 ghost use Rattle.std.specs.Prelude.{◌≡◌, IfOk};
 ghost use Rattle.cube_language.specs.Symbols.{symbols_of};
 ghost use Rattle.sql_tree.specs.Places.{AreIn, IsRest};
-ghost use Rattle.sql_tree.specs.Reading.{Aggregated, Gives, item_behind, read_item, read_metric, read_star, read_tuple};
+ghost use Rattle.sql_tree.specs.Reading.{Aggregated, Gives, item_behind, read_aggregate, read_item, read_metric, read_star, read_tuple};
 
 use crate::head::{Aggregate, Sign};
-use crate::part::{Part, listed};
+use crate::part::{Part, enclosed};
 use crate::read::{Miss, name, sign};
 use crate::symbol::aggregate_in;
 use cube_language::{Item, Token};
 use cube_values::{CallError, Text, Values};
 use std::alloc::Global;
 
-/// `(value, ..)`, and the tokens behind it.
-#[tactic(auto, unfolding(crate::specs::Reading::read_tuple))]
-pub(crate) fn tuple<'a>(
-    alloc: Global,
-    text: &str,
-    tokens: &'a [Token],
-) -> Result<(Values, &'a [Token]), Miss>
-    requires { AreIn text.now tokens.now }
-    ensures read { Gives (λ x. (x.0, symbols_of text.now x.1.now)) result (read_tuple (symbols_of text.now tokens.now)) }
-    ensures rest { IfOk result (λ x. IsRest text.now tokens.now x.1.now) }
-{
-    let inside = sign(text, tokens, Sign::Open)?;
-    let (values, behind) = listed(alloc, text, inside, Sign::Comma)?;
-    let rest = sign(text, behind, Sign::Close)?;
-    Ok((values, rest))
-}
-
 impl Part for Values {
     ghost reading = { read_tuple };
 
+    #[tactic(auto, unfolding(crate::specs::Reading::read_tuple))]
     fn part<'a>(
         alloc: Global,
         text: &str,
         tokens: &'a [Token],
     ) -> Result<(Values, &'a [Token]), Miss> {
-        tuple(alloc, text, tokens)
+        enclosed(alloc, text, tokens)
     }
 }
 
@@ -102,9 +86,33 @@ fn aggregated<'a>(
     }
 }
 
+/// An aggregate, and the tokens behind it.
+#[tactic(auto, unfolding(crate::specs::Reading::read_aggregate))]
+pub(crate) fn aggregate<'a>(
+    alloc: Global,
+    text: &str,
+    tokens: &'a [Token],
+) -> Result<(Item, &'a [Token]), Miss>
+    requires { AreIn text.now tokens.now }
+    ensures read { Gives (λ x. (x.0, symbols_of text.now x.1.now)) result (read_aggregate (symbols_of text.now tokens.now)) }
+    ensures rest { IfOk result (λ x. IsRest text.now tokens.now x.1.now) }
+{
+    let [first, behind @ ..] = tokens else {
+        return Err(CallError::Fault(0));
+    };
+    match aggregate_in(text, first) {
+        Some(aggregate) => aggregated(alloc, text, behind, aggregate),
+        None => Err(CallError::Fault(tokens.len())),
+    }
+}
+
 /// An item, and the tokens behind it.
 #[tactic(auto, unfolding(crate::specs::Reading::read_item, crate::specs::Reading::read_name))]
-fn item<'a>(alloc: Global, text: &str, tokens: &'a [Token]) -> Result<(Item, &'a [Token]), Miss>
+pub(crate) fn item<'a>(
+    alloc: Global,
+    text: &str,
+    tokens: &'a [Token],
+) -> Result<(Item, &'a [Token]), Miss>
     requires { AreIn text.now tokens.now }
     ensures read { Gives (λ x. (x.0, symbols_of text.now x.1.now)) result (read_item (symbols_of text.now tokens.now)) }
     ensures rest { IfOk result (λ x. IsRest text.now tokens.now x.1.now) }

@@ -5,7 +5,7 @@ ghost use Rattle.cube_values.specs.Faults.{IfFault};
 ghost use Rattle.cube_language.specs.Grammar.{Spells};
 ghost use Rattle.cube_language.specs.Syntax.{IsSyntaxFault};
 ghost use Rattle.cube_language.specs.Tokens.{fault_at};
-ghost use Rattle.sql_tree.specs.Places.{place_of};
+ghost use Rattle.sql_tree.specs.Places.{first_place};
 
 use crate::statement::statement;
 use cube_language::{Statement, Syntax, Token, TokenFault};
@@ -27,7 +27,7 @@ fn fault_at(fault: &TokenFault) -> u64
 /// The place of the first of the tokens of which so many are left, or the text's length where none is.
 fn place_left(text: &str, tokens: &[Token], left: usize) -> u64
     requires { left ≤ length tokens.now }
-    ensures { result ≡ place_of text.now (drop (length tokens.now - left) tokens.now) }
+    ensures { result ≡ first_place text.now (drop (length tokens.now - left) tokens.now) }
 {
     let (_, behind) = tokens.split_at(tokens.len() - left);
     match behind {

@@ -1,12 +1,13 @@
 //! The parts of statements that lists have, and the lists of them.
 
 ghost use Rattle.std.specs.Prelude.{◌≡◌, List, IfOk};
-ghost use Rattle.cube_language.specs.Symbols.{Symbol, symbols_of};
+ghost use Rattle.cube_language.specs.declared.symbol.Symbol.{Symbol};
+ghost use Rattle.cube_language.specs.Symbols.{symbols_of};
 ghost use Rattle.sql_tree.specs.Places.{AreIn, IsRest};
-ghost use Rattle.sql_tree.specs.Reading.{Gives, Read, listed, read_name, read_value};
+ghost use Rattle.sql_tree.specs.Reading.{Gives, Readout, enclosed, listed, read_name, read_number, read_value};
 
 use crate::head::Sign;
-use crate::read::{Miss, after, name, value};
+use crate::read::{Miss, after, name, number, sign, value};
 use cube_language::Token;
 use cube_values::{CallError, Sequence, Text, Value};
 use std::alloc::Global;
@@ -14,7 +15,7 @@ use std::alloc::Global;
 /// A part of a statement that is read from its tokens.
 pub(crate) trait Part: Sized {
     /// How it is read from symbols.
-    ghost reading: { List Symbol → Read Self };
+    ghost reading: { List Symbol → Readout Self };
 
     /// The part that stands first, and the tokens behind it.
     fn part<'a>(alloc: Global, text: &str, tokens: &'a [Token]) -> Result<(Self, &'a [Token]), Miss>
@@ -47,6 +48,18 @@ impl Part for Value {
     }
 }
 
+impl Part for i64 {
+    ghost reading = { read_number };
+
+    fn part<'a>(
+        _alloc: Global,
+        text: &str,
+        tokens: &'a [Token],
+    ) -> Result<(i64, &'a [Token]), Miss> {
+        number(text, tokens)
+    }
+}
+
 /// Parts with a sign between each two, one at least, and the tokens behind them.
 pub(crate) fn listed<'a, T: Part + Drop>(
     alloc: Global,
@@ -68,4 +81,21 @@ pub(crate) fn listed<'a, T: Part + Drop>(
             None => return Ok((parts, rest)),
         }
     }
+}
+
+/// `(part, ..)`, and the tokens behind it.
+#[tactic(auto, unfolding(crate::specs::Reading::enclosed))]
+pub(crate) fn enclosed<'a, T: Part + Drop>(
+    alloc: Global,
+    text: &str,
+    tokens: &'a [Token],
+) -> Result<(Sequence<T>, &'a [Token]), Miss>
+    requires { AreIn text.now tokens.now }
+    ensures read { Gives (λ x. (x.0, symbols_of text.now x.1.now)) result (enclosed T.reading (symbols_of text.now tokens.now)) }
+    ensures rest { IfOk result (λ x. IsRest text.now tokens.now x.1.now) }
+{
+    let inside = sign(text, tokens, Sign::Open)?;
+    let (parts, behind) = listed(alloc, text, inside, Sign::Comma)?;
+    let rest = sign(text, behind, Sign::Close)?;
+    Ok((parts, rest))
 }

@@ -1,125 +1,109 @@
 //! The printed form of a statement.
 
-ghost use Rattle.std.specs.Prelude.{◌≡◌, ◌++◌, ◌<◌, [], None, length, IfOk, OnOk};
-ghost use Rattle.cube_language.specs.declared.statement.Statement.TheVariants as statement;
-ghost use Rattle.cube_language.specs.Grammar.{IsSpelled, group_form, where_form};
-ghost use Rattle.cube_language.specs.Printed.{printed};
-ghost use Rattle.sql_tree.specs.Texts.{spaced_behind};
+ghost use Rattle.std.specs.Prelude.{◌≡◌, ◌++◌, map, IfOk, OnOk};
+ghost use Rattle.std.specs.Char.{to_ascii_uppercase};
+ghost use Rattle.cube_language.specs.Keywords.{keyword_text};
+ghost use Rattle.cube_language.specs.Printed.{closes, gap, is_aggregate, printed, spaced, symbol_text, touch};
 
-use crate::put::{put_count, put_listed, put_quoted};
-use cube_language::{Cond, Item, Statement};
-use cube_values::{Text, Values};
+use crate::form::form_of;
+use cube_language::{Keyword, Statement, Symbol, keyword_text, put_i128, put_quoted};
 use std::alloc::{AllocError, Global};
 
-/// Appends conditions behind a space, if there are any.
-#[tactic(auto, using(crate::proofs::Spaces::where_text))]
-fn put_where(out: &mut Vec<u8>, conds: &[Cond]) -> Result<(), AllocError>
-    ensures { OnOk result (out.new.items ≡ out.old.items ++ spaced_behind (where_form conds.now)) }
+/// Appends a keyword in capitals.
+fn put_capitals(out: &mut Vec<u8>, keyword: Keyword) -> Result<(), AllocError>
+    ensures { OnOk result (out.new.items ≡ out.old.items ++ map to_ascii_uppercase (keyword_text keyword)) }
 {
-    if !conds.is_empty() {
-        out.extend_from_slice(b" WHERE ")?;
-        put_listed(out, conds, b" AND ")?;
+    let letters = keyword_text(keyword).as_bytes();
+    'letters: for letter in letters {
+        out.push(letter.to_ascii_uppercase())?;
     }
     Ok(())
 }
 
-/// Appends the names that a query groups by, behind a space, if there are any.
-#[tactic(auto, using(crate::proofs::Spaces::group_text))]
-fn put_group(out: &mut Vec<u8>, group: &[Text]) -> Result<(), AllocError>
-    ensures { OnOk result (out.new.items ≡ out.old.items ++ spaced_behind (group_form group.now)) }
+/// Appends the text of a symbol.
+fn put_symbol(out: &mut Vec<u8>, symbol: &Symbol) -> Result<(), AllocError>
+    ensures { OnOk result (out.new.items ≡ out.old.items ++ symbol_text symbol.now) }
 {
-    if !group.is_empty() {
-        out.extend_from_slice(b" GROUP BY ")?;
-        put_listed(out, group, b", ")?;
+    match symbol {
+        Symbol::Keyword(keyword) => put_capitals(out, *keyword),
+        Symbol::Word(word) => out.extend_from_slice(word.as_bytes()),
+        Symbol::Number(n) => put_i128(out, *n),
+        Symbol::Text(text) => put_quoted(out, text.as_bytes()),
+        Symbol::Open => out.extend_from_slice(b"("),
+        Symbol::Close => out.extend_from_slice(b")"),
+        Symbol::Comma => out.extend_from_slice(b","),
+        Symbol::Equals => out.extend_from_slice(b"="),
+        Symbol::Star => out.extend_from_slice(b"*"),
     }
-    Ok(())
 }
 
-/// Appends a SELECT.
-fn put_select(
-    out: &mut Vec<u8>,
-    items: &[Item],
-    cube: &Text,
-    conds: &[Cond],
-    group: &[Text],
-) -> Result<(), AllocError>
-    requires { 0 < length items.now }
-    ensures { OnOk result (out.new.items ≡ out.old.items ++ printed (statement.Select items.now cube.now conds.now group.now [] [] None)) }
+/// Whether a keyword is the word of an aggregate.
+fn is_aggregate(keyword: Keyword) -> bool
+    ensures { result ≡ is_aggregate keyword }
 {
-    out.extend_from_slice(b"SELECT ")?;
-    put_listed(out, items, b", ")?;
-    out.extend_from_slice(b" FROM ")?;
-    out.extend_from_slice(cube.as_bytes())?;
-    put_where(out, conds)?;
-    put_group(out, group)?;
-    Ok(())
+    match keyword {
+        Keyword::Sum | Keyword::Count | Keyword::Min | Keyword::Max | Keyword::Avg => true,
+        _ => false,
+    }
 }
 
-/// Appends an INSERT.
-fn put_insert(out: &mut Vec<u8>, cube: &Text, rows: &[Values]) -> Result<(), AllocError>
-    requires { 0 < length rows.now }
-    ensures { OnOk result (out.new.items ≡ out.old.items ++ printed (statement.Insert cube.now rows.now)) }
+/// Whether no space stands before the symbol.
+fn closes(symbol: &Symbol) -> bool
+    ensures { result ≡ closes symbol.now }
 {
-    out.extend_from_slice(b"INSERT INTO ")?;
-    out.extend_from_slice(cube.as_bytes())?;
-    out.extend_from_slice(b" VALUES ")?;
-    put_listed(out, rows, b", ")?;
-    Ok(())
+    match symbol {
+        Symbol::Close | Symbol::Comma => true,
+        _ => false,
+    }
 }
 
-/// Appends a LOAD.
-fn put_load(out: &mut Vec<u8>, cube: &Text, path: &Text, reject: u64) -> Result<(), AllocError>
-    ensures { OnOk result (out.new.items ≡ out.old.items ++ printed (statement.Load cube.now path.now reject)) }
+/// Whether no space stands between the symbols.
+fn touch(symbol: &Symbol, next: &Symbol) -> bool
+    ensures { result ≡ touch symbol.now next.now }
 {
-    out.extend_from_slice(b"LOAD ")?;
-    out.extend_from_slice(cube.as_bytes())?;
-    out.extend_from_slice(b" FROM ")?;
-    put_quoted(out, path)?;
-    out.extend_from_slice(b" REJECT ")?;
-    put_count(out, reject)?;
-    Ok(())
+    match symbol {
+        Symbol::Open => true,
+        Symbol::Keyword(keyword) => match next {
+            Symbol::Open => is_aggregate(*keyword),
+            _ => closes(next),
+        },
+        _ => closes(next),
+    }
 }
 
-/// Appends a DELETE.
-fn put_delete(out: &mut Vec<u8>, cube: &Text, conds: &[Cond]) -> Result<(), AllocError>
-    ensures { OnOk result (out.new.items ≡ out.old.items ++ printed (statement.Delete cube.now conds.now)) }
+/// Appends the text of a symbol behind another one.
+fn put_behind(out: &mut Vec<u8>, before: &Symbol, symbol: &Symbol) -> Result<(), AllocError>
+    ensures { OnOk result (out.new.items ≡ out.old.items ++ (gap before.now symbol.now ++ symbol_text symbol.now)) }
 {
-    out.extend_from_slice(b"DELETE FROM ")?;
-    out.extend_from_slice(cube.as_bytes())?;
-    put_where(out, conds)?;
-    Ok(())
+    if !touch(before, symbol) {
+        out.push(b' ')?;
+    }
+    put_symbol(out, symbol)
 }
 
-/// The printed form of a statement that some text spells.
-pub fn print(alloc: Global, statement: &Statement) -> Result<Vec<u8>, AllocError>
-    requires { IsSpelled statement.now }
-    ensures { IfOk result (λ text. text.items ≡ printed statement.now) }
+/// The texts of symbols, with one space between those that do not touch.
+fn spaced(alloc: Global, symbols: &[Symbol]) -> Result<Vec<u8>, AllocError>
+    ensures { IfOk result (λ text. text.items ≡ spaced symbols.now) }
 {
     let mut out = Vec::new(alloc);
-    match statement {
-        Statement::Select {
-            items,
-            cube,
-            conds,
-            group,
-            ..
-        } => put_select(
-            &mut out,
-            items.as_slice(),
-            cube,
-            conds.as_slice(),
-            group.as_slice(),
-        )?,
-        Statement::Insert { cube, rows } => put_insert(&mut out, cube, rows.as_slice())?,
-        Statement::Load { cube, path, reject } => put_load(&mut out, cube, path, *reject)?,
-        Statement::Delete { cube, conds } => put_delete(&mut out, cube, conds.as_slice())?,
-        Statement::Begin => out.extend_from_slice(b"BEGIN")?,
-        Statement::Commit => out.extend_from_slice(b"COMMIT")?,
-        Statement::Rollback => out.extend_from_slice(b"ROLLBACK")?,
-        Statement::Flush => out.extend_from_slice(b"FLUSH")?,
-        Statement::Purge => out.extend_from_slice(b"PURGE")?,
-        Statement::ShowEpochs => out.extend_from_slice(b"SHOW EPOCHS")?,
-        Statement::CreateCube { .. } | Statement::Watch { .. } | Statement::ShowWatch => {}
+    let [first, others @ ..] = symbols else {
+        return Ok(out);
+    };
+    put_symbol(&mut out, first)?;
+    let mut before = first;
+    let mut left = others;
+    'symbols: while let [symbol, rest @ ..] = left {
+        put_behind(&mut out, before, symbol)?;
+        before = symbol;
+        left = rest;
     }
     Ok(out)
+}
+
+/// The printed form of a statement. The time and the memory taken are linear in its bytes.
+pub fn print(alloc: Global, statement: &Statement) -> Result<Vec<u8>, AllocError>
+    ensures { IfOk result (λ text. text.items ≡ printed statement.now) }
+{
+    let symbols = form_of(alloc, statement)?;
+    spaced(alloc, symbols.as_slice())
 }

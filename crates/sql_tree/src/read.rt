@@ -3,10 +3,10 @@
 ghost use Rattle.std.specs.Prelude.{◌≡◌, false, IfOk, IfSome, IfNone};
 ghost use Rattle.cube_language.specs.Symbols.{symbols_of};
 ghost use Rattle.sql_tree.specs.Places.{AreIn, BeginsWith, IsRest};
-ghost use Rattle.sql_tree.specs.Reading.{Gives, expect, goes_on, read_count, read_name, read_text, read_value};
+ghost use Rattle.sql_tree.specs.Reading.{Gives, expect, stands_first, read_count, read_name, read_number, read_size, read_text, read_value};
 
 use crate::head::Sign;
-use crate::symbol::{count_in, is_sign, name_in, text_in, value_in};
+use crate::symbol::{count_in, is_sign, name_in, number_in, size_in, text_in, value_in};
 use cube_language::Token;
 use cube_values::{CallError, Text, Value};
 use std::alloc::Global;
@@ -19,7 +19,7 @@ pub(crate) type Miss = CallError<usize>;
 pub(crate) fn after<'a>(text: &str, tokens: &'a [Token], wanted: Sign) -> Option<&'a [Token]>
     requires { AreIn text.now tokens.now }
     ensures some { IfSome result (λ rest. BeginsWith wanted text.now tokens.now rest.now) }
-    ensures none { IfNone result (goes_on wanted (symbols_of text.now tokens.now) ≡ false) }
+    ensures none { IfNone result (stands_first wanted (symbols_of text.now tokens.now) ≡ false) }
 {
     match tokens {
         [first, rest @ ..] if is_sign(text, first, wanted) => Some(rest),
@@ -111,6 +111,38 @@ pub(crate) fn count<'a>(text: &str, tokens: &'a [Token]) -> Result<(u64, &'a [To
         return Err(CallError::Fault(0));
     };
     match count_in(text, first) {
+        Some(n) => Ok((n, rest)),
+        None => Err(CallError::Fault(tokens.len())),
+    }
+}
+
+/// The number that stands first, and the tokens behind it.
+#[tactic(auto, unfolding(crate::specs::Reading::read_number))]
+pub(crate) fn number<'a>(text: &str, tokens: &'a [Token]) -> Result<(i64, &'a [Token]), Miss>
+    requires { AreIn text.now tokens.now }
+    ensures read { Gives (λ x. (x.0, symbols_of text.now x.1.now)) result (read_number (symbols_of text.now tokens.now)) }
+    ensures rest { IfOk result (λ x. IsRest text.now tokens.now x.1.now) }
+{
+    let [first, rest @ ..] = tokens else {
+        return Err(CallError::Fault(0));
+    };
+    match number_in(text, first) {
+        Some(n) => Ok((n, rest)),
+        None => Err(CallError::Fault(tokens.len())),
+    }
+}
+
+/// The number of 32 bits without a sign that stands first, and the tokens behind it.
+#[tactic(auto, unfolding(crate::specs::Reading::read_size))]
+pub(crate) fn size<'a>(text: &str, tokens: &'a [Token]) -> Result<(u32, &'a [Token]), Miss>
+    requires { AreIn text.now tokens.now }
+    ensures read { Gives (λ x. (x.0, symbols_of text.now x.1.now)) result (read_size (symbols_of text.now tokens.now)) }
+    ensures rest { IfOk result (λ x. IsRest text.now tokens.now x.1.now) }
+{
+    let [first, rest @ ..] = tokens else {
+        return Err(CallError::Fault(0));
+    };
+    match size_in(text, first) {
         Some(n) => Ok((n, rest)),
         None => Err(CallError::Fault(tokens.len())),
     }

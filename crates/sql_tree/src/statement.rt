@@ -3,14 +3,16 @@
 ghost use Rattle.std.specs.Prelude.{◌≡◌, [], IfOk};
 ghost use Rattle.cube_language.specs.Symbols.{symbols_of};
 ghost use Rattle.sql_tree.specs.Places.{AreIn, IsRest};
-ghost use Rattle.sql_tree.specs.Reading.{Gives, read_begun, read_by, read_delete, read_group, read_insert, read_load, read_select, read_statement, statement_behind};
+ghost use Rattle.sql_tree.specs.Reading.{Gives, read_begun, read_by, read_create, read_delete, read_group, read_insert, read_load, read_select, read_selection, read_show, read_statement, read_watch, statement_behind};
 
 use crate::condition::conditions;
-use crate::head::{Sign, Verb};
-use crate::part::listed;
+use crate::head::{Selection, Shown, Sign, Verb};
+use crate::part::{enclosed, listed};
 use crate::read::{Miss, after, count, name, path, sign};
-use crate::symbol::verb_in;
-use cube_language::{Keys, Keyword, Names, Statement, Tests, Token};
+use crate::symbol::{shown_in, verb_in};
+use crate::top::{having, limit, order};
+use crate::written::{decl_of, keys_of};
+use cube_language::{Keyword, Names, Statement, Token};
 use cube_values::CallError;
 use std::alloc::Global;
 
@@ -39,6 +41,31 @@ fn group<'a>(alloc: Global, text: &str, tokens: &'a [Token]) -> Result<(Names, &
 }
 
 /// `items FROM cube WHERE .. GROUP BY ..`, and the tokens behind it.
+#[tactic(auto, unfolding(crate::specs::Reading::read_selection))]
+fn selection<'a>(
+    alloc: Global,
+    text: &str,
+    tokens: &'a [Token],
+) -> Result<(Selection, &'a [Token]), Miss>
+    requires { AreIn text.now tokens.now }
+    ensures read { Gives (λ x. (x.0, symbols_of text.now x.1.now)) result (read_selection (symbols_of text.now tokens.now)) }
+    ensures rest { IfOk result (λ x. IsRest text.now tokens.now x.1.now) }
+{
+    let (items, behind) = listed(alloc, text, tokens, Sign::Comma)?;
+    let behind = sign(text, behind, Sign::Keyword(Keyword::From))?;
+    let (cube, behind) = name(alloc, text, behind)?;
+    let (conds, behind) = conditions(alloc, text, behind)?;
+    let (group, rest) = group(alloc, text, behind)?;
+    let asked = Selection {
+        items,
+        cube,
+        conds,
+        group,
+    };
+    Ok((asked, rest))
+}
+
+/// A SELECT behind its first word, and the tokens behind it.
 #[tactic(auto, unfolding(crate::specs::Reading::read_select))]
 fn select<'a>(
     alloc: Global,
@@ -49,23 +76,77 @@ fn select<'a>(
     ensures read { Gives (λ x. (x.0, symbols_of text.now x.1.now)) result (read_select (symbols_of text.now tokens.now)) }
     ensures rest { IfOk result (λ x. IsRest text.now tokens.now x.1.now) }
 {
-    let (items, behind) = listed(alloc, text, tokens, Sign::Comma)?;
-    let behind = sign(text, behind, Sign::Keyword(Keyword::From))?;
-    let (cube, behind) = name(alloc, text, behind)?;
-    let (conds, behind) = conditions(alloc, text, behind)?;
-    let (group, rest) = group(alloc, text, behind)?;
-    Ok((
-        Statement::Select {
-            items,
-            cube,
-            conds,
-            group,
-            having: Tests::new(alloc),
-            order: Keys::new(alloc),
-            limit: None,
-        },
-        rest,
-    ))
+    let (asked, behind) = selection(alloc, text, tokens)?;
+    let (having, behind) = having(alloc, text, behind)?;
+    let (keys, behind) = order(alloc, text, behind)?;
+    let (limit, rest) = limit(text, behind)?;
+    let select = Statement::Select {
+        items: asked.items,
+        cube: asked.cube,
+        conds: asked.conds,
+        group: asked.group,
+        having,
+        order: keys_of(alloc, keys)?,
+        limit,
+    };
+    Ok((select, rest))
+}
+
+/// `SELECT ..`, which is watched, and the tokens behind it.
+#[tactic(auto, unfolding(crate::specs::Reading::read_watch))]
+fn watch<'a>(
+    alloc: Global,
+    text: &str,
+    tokens: &'a [Token],
+) -> Result<(Statement, &'a [Token]), Miss>
+    requires { AreIn text.now tokens.now }
+    ensures read { Gives (λ x. (x.0, symbols_of text.now x.1.now)) result (read_watch (symbols_of text.now tokens.now)) }
+    ensures rest { IfOk result (λ x. IsRest text.now tokens.now x.1.now) }
+{
+    let behind = sign(text, tokens, Sign::Keyword(Keyword::Select))?;
+    let (asked, rest) = selection(alloc, text, behind)?;
+    let watch = Statement::Watch {
+        items: asked.items,
+        cube: asked.cube,
+        conds: asked.conds,
+        group: asked.group,
+    };
+    Ok((watch, rest))
+}
+
+/// `CUBE name (column, ..)`, and the tokens behind it.
+#[tactic(auto, unfolding(crate::specs::Reading::read_create))]
+fn create<'a>(
+    alloc: Global,
+    text: &str,
+    tokens: &'a [Token],
+) -> Result<(Statement, &'a [Token]), Miss>
+    requires { AreIn text.now tokens.now }
+    ensures read { Gives (λ x. (x.0, symbols_of text.now x.1.now)) result (read_create (symbols_of text.now tokens.now)) }
+    ensures rest { IfOk result (λ x. IsRest text.now tokens.now x.1.now) }
+{
+    let behind = sign(text, tokens, Sign::Keyword(Keyword::Cube))?;
+    let (name, behind) = name(alloc, text, behind)?;
+    let (columns, rest) = enclosed(alloc, text, behind)?;
+    let decl = decl_of(alloc, name, columns)?;
+    Ok((Statement::CreateCube { decl }, rest))
+}
+
+/// What is shown, and the tokens behind it.
+#[tactic(auto, unfolding(crate::specs::Reading::read_show))]
+fn show<'a>(text: &str, tokens: &'a [Token]) -> Result<(Statement, &'a [Token]), Miss>
+    requires { AreIn text.now tokens.now }
+    ensures read { Gives (λ x. (x.0, symbols_of text.now x.1.now)) result (read_show (symbols_of text.now tokens.now)) }
+    ensures rest { IfOk result (λ x. IsRest text.now tokens.now x.1.now) }
+{
+    let [first, rest @ ..] = tokens else {
+        return Err(CallError::Fault(0));
+    };
+    match shown_in(text, first) {
+        Some(Shown::Epochs) => Ok((Statement::ShowEpochs, rest)),
+        Some(Shown::Watch) => Ok((Statement::ShowWatch, rest)),
+        None => Err(CallError::Fault(tokens.len())),
+    }
 }
 
 /// `INTO cube VALUES tuple, ..`, and the tokens behind it.
@@ -143,10 +224,9 @@ fn formed<'a>(
         Verb::Rollback => Ok((Statement::Rollback, tokens)),
         Verb::Flush => Ok((Statement::Flush, tokens)),
         Verb::Purge => Ok((Statement::Purge, tokens)),
-        Verb::Show => {
-            let rest = sign(text, tokens, Sign::Keyword(Keyword::Epochs))?;
-            Ok((Statement::ShowEpochs, rest))
-        }
+        Verb::Show => show(text, tokens),
+        Verb::Create => create(alloc, text, tokens),
+        Verb::Watch => watch(alloc, text, tokens),
     }
 }
 

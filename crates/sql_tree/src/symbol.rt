@@ -3,12 +3,12 @@
 ghost use Rattle.std.specs.Prelude.{◌≡◌, IfOk};
 ghost use Rattle.std.specs.Option.{option_copied};
 ghost use Rattle.cube_language.specs.Symbols.{symbol_of};
-ghost use Rattle.sql_tree.specs.Reading.{aggregate_in, count_in, is_sign, keyword_in, name_in, operator_in, text_in, value_in, verb_in};
+ghost use Rattle.sql_tree.specs.Reading.{aggregate_in, column_head_in, count_in, direction_in, is_sign, keyword_in, kind_in, name_in, number_in, operator_in, shown_in, size_in, text_in, value_in, verb_in};
 ghost use Rattle.sql_words.specs.Places.{StandsIn};
 
-use crate::head::{Aggregate, Operator, Sign, Verb};
+use crate::head::{Aggregate, ColumnHead, Operator, Shown, Sign, Verb};
 use crate::quote::unquoted;
-use cube_language::{Keyword, Token, TokenKind, is_name, keyword_of, spells};
+use cube_language::{Direction, Keyword, Token, TokenKind, is_name, keyword_of, spells};
 use cube_values::{Text, Value};
 use sql_words::token_text;
 use std::alloc::{AllocError, Global};
@@ -102,6 +102,28 @@ pub(crate) fn count_in(text: &str, token: &Token) -> Option<u64>
     }
 }
 
+/// The number that the token says.
+#[tactic(auto, using(crate::proofs::Keywords::number_in_word))]
+pub(crate) fn number_in(text: &str, token: &Token) -> Option<i64>
+    ensures { result ≡ number_in (symbol_of text.now token.now) }
+{
+    match token.kind {
+        TokenKind::Number(n) => Some(n),
+        _ => None,
+    }
+}
+
+/// The number of 32 bits without a sign that the token says.
+#[tactic(auto, using(crate::proofs::Keywords::size_in_word))]
+pub(crate) fn size_in(text: &str, token: &Token) -> Option<u32>
+    ensures { result ≡ size_in (symbol_of text.now token.now) }
+{
+    match token.kind {
+        TokenKind::Number(n) => u32::try_from(n).ok(),
+        _ => None,
+    }
+}
+
 /// How a condition goes on with the token.
 pub(crate) fn operator_in(text: &str, token: &Token) -> Option<Operator>
     requires { StandsIn text.now token.now }
@@ -148,6 +170,56 @@ pub(crate) fn verb_in(text: &str, token: &Token) -> Option<Verb>
         Keyword::Flush => Some(Verb::Flush),
         Keyword::Purge => Some(Verb::Purge),
         Keyword::Show => Some(Verb::Show),
+        Keyword::Create => Some(Verb::Create),
+        Keyword::Watch => Some(Verb::Watch),
+        _ => None,
+    }
+}
+
+/// What a SHOW shows whose word the token says.
+pub(crate) fn shown_in(text: &str, token: &Token) -> Option<Shown>
+    requires { StandsIn text.now token.now }
+    ensures { result ≡ shown_in (symbol_of text.now token.now) }
+{
+    match keyword_in(text, token)? {
+        Keyword::Epochs => Some(Shown::Epochs),
+        Keyword::Watch => Some(Shown::Watch),
+        _ => None,
+    }
+}
+
+/// The direction of a key that the token says.
+pub(crate) fn direction_in(text: &str, token: &Token) -> Option<Direction>
+    requires { StandsIn text.now token.now }
+    ensures { result ≡ direction_in (symbol_of text.now token.now) }
+{
+    match keyword_in(text, token)? {
+        Keyword::Asc => Some(Direction::Asc),
+        Keyword::Desc => Some(Direction::Desc),
+        _ => None,
+    }
+}
+
+/// The kind of column that the token begins.
+pub(crate) fn column_head_in(text: &str, token: &Token) -> Option<ColumnHead>
+    requires { StandsIn text.now token.now }
+    ensures { result ≡ column_head_in (symbol_of text.now token.now) }
+{
+    match keyword_in(text, token)? {
+        Keyword::Dim => Some(ColumnHead::Dim),
+        Keyword::Metric => Some(ColumnHead::Metric),
+        _ => None,
+    }
+}
+
+/// Whether a dimension of which the token says the kind has texts.
+pub(crate) fn kind_in(text: &str, token: &Token) -> Option<bool>
+    requires { StandsIn text.now token.now }
+    ensures { result ≡ kind_in (symbol_of text.now token.now) }
+{
+    match keyword_in(text, token)? {
+        Keyword::Text => Some(true),
+        Keyword::Int => Some(false),
         _ => None,
     }
 }

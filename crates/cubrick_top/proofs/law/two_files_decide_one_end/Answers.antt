@@ -9,7 +9,7 @@ returns c =
       no_cubes_fault = c.a_text_declares_or_has_one_fault.ensures.no_fault;
       script = c.a_script_has_statements_or_one_fault.ensures.one_list;
       no_script_fault = c.a_script_has_statements_or_one_fault.ensures.no_fault;
-      statement = c.a_text_spells_one_statement.ensures;
-      no_syntax_fault = c.a_text_spells_or_has_one_fault.ensures.either;
+      statement = c.a_text_spells_or_has_one_fault.ensures.one_statement;
+      no_syntax_fault = c.a_text_spells_or_has_one_fault.ensures.no_fault;
     } in
     one_end one c.a_text_declares_or_has_one_fault.ensures.one_fault c.a_script_has_statements_or_one_fault.ensures.one_fault

@@ -1,6 +1,0 @@
-use Rattle.std.proofs.Common.{◌≡◌, ◌++◌, take}
-use Rattle.cube_language.specs.Quotes.{opened}
-use Rattle.sql_tree.proofs.put.put_quoted.Given as goal
-
-abbrev pub invariant-bytes : goal.invariant-bytes
-invariant-bytes l = l.out.items ≡ l.fn.out.items ++ opened (take l.byte-index l.bytes)

@@ -1,0 +1,10 @@
+use Rattle.std.proofs.Common.{ap, ◌∙◌}
+use Rattle.sql_tree.specs.Reading.{kind_in}
+use Rattle.sql_tree.proofs.Keywords.{keyword_in_is, no_kind}
+use Rattle.sql_tree.proofs.symbol.kind_in.Goals as goal
+
+pub returns-in_default : goal.returns-in_default
+returns-in_default c =
+    let not = c.in_default in
+    let symbol = keyword_in_is _ _ c.in_ok-keyword_in.ensures in
+    no_kind _ not.not-Text not.not-Int ∙ ap kind_in symbol
