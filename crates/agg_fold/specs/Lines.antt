@@ -6,8 +6,8 @@ use Rattle.cube_values.specs.declared.table.Field.{Field}
 use Rattle.cube_values.specs.declared.table.Field.TheVariants as field
 use Rattle.cube_values.specs.declared.value.Value.{Value}
 use Rattle.cube_values.specs.Answer.{field_of, average}
-use Rattle.agg_fold.specs.declared.cell.Cell.{Cell}
-use Rattle.agg_fold.specs.declared.cell.Cell.TheVariants.{Unused, Total, Least, Greatest}
+use Rattle.agg_fold.specs.declared.tally.Tally.{Tally}
+use Rattle.agg_fold.specs.declared.tally.Tally.TheVariants.{Unused, Total, Least, Greatest}
 use Rattle.agg_fold.specs.Coded.{value_for}
 
 -- What the coordinates of a key stand for, each by the texts of its dimension.
@@ -23,25 +23,25 @@ key_field (d ∷ group) [] dim = field.Null
 key_field (d ∷ group) (value ∷ values) dim = if dim == d then field_of value else key_field group values dim
 
 -- What is kept of a metric, as a field.
-abbrev pub kept_field : Cell → Field
-kept_field Unused = field.Null
-kept_field (Total sum) = field.Whole sum
-kept_field (Least n) = field.Whole n
-kept_field (Greatest n) = field.Whole n
+abbrev pub tally_field : Tally → Field
+tally_field Unused = field.Null
+tally_field (Total sum) = field.Whole sum
+tally_field (Least n) = field.Whole n
+tally_field (Greatest n) = field.Whole n
 
 -- The average, by the sum.
-abbrev pub average_field : ℕ → Cell → Field
+abbrev pub average_field : ℕ → Tally → Field
 average_field count (Total sum) = average sum count
-average_field count cell = field.Null
+average_field count tally = field.Null
 
 -- An item of a group that has rows.
-abbrev pub field_for : List ℕ → List Value → ℕ → BoundItem → Cell → Field
-field_for group values count (Group dim) cell = key_field group values dim
-field_for group values count Count cell = field.Whole (pos count)
-field_for group values count (Sum metric) cell = kept_field cell
-field_for group values count (Min metric) cell = kept_field cell
-field_for group values count (Max metric) cell = kept_field cell
-field_for group values count (Avg metric) cell = average_field count cell
+abbrev pub field_for : List ℕ → List Value → ℕ → BoundItem → Tally → Field
+field_for group values count (Group dim) tally = key_field group values dim
+field_for group values count Count tally = field.Whole (pos count)
+field_for group values count (Sum metric) tally = tally_field tally
+field_for group values count (Min metric) tally = tally_field tally
+field_for group values count (Max metric) tally = tally_field tally
+field_for group values count (Avg metric) tally = average_field count tally
 
 -- An item over no rows.
 abbrev pub empty_field : BoundItem → Field

@@ -3,7 +3,7 @@
 ghost use Rattle.std.specs.Prelude.{◌≡◌, ◌<◌, ◌≤◌, ◌+◌, ◌^◌, IsTrue, List, All, length, IfOk};
 ghost use Rattle.cube_values.specs.Queries.{IsSoundItem, IsSoundQuery};
 ghost use Rattle.cube_values.specs.declared.row.CodedRow.{CodedRow};
-ghost use Rattle.agg_fold.specs.Partials.{StandsFor};
+ghost use Rattle.agg_fold.specs.Standing.{StandsFor};
 
 use crate::Partial;
 use cube_values::{
@@ -76,7 +76,7 @@ fn fold(
     step: usize,
 ) -> Result<Partial, AllocError>
     requires { length rows.now < 2 ^ 40 }
-    ensures { IfOk result (λ p. (rs : List CodedRow) × StandsFor query.now rs p × (length rs ≤ length rows.now)) }
+    ensures { IfOk result (λ p. (rs : List CodedRow) × StandsFor query.now rs p.groups × (length rs ≤ length rows.now)) }
 {
     let mut partial = Partial::new(alloc);
     'rows: for i in 0..rows.len() {
@@ -97,7 +97,7 @@ fn fold(
 /// Three partials, each of every third row, merged with the last first.
 fn fold_in_three(alloc: Global, query: &BoundQuery, rows: &[Made]) -> Result<Partial, AllocError>
     requires { length rows.now < 2 ^ 40 }
-    ensures { IfOk result (λ p. (rs : List CodedRow) × StandsFor query.now rs p) }
+    ensures { IfOk result (λ p. (rs : List CodedRow) × StandsFor query.now rs p.groups) }
 {
     let mut total = fold(alloc, query, rows, 2, 3)?;
     let first = fold(alloc, query, rows, 0, 3)?;

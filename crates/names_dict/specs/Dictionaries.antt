@@ -1,9 +1,10 @@
 -- Dictionaries: the distinct texts of a dimension, each with its number.
 -- Source: Cubrick (VLDB 2016), dictionary encoding of text dimensions; that numbers go by first sight is this
 -- project's own.
-use Rattle.std.specs.Prelude.{ℕ, ◌<◌, ◌≤◌, Bool, List, [], ◌∷◌, ◌++◌, length, Option, nat_lt, map, bytes_eq, get_or, set, slice_get, if◌then◌else◌}
+use Rattle.std.specs.Prelude.{◌≡◌, ℕ, ◌-◌, ◌≤◌, Bool, true, List, [], ◌∷◌, ◌++◌, length, Option, Some, nat_lt, map, replicate, bytes_eq, get_or, set, slice_get, if◌then◌else◌}
 use Rattle.std.specs.List.{IsDistinct, position}
 use Rattle.std.specs.Option.{option_map_or}
+use Rattle.cube_values.specs.declared.shape.CubeShape.{CubeShape}
 use Rattle.cube_values.specs.declared.shape.Size.{Size}
 use Rattle.names_dict.specs.declared.code.Code.{Code}
 use Rattle.names_dict.specs.declared.code.Code.TheVariants.{Known, Added, Full}
@@ -38,17 +39,50 @@ empty_dictionaries (s ∷ sizes) (text ∷ texts) =
     record { cardinality = if text then s.cardinality else 0; names = [] } ∷ empty_dictionaries sizes texts
 empty_dictionaries sizes texts = []
 
--- There is such a cube with such a dimension.
-abbrev pub HasDimension : List (List Dictionary) → ℕ → ℕ → Type 0
-HasDimension cubes cube dim = (cube < length cubes) × (dim < length (get_or cubes cube []))
+-- The dictionary of a dimension. One that is not made has no names.
+abbrev pub dictionary_in : List Dictionary → ℕ → Dictionary
+dictionary_in dims dim = get_or dims dim (record { cardinality = 0; names = [] })
+
+-- The dictionaries of a cube, none where they are not made.
+abbrev pub dictionaries_of : List (List Dictionary) → ℕ → List Dictionary
+dictionaries_of cubes cube = get_or cubes cube []
 
 -- The dictionary of a dimension of a cube.
 abbrev pub dictionary_at : List (List Dictionary) → ℕ → ℕ → Dictionary
-dictionary_at cubes cube dim = get_or (get_or cubes cube []) dim (record { cardinality = 0; names = [] })
+dictionary_at cubes cube dim = dictionary_in (dictionaries_of cubes cube) dim
 
--- The dictionaries with another one at a dimension of a cube.
-abbrev pub with_dictionary : List (List Dictionary) → ℕ → ℕ → Dictionary → List (List Dictionary)
-with_dictionary cubes cube dim d = set cubes cube (set (get_or cubes cube []) dim d)
+-- The dictionaries of a cube of this shape: those that are made, else empty ones.
+abbrev pub made_dictionaries : CubeShape → List Dictionary → List Dictionary
+made_dictionaries shape [] = empty_dictionaries shape.shape.sizes shape.texts
+made_dictionaries shape (d ∷ dims) = d ∷ dims
+
+-- A dimension of a shape has texts.
+abbrev pub IsTextDimension : CubeShape → ℕ → Type 0
+IsTextDimension shape dim = slice_get shape.texts dim ≡ Some true
+
+-- The dictionary of a dimension of a cube of this shape, an empty one where it is not made.
+abbrev pub dictionary_for : CubeShape → List (List Dictionary) → ℕ → ℕ → Dictionary
+dictionary_for shape cubes cube dim = dictionary_in (made_dictionaries shape (dictionaries_of cubes cube)) dim
+
+-- The dictionaries with others for a cube. Those of cubes before it that are not there are not made.
+abbrev pub with_dictionaries : List (List Dictionary) → ℕ → List Dictionary → List (List Dictionary)
+with_dictionaries cubes cube dims =
+    if nat_lt cube (length cubes) then set cubes cube dims
+    else cubes ++ replicate (cube - length cubes) [] ++ dims ∷ []
+
+-- The dictionaries of a cube after a name got a code in a dimension. Where there is no such dimension nothing changes.
+abbrev pub encoded_dictionaries : ℕ → List ℕ → List Dictionary → Code → List Dictionary
+encoded_dictionaries dim name dims code = set dims dim (with_code (dictionary_in dims dim) name code)
+
+-- A name got a code in a dimension of a cube of this shape.
+abbrev pub IsEncoded : CubeShape → ℕ → ℕ → List ℕ → List (List Dictionary) → List (List Dictionary) → Code → Type 0
+IsEncoded shape cube dim name old new code =
+    new ≡ with_dictionaries old cube
+    (encoded_dictionaries dim name (made_dictionaries shape (dictionaries_of old cube)) code)
+
+-- A name is to be added: the dictionary lacks it and has room.
+abbrev pub IsToBeAdded : Dictionary → List ℕ → Type 0
+IsToBeAdded d name = code_of d name ≡ Added (length d.names)
 
 -- The name at a place, where there is such a place.
 abbrev pub name_at : List (List Dictionary) → ℕ → ℕ → ℕ → Option (List ℕ)

@@ -1,12 +1,12 @@
 //! The dictionaries of one cube.
 
-ghost use Rattle.std.specs.Prelude.{◌≡◌, ◌<◌, length, get_or, slice_get, set, Some, [], IfOk, OnErr, if◌then◌else◌};
+ghost use Rattle.std.specs.Prelude.{◌≡◌, ◌↔◌, ◌<◌, ◌≤◌, IsTrue, length, drop, option_copied, slice_get, [], IfOk, OnErr, if◌then◌else◌};
 ghost use Rattle.cube_values.specs.Shapes.{IsSoundCube};
-ghost use Rattle.names_dict.specs.Dictionaries.{code_of, with_code, empty_dictionaries};
+ghost use Rattle.names_dict.specs.Dictionaries.{number_of, code_of, empty_dictionaries, dictionary_in, encoded_dictionaries, IsToBeAdded};
 
 use crate::code::Code;
 use crate::dict::Dict;
-use cube_values::{CubeShape, Size};
+use cube_values::{CubeShape, Size, Texts};
 use std::alloc::{AllocError, Global};
 use std::marker::Model;
 
@@ -54,28 +54,67 @@ impl CubeDicts {
         Ok(CubeDicts { dims })
     }
 
-    /// How many dimensions there are.
-    pub fn len(&self) -> usize
-        ensures { result ≡ length self.now }
+    /// The dictionaries of a cube of which none are made.
+    pub fn none(alloc: Global) -> CubeDicts
+        ensures { result ≡ [] }
     {
-        self.dims.len()
+        CubeDicts {
+            dims: Vec::new(alloc),
+        }
     }
 
-    /// The dictionary of a dimension.
-    pub fn dict(&self, dim: u32) -> &Dict
-        requires { dim < length self.now }
-        ensures { slice_get self.now dim ≡ Some result.now }
+    /// Whether they are made.
+    pub fn are_made(&self) -> bool
+        ensures { IsTrue result ↔ (0 < length self.now) }
     {
-        &self.dims[dim as usize]
+        !self.dims.is_empty()
     }
 
-    /// Encodes a name by the dictionary of a dimension.
+    /// The number of a name in the dictionary of a dimension, where that has it.
+    pub fn find(&self, dim: u32, name: &str) -> Option<u32>
+        ensures { result ≡ number_of (dictionary_in self.now dim) name.now }
+    {
+        if dim as usize >= self.dims.len() {
+            return None;
+        }
+        self.dims[dim as usize].find(name)
+    }
+
+    /// Encodes a name by the dictionary of a dimension. Where there is no such dimension there is no room.
     pub fn encode(&mut self, dim: u32, name: &str) -> Result<Code, AllocError>
-        requires { dim < length self.old }
-        ensures code { IfOk result (λ code. code ≡ code_of (get_or self.old dim (record { cardinality = 0; names = [] })) name.now) }
-        ensures names { IfOk result (λ code. self.new ≡ set self.old dim (with_code (get_or self.old dim (record { cardinality = 0; names = [] })) name.now code)) }
+        ensures code { IfOk result (λ code. code ≡ code_of (dictionary_in self.old dim) name.now) }
+        ensures names { IfOk result (λ code. self.new ≡ encoded_dictionaries dim name.now self.old code) }
         ensures err { OnErr result (self.new ≡ self.old) }
+        ensures wanted { OnErr result (IsToBeAdded (dictionary_in self.old dim) name.now) }
     {
+        if dim as usize >= self.dims.len() {
+            return Ok(Code::Full);
+        }
         self.dims[dim as usize].encode(name)
+    }
+
+    /// Copies of the names of a dimension from a number on, in order.
+    pub fn copy_from(&self, alloc: Global, dim: u32, from: u32) -> Result<Texts, AllocError>
+        requires { from ≤ length (dictionary_in self.now dim).names }
+        ensures { IfOk result (λ texts. texts ≡ drop from (dictionary_in self.now dim).names) }
+    {
+        if dim as usize >= self.dims.len() {
+            return Ok(Texts::new(alloc));
+        }
+        self.dims[dim as usize].copy_from(from)
+    }
+
+    /// The name at a place, or None where there is no such dimension or number.
+    pub fn name_of(&self, dim: u32, n: u32) -> Option<&str>
+        ensures { option_copied result ≡ slice_get (dictionary_in self.now dim).names n }
+    {
+        if dim as usize >= self.dims.len() {
+            return None;
+        }
+        let dict = &self.dims[dim as usize];
+        if n >= dict.len() {
+            return None;
+        }
+        Some(dict.name_of(n))
     }
 }

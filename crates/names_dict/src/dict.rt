@@ -1,7 +1,7 @@
 //! The dictionary of one dimension.
 
 ghost use Rattle.std.specs.Prelude.{◌≡◌, ◌<◌, ◌≤◌, [], length, drop, slice_get, Some, IfOk, OnErr, IsUtf8};
-ghost use Rattle.names_dict.specs.Dictionaries.{Dictionary, IsSoundDictionary, number_of, code_of, with_code};
+ghost use Rattle.names_dict.specs.Dictionaries.{Dictionary, IsSoundDictionary, number_of, code_of, with_code, IsToBeAdded};
 
 use crate::code::Code;
 use cube_values::{Text, Texts};
@@ -69,7 +69,7 @@ impl Dict {
         ensures code { IfOk result (λ code. code ≡ code_of self.old name.now) }
         ensures names { IfOk result (λ code. self.new ≡ with_code self.old name.now code) }
         ensures err { OnErr result (self.new ≡ self.old) }
-        ensures wanted { OnErr result (code_of self.old name.now ≡ Code.Added (length self.old.names)) }
+        ensures wanted { OnErr result (IsToBeAdded self.old name.now) }
     {
         if let Some(place) = self.names.get_index_of(name) {
             return Ok(Code::Known(place as u32));
@@ -93,10 +93,11 @@ impl Dict {
     }
 
     /// Copies of the names from a number on, in order.
-    pub fn copy_from(&self, alloc: Global, from: u32) -> Result<Texts, AllocError>
+    pub fn copy_from(&self, from: u32) -> Result<Texts, AllocError>
         requires { from ≤ length self.now.names }
         ensures { IfOk result (λ texts. texts ≡ drop from self.now.names) }
     {
+        let alloc = *self.names.allocator();
         let mut texts = Vec::new(alloc);
         let (_, left) = self.names.as_slice().split_at(from as usize);
         for name in left {

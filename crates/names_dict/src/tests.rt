@@ -2,6 +2,7 @@
 
 ghost use Rattle.std.specs.Prelude.{IfOk};
 ghost use Rattle.cube_values.specs.Shapes.{IsSoundCube};
+ghost use Rattle.names_dict.specs.Dictionaries.{IsTextDimension};
 
 use crate::{Code, Dict, Dicts};
 use cube_values::{CubeShape, Flags, Shape, Size, Sizes};
@@ -28,11 +29,11 @@ fn numbers_names(rt: HostRuntime) -> Result<(), Fail> {
     assert_eq!(rt; dict.find("c"), None);
     assert!(rt; dict.len() == 2);
     assert_eq!(rt; dict.name_of(0), "a");
-    let texts = dict.copy_from(rt.alloc(), 0)?;
+    let texts = dict.copy_from(0)?;
     assert!(rt; texts.len() == 2);
     assert_eq!(rt; texts.as_slice()[0].as_str(), "a");
     assert_eq!(rt; texts.as_slice()[1].as_str(), "");
-    assert!(rt; dict.copy_from(rt.alloc(), 2)?.is_empty());
+    assert!(rt; dict.copy_from(2)?.is_empty());
     let mut none = Dict::new(rt.alloc(), 0);
     assert_eq!(rt; none.encode("a")?, Code::Full);
     Ok(())
@@ -40,7 +41,8 @@ fn numbers_names(rt: HostRuntime) -> Result<(), Fail> {
 
 /// A dimension with two texts, and one of numbers.
 fn two_dimensions(alloc: Global) -> Result<CubeShape, AllocError>
-    ensures { IfOk result IsSoundCube }
+    ensures sound { IfOk result IsSoundCube }
+    ensures text { IfOk result (λ shape. IsTextDimension shape 0) }
 {
     let size = Size {
         cardinality: 2,
@@ -55,41 +57,51 @@ fn two_dimensions(alloc: Global) -> Result<CubeShape, AllocError>
     })
 }
 
+/// Cube 0 has its dictionaries from the start. Those of cube 2 are made at its first name; cube 1 has none
+/// all the time.
 #[test]
 fn numbers_names_of_cubes(rt: HostRuntime) -> Result<(), Fail> {
     let mut dicts = Dicts::new(rt.alloc());
     let cube = two_dimensions(rt.alloc())?;
-    for _ in 0..2 {
-        dicts.add_cube(rt.alloc(), &cube)?;
-    }
+    dicts.add_cube(&cube)?;
     let cases = [
-        (0, 0, "a", Code::Added(0)),
-        (1, 0, "b", Code::Added(0)),
-        (0, 0, "b", Code::Added(1)),
-        (0, 0, "a", Code::Known(0)),
-        (0, 1, "a", Code::Full),
-        (1, 0, "a", Code::Added(1)),
-        (1, 0, "c", Code::Full),
+        (0, "a", Code::Added(0)),
+        (2, "b", Code::Added(0)),
+        (0, "b", Code::Added(1)),
+        (0, "a", Code::Known(0)),
+        (0, "c", Code::Full),
+        (2, "a", Code::Added(1)),
+        (2, "b", Code::Known(0)),
     ];
-    for (number, dim, name, code) in cases {
-        assert!(rt; dicts.has_dimension(number, dim));
-        assert_eq!(rt; dicts.encode(number, dim, name)?, code, "{name}");
+    for (number, name, code) in cases {
+        assert_eq!(rt; dicts.encode(number, 0, &cube, name)?, code, "{name}");
     }
-    assert!(rt; !dicts.has_dimension(2, 0) && !dicts.has_dimension(0, 2));
-    assert!(rt; dicts.has_dimension(1, 0));
-    assert_eq!(rt; dicts.find(1, 0, "a"), Some(1));
-    assert_eq!(rt; dicts.find(1, 0, "c"), None);
+    let found = [
+        (0, 0, "b", Some(1)),
+        (2, 0, "b", Some(0)),
+        (2, 0, "c", None),
+        (2, 1, "a", None),
+        (2, 2, "a", None),
+        (1, 0, "a", None),
+        (3, 0, "a", None),
+    ];
+    for (number, dim, name, place) in found {
+        assert_eq!(rt; dicts.find(number, dim, name), place, "{name}");
+    }
     let places = [
         (0, 0, 0, Some("a")),
         (0, 0, 1, Some("b")),
-        (1, 0, 0, Some("b")),
+        (2, 0, 0, Some("b")),
         (0, 0, 2, None),
         (0, 1, 0, None),
         (0, 2, 0, None),
-        (2, 0, 0, None),
+        (1, 0, 0, None),
+        (3, 0, 0, None),
     ];
     for (number, dim, n, name) in places {
         assert_eq!(rt; dicts.name_of(number, dim, n), name);
     }
+    assert!(rt; dicts.copy_from(0, 0, 0)?.len() == 2);
+    assert!(rt; dicts.copy_from(1, 0, 0)?.is_empty() && dicts.copy_from(9, 9, 0)?.is_empty());
     Ok(())
 }
