@@ -13,3 +13,4 @@ pub mod Lines
 pub mod Runs
 pub mod RunLines
 pub mod NamedGroups
+pub mod WorkedRows

@@ -5,3 +5,4 @@ pub mod Standing
 pub mod Totals
 pub mod Lines
 pub mod Tables
+pub mod Worked

@@ -1,9 +1,10 @@
 //! Worked rows, extreme numbers, and many rows made from a seed against a plain fold.
 
-ghost use Rattle.std.specs.Prelude.{◌≡◌, ◌<◌, ◌≤◌, ◌+◌, ◌^◌, IsTrue, List, All, length, IfOk};
+ghost use Rattle.std.specs.Prelude.{[], ◌++◌, ◌≡◌, ◌<◌, ◌≤◌, ◌+◌, ◌^◌, IsTrue, List, All, length, IfOk};
 ghost use Rattle.cube_values.specs.Queries.{IsSoundItem, IsSoundQuery};
 ghost use Rattle.cube_values.specs.declared.row.CodedRow.{CodedRow};
 ghost use Rattle.agg_fold.specs.Standing.{StandsFor};
+ghost use Rattle.agg_fold.specs.Worked.{count_and_sum, three_and_five};
 
 use crate::Partial;
 use cube_values::{
@@ -257,6 +258,95 @@ fn merged_partials(rt: HostRuntime) -> Result<(), Fail> {
     assert!(rt; one == wanted && three == wanted, "one text twice");
     let counted = fold(alloc, &query(alloc, &[0], &items)?, &rows, 0, 1)?.rows();
     assert_eq!(rt; counted, 3);
+    Ok(())
+}
+
+/// COUNT and SUM over a cube without dimensions and with one metric.
+fn count_and_sum(alloc: Global) -> Result<BoundQuery, AllocError>
+    ensures { IfOk result (λ query. query ≡ count_and_sum) }
+{
+    Ok(BoundQuery {
+        cube: 0,
+        span: Span {
+            parts: Parts::new(alloc),
+        },
+        group: Coords::new(alloc),
+        items: BoundItems::from_vec(vec![in alloc; BoundItem::Count, BoundItem::Sum(0)]?),
+    })
+}
+
+/// Two rows with the metrics 3 and 5, by their totals.
+fn two_rows(alloc: Global, query: &BoundQuery) -> Result<Partial, AllocError>
+    requires { query.now ≡ count_and_sum }
+    ensures { IfOk result (λ p. StandsFor query.now three_and_five p.groups) }
+{
+    let mut partial = Partial::new(alloc);
+    let sums = [0, 8];
+    let others = [0, 0];
+    partial.add_group(query, &[], 2, &sums, &others, &others)?;
+    Ok(partial)
+}
+
+/// The two rows twice.
+fn four_rows(query: &BoundQuery, two: &Partial) -> Result<Partial, AllocError>
+    requires { StandsFor query.now three_and_five two.now.groups }
+    ensures { IfOk result (λ p. StandsFor query.now (three_and_five ++ three_and_five) p.groups) }
+{
+    let mut total = two.copy()?;
+    total.merge(query, two)?;
+    Ok(total)
+}
+
+/// Two rows of four are left.
+fn two_left(query: &BoundQuery, two: &Partial) -> Result<Partial, AllocError>
+    requires query { query.now ≡ count_and_sum }
+    requires two { StandsFor query.now three_and_five two.now.groups }
+    ensures { IfOk result (λ p. StandsFor query.now three_and_five p.groups) }
+{
+    let mut total = four_rows(query, two)?;
+    total.remove(query, two);
+    Ok(total)
+}
+
+/// No row is left of two.
+fn none_left(query: &BoundQuery, two: &Partial) -> Result<Partial, AllocError>
+    requires query { query.now ≡ count_and_sum }
+    requires two { StandsFor query.now three_and_five two.now.groups }
+    ensures { IfOk result (λ p. StandsFor query.now [] p.groups) }
+{
+    let mut total = two.copy()?;
+    total.remove(query, two);
+    Ok(total)
+}
+
+/// The fields of the only line.
+fn only_line(query: &BoundQuery, partial: &Partial, alloc: Global) -> Result<Table, AllocError>
+    requires { (rows : List CodedRow) × StandsFor query.now rows partial.now.groups }
+{
+    partial.finish(query, &NameLists::new(alloc))
+}
+
+#[test]
+fn rows_by_their_totals_come_and_go(rt: HostRuntime) -> Result<(), Fail> {
+    let alloc = rt.alloc();
+    let query = count_and_sum(alloc)?;
+    let two = two_rows(alloc, &query)?;
+    let lines = [
+        only_line(&query, &two, alloc)?,
+        only_line(&query, &four_rows(&query, &two)?, alloc)?,
+        only_line(&query, &two_left(&query, &two)?, alloc)?,
+        only_line(&query, &none_left(&query, &two)?, alloc)?,
+    ];
+    let wanted = [
+        (2, Field::Whole(8)),
+        (4, Field::Whole(16)),
+        (2, Field::Whole(8)),
+        (0, Field::Null),
+    ];
+    for (i, (count, sum)) in wanted.into_iter().enumerate() {
+        let line = vec![in alloc; Field::Whole(count), sum]?;
+        assert!(rt; lines[i] == table(alloc, vec![in alloc; line]?)?, "case {i}");
+    }
     Ok(())
 }
 
