@@ -1,6 +1,8 @@
 -- The line of a group: its fields by what is kept of it.
-use Rattle.std.specs.Prelude.{ℕ, ◌==◌, pos, List, [], ◌∷◌, unwrap_or, slice_get, if◌then◌else◌}
+use Rattle.std.specs.Prelude.{ℕ, ◌==◌, pos, List, [], ◌∷◌, map, unwrap_or, slice_get, if◌then◌else◌}
+use Rattle.std.specs.List.{zip}
 use Rattle.cube_values.specs.declared.query.BoundItem.{BoundItem}
+use Rattle.cube_values.specs.declared.query.BoundQuery.{BoundQuery}
 use Rattle.cube_values.specs.declared.query.BoundItem.TheVariants.{Group, Count, Sum, Min, Max, Avg}
 use Rattle.cube_values.specs.declared.table.Field.{Field}
 use Rattle.cube_values.specs.declared.table.Field.TheVariants as field
@@ -14,7 +16,8 @@ use Rattle.agg_fold.specs.Coded.{value_for}
 abbrev pub decoded_key : List (List (List ℕ)) → List ℕ → List ℕ → List Value
 decoded_key lists [] key = []
 decoded_key lists (dim ∷ group) [] = []
-decoded_key lists (dim ∷ group) (coord ∷ key) = value_for (unwrap_or (slice_get lists dim) []) coord ∷ decoded_key lists group key
+decoded_key lists (dim ∷ group) (coord ∷ key) =
+    value_for (unwrap_or (slice_get lists dim) []) coord ∷ decoded_key lists group key
 
 -- The value of a dimension in a key, as a field.
 abbrev pub key_field : List ℕ → List Value → ℕ → Field
@@ -47,3 +50,8 @@ field_for group values count (Avg metric) tally = average_field count tally
 abbrev pub empty_field : BoundItem → Field
 empty_field Count = field.Whole (pos 0)
 empty_field item = field.Null
+
+-- The fields of a group that has rows, by the tallies of the items.
+abbrev pub fields_for : BoundQuery → List Value → ℕ → List Tally → List Field
+fields_for query values count tallies =
+    map (λ p. field_for query.group values count p.0 p.1) (zip query.items tallies)

@@ -11,9 +11,13 @@ is_among keys key = list_any (bytes_eq key) keys
 abbrev pub IsPlaceOf : List (List ℕ) → List ℕ → Option ℕ → Type 0
 IsPlaceOf keys key place = MatchOption place (is_among keys key ≡ false) (λ p. slice_get keys p ≡ Some key)
 
+-- A key stands at a place.
+abbrev pub IsKeyAt : List (List ℕ) → ℕ → List ℕ → Type 0
+IsKeyAt keys place key = slice_get keys place ≡ Some key
+
 -- What stands at a place stands there still.
 abbrev pub PlacesStay : List (List ℕ) → List (List ℕ) → Type 0
-PlacesStay old new = (p : ℕ) (key : List ℕ) → slice_get old p ≡ Some key → slice_get new p ≡ Some key
+PlacesStay old new = (p : ℕ) (key : List ℕ) → IsKeyAt old p key → IsKeyAt new p key
 
 -- The key at a place.
 abbrev pub group_key : List (List ℕ) → ℕ → List ℕ

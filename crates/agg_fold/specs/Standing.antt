@@ -46,13 +46,21 @@ HasRoom query more groups = (rows : List CodedRow) × StandsFor query rows group
 abbrev pub StandsAlike : BoundQuery → Groups → Groups → Type 0
 StandsAlike query old new = (rows : List CodedRow) → StandsFor query rows old → StandsFor query rows new
 
+-- The same under each query.
+abbrev pub IsCopy : Groups → Groups → Type 0
+IsCopy old new = (query : BoundQuery) → StandsAlike query old new
+
+-- It is how many rows they stand for.
+abbrev pub IsRowCount : Groups → ℕ → Type 0
+IsRowCount groups n = (query : BoundQuery) (rows : List CodedRow) → StandsFor query rows groups → n ≡ length rows
+
 -- Of each list that groups stand for, others stand for the list with more rows.
 abbrev pub Gains : BoundQuery → List CodedRow → Groups → Groups → Type 0
 Gains query more old new = (rows : List CodedRow) → StandsFor query rows old → StandsFor query (rows ++ more) new
 
 -- The rows that come are those that others stand for.
-abbrev pub GainsAll : BoundQuery → Groups → Groups → Groups → Type 0
-GainsAll query other old new = (more : List CodedRow) → StandsFor query more other → Gains query more old new
+abbrev pub Adds : BoundQuery → Groups → Groups → Groups → Type 0
+Adds query other old new = (more : List CodedRow) → StandsFor query more other → Gains query more old new
 
 -- A list has the rows of another, each as often, and these besides.
 abbrev pub IsMade : List CodedRow → List CodedRow → List CodedRow → Type 0
@@ -68,14 +76,14 @@ pub record HasAll (query : BoundQuery) (other groups : Groups) : Type 0 where
   pub part : StandsFor query more other
 
 -- Of each list that has the rows that others stand for, each as often, the list without them is left.
-abbrev pub LosesAll : BoundQuery → Groups → Groups → Groups → Type 0
-LosesAll query other old new =
+abbrev pub Removes : BoundQuery → Groups → Groups → Groups → Type 0
+Removes query other old new =
     (rows more rest : List CodedRow) → IsMade rows more rest → StandsFor query more other
     → StandsFor query rows old → StandsFor query rest new
 
 -- The table is the answer over each list that groups stand for.
-abbrev pub IsTableOf : BoundQuery → List (List (List ℕ)) → Groups → List (List Field) → Type 0
-IsTableOf query lists groups table =
+abbrev pub IsTable : BoundQuery → List (List (List ℕ)) → Groups → List (List Field) → Type 0
+IsTable query lists groups table =
     (rows : List CodedRow) → StandsFor query rows groups
     → table ≡ table_of query.group query.items (map (row_for lists) rows)
 

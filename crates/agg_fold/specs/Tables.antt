@@ -52,21 +52,29 @@ IsIn x (y ∷ ys) = (x ≡ y) ⊎ IsIn x ys
 abbrev pub values_at : List (List (List ℕ)) → List ℕ → CodedRow → List Value
 values_at lists group row = decoded_key lists group (coded_key group row.coords)
 
+-- The group of a row is one of these, or none of them has the values of the row.
+abbrev pub IsCovered : List (List (List ℕ)) → BoundQuery → List (List ℕ) → List Named → CodedRow → Type 0
+IsCovered lists query keys named row =
+    IsIn (coded_key query.group row.coords) (map (key_at keys) named)
+    ⊎ AllByRecursion (λ v. v ≢ values_at lists query.group row) (values_of named)
+
 -- These are groups of rows, sorted by what their keys stand for. Of each row the group is one of them, or
 -- no group with the values of the row is.
-pub record AreNamed (lists : List (List (List ℕ))) (query : BoundQuery) (rows : List CodedRow) (groups : Groups) (named : List Named) : Type 0 where
+pub record AreNamed (lists : List (List (List ℕ))) (query : BoundQuery) (rows : List CodedRow)
+    (groups : Groups) (named : List Named) : Type 0 where
   pub within : All (λ n. n.place < length groups.keys) named
   pub some : All (λ n. 0 < unwrap_or (slice_get groups.counts.items n.place) 0) named
   pub values : All (λ n. n.values ≡ decoded_key lists query.group (key_at groups.keys n)) named
   pub once : IsDistinct bytes_eq (map (key_at groups.keys) named)
-  pub all : All (λ row. IsIn (coded_key query.group row.coords) (map (key_at groups.keys) named) ⊎ AllByRecursion (λ v. v ≢ values_at lists query.group row) (values_of named)) rows
+  pub all : All (IsCovered lists query groups.keys named) rows
   pub sorted : AreSorted (values_of named)
 
 -- The last of each run of equal lists of values.
 abbrev pub distinct_values : List (List Value) → List (List Value)
 distinct_values [] = []
 distinct_values (v ∷ []) = v ∷ []
-distinct_values (v ∷ w ∷ values) = if values_eq v w then distinct_values (w ∷ values) else v ∷ distinct_values (w ∷ values)
+distinct_values (v ∷ w ∷ values) =
+    if values_eq v w then distinct_values (w ∷ values) else v ∷ distinct_values (w ∷ values)
 
 -- The line of a key.
 abbrev pub line_of : List (List (List ℕ)) → BoundQuery → List CodedRow → List Value → List Field
@@ -82,7 +90,8 @@ run_metrics group rows keys run = flat_map (λ n. metrics_with group rows (key_a
 
 -- The line of rows of one key by their tallies.
 abbrev pub line_of_tallies : BoundQuery → List Value → List (List ℤ) → List Field
-line_of_tallies query values metrics = map (λ item. field_for query.group values (length metrics) item (tally_of metrics item)) query.items
+line_of_tallies query values metrics =
+    map (λ item. field_for query.group values (length metrics) item (tally_of metrics item)) query.items
 
 -- The groups stand for some rows, of which these groups are.
 abbrev pub HasNamed : List (List (List ℕ)) → BoundQuery → Groups → List Named → Type 0
@@ -90,8 +99,8 @@ HasNamed lists query groups named =
     (rows : List CodedRow) × StandsFor query rows groups × AreNamed lists query rows groups named
 
 -- These lines are those of the groups, for any rows of which these groups are.
-abbrev pub AreLinesOf : List (List (List ℕ)) → BoundQuery → Groups → List Named → List (List Field) → Type 0
-AreLinesOf lists query groups named lines =
+abbrev pub AreLines : List (List (List ℕ)) → BoundQuery → Groups → List Named → List (List Field) → Type 0
+AreLines lists query groups named lines =
     (rows : List CodedRow) → StandsFor query rows groups → AreNamed lists query rows groups named
     → lines ≡ lines_of lists query rows named
 

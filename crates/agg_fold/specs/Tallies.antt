@@ -1,6 +1,6 @@
 -- What a group has of the metrics of its rows for an item of a query. A row stands here by the list of its metrics.
 -- Source: Cubrick (VLDB 2016), merging of partial results.
-use Rattle.std.specs.Prelude.{ℕ, ◌^◌, ◌-◌, ◌+◌, ◌*◌, ◌<◌, List, [], ◌∷◌, ◌++◌, length, map, take, drop, fold, pos, negsuc, ℤ, ◌+ℤ◌, ◌-ℤ◌, ◌<ℤ◌, neg_ℤ, Option, None, Some, All, slice_get, unwrap_or, FitsSigned}
+use Rattle.std.specs.Prelude.{◌≡◌, ℕ, ◌^◌, ◌-◌, ◌+◌, ◌*◌, ◌<◌, List, [], ◌∷◌, ◌++◌, length, map, take, drop, fold, pos, negsuc, ℤ, ◌+ℤ◌, ◌-ℤ◌, ◌<ℤ◌, neg_ℤ, Option, None, Some, All, slice_get, unwrap_or, FitsSigned}
 use Rattle.std.specs.List.{zip}
 use Rattle.std.specs.Option.{option_map_or}
 use Rattle.std.specs.Int.{int_min, int_max, w64}
@@ -143,3 +143,17 @@ with_chunk place width tallies chunk =
 abbrev pub changed_chunk : ℕ → ℕ → (List Tally → List Tally) → List Tally → List Tally
 changed_chunk place width change tallies =
     with_chunk place width tallies (change (chunk_of place width tallies))
+
+-- The tallies, with a row more in the group at a place, with more rows in it, and without some.
+abbrev pub with_row_at : ℕ → List BoundItem → List ℤ → List Tally → List Tally
+with_row_at place items metrics tallies = changed_chunk place (length items) (tallies_with_row metrics items) tallies
+
+abbrev pub sums_at : ℕ → List Tally → List Tally → List Tally
+sums_at place more tallies = changed_chunk place (length more) (λ old. tally_sums old more) tallies
+
+abbrev pub differences_at : ℕ → List Tally → List Tally → List Tally
+differences_at place less tallies = changed_chunk place (length less) (λ old. tally_differences old less) tallies
+
+-- These are the tallies of what is told.
+abbrev pub AreTold : List BoundItem → List ℤ → List ℤ → List ℤ → List Tally → Type 0
+AreTold items sums least greatest tallies = tallies ≡ told_tallies items sums least greatest

@@ -4,8 +4,8 @@ ghost use Rattle.std.specs.Prelude.{◌≡◌, ◌<◌, List, length, IfOk};
 ghost use Rattle.cube_values.specs.declared.row.CodedRow.{CodedRow};
 ghost use Rattle.cube_values.specs.Values.{values_cmp};
 ghost use Rattle.agg_fold.specs.Coded.{texts_for};
-ghost use Rattle.agg_fold.specs.Standing.{HasRoom, IsTableOf};
-ghost use Rattle.agg_fold.specs.Tables.{groups_named, HasNamed, AreLinesOf, HasRun, IsRunLine, IsRun};
+ghost use Rattle.agg_fold.specs.Standing.{HasRoom, IsTable};
+ghost use Rattle.agg_fold.specs.Tables.{groups_named, HasNamed, AreLines, HasRun, IsRunLine, IsRun};
 
 use crate::groups::Groups;
 use crate::line::{decoded_key, empty_line, line_for};
@@ -41,7 +41,7 @@ pub fn table_for(
     lists: &[Texts],
 ) -> Result<Table, AllocError>
     requires { HasRoom query.now 0 groups.now }
-    ensures { IfOk result (IsTableOf query.now lists.now groups.now) }
+    ensures { IfOk result (IsTable query.now lists.now groups.now) }
 {
     let mut named = with_rows(alloc, query, groups, lists)?;
     if query.group.is_empty() && named.is_empty() {
@@ -111,7 +111,7 @@ fn run_lines(
     named: &[Named],
 ) -> Result<Vec<Line>, AllocError>
     requires { HasNamed lists.now query.now groups.now named.now }
-    ensures { IfOk result (λ lines. AreLinesOf lists.now query.now groups.now named.now lines.items) }
+    ensures { IfOk result (λ lines. AreLines lists.now query.now groups.now named.now lines.items) }
 {
     let mut lines = Vec::new(alloc);
     let mut rest = named;

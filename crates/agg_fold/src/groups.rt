@@ -1,14 +1,13 @@
 //! Groups of rows, with the tallies of each.
 
-ghost use Rattle.std.specs.Prelude.{◌≡◌, ◌++◌, ◌+◌, ◌<◌, ℕ, false, IsTrue, [], ◌∷◌, List, All, length, map, slice_get, Some, IfOk, OnOk, OnErr};
+ghost use Rattle.std.specs.Prelude.{◌≡◌, ◌++◌, ◌+◌, ◌<◌, false, IsTrue, [], ◌∷◌, All, length, IfOk, OnOk, OnErr};
 ghost use Rattle.cube_values.specs.declared.query.BoundQuery.{BoundQuery};
-ghost use Rattle.cube_values.specs.declared.row.CodedRow.{CodedRow};
 ghost use Rattle.cube_values.specs.Queries.{IsSoundQuery};
 ghost use Rattle.cube_values.specs.Spans.{span_has};
 ghost use Rattle.agg_fold.specs.Tallies.{IsAdditive};
 ghost use Rattle.agg_fold.specs.Coded.{coded_key, coded_row};
-ghost use Rattle.agg_fold.specs.Places.{is_among, PlacesStay, group_key};
-ghost use Rattle.agg_fold.specs.Standing.{StandsFor, HasRoom, StandsAlike, Gains, GainsAll, HasAll, LosesAll, ArePlaces};
+ghost use Rattle.agg_fold.specs.Places.{is_among, IsKeyAt, PlacesStay, group_key};
+ghost use Rattle.agg_fold.specs.Standing.{StandsFor, HasRoom, StandsAlike, IsCopy, Gains, Adds, HasAll, Removes, ArePlaces};
 ghost use Rattle.agg_fold.specs.Totals.{HasTotals, GainsTotals, CanLoseTotals, LosesTotals, CanLoseGroup, LosesGroup, HasEmptyTallies};
 
 use crate::group_keys::GroupKeys;
@@ -44,7 +43,7 @@ impl Groups {
 
     /// The same groups.
     pub fn copy(&self, alloc: Global) -> Result<Groups, AllocError>
-        ensures { IfOk result (λ copy. (query : BoundQuery) → StandsAlike query self.now copy) }
+        ensures { IfOk result (IsCopy self.now) }
     {
         Ok(Groups {
             rows: self.rows,
@@ -60,7 +59,7 @@ impl Groups {
         requires wide { length key.now ≡ length query.now.group }
         ensures same { StandsAlike query.now self.old self.new }
         ensures rows { self.new.rows ≡ self.old.rows }
-        ensures place { IfOk result (λ p. slice_get self.new.keys p ≡ Some key.now) }
+        ensures place { IfOk result (λ p. IsKeyAt self.new.keys p key.now) }
         ensures stay { PlacesStay self.old.keys self.new.keys }
     {
         if query.group.is_empty() && self.keys.len() > 0 {
@@ -77,7 +76,7 @@ impl Groups {
     /// Adds a row with the key of the group at a place.
     pub fn add(&mut self, query: &BoundQuery, place: usize, coords: &[u32], metrics: &[i64])
         requires held { HasRoom query.now 1 self.old }
-        requires place { slice_get self.old.keys place ≡ Some (coded_key query.now.group coords.now) }
+        requires place { IsKeyAt self.old.keys place (coded_key query.now.group coords.now) }
         requires sound { IsSoundQuery query.now (length coords.now) (length metrics.now) }
         requires inside { IsTrue (span_has query.now.span coords.now) }
         ensures { Gains query.now (coded_row coords.now metrics.now ∷ []) self.old self.new }
@@ -128,7 +127,7 @@ impl Groups {
     ) -> Result<(), AllocError>
         requires held { HasRoom query.now other.now.rows self.old }
         requires other { HasRoom query.now 0 other.now }
-        ensures ok { OnOk result (GainsAll query.now other.now self.old self.new) }
+        ensures ok { OnOk result (Adds query.now other.now self.old self.new) }
         ensures err { OnErr result (StandsAlike query.now self.old self.new) }
     {
         let places = self.places_of(alloc, query, other)?;
@@ -162,7 +161,7 @@ impl Groups {
         requires held { HasRoom query.now other.now.rows self.old }
         requires other { HasRoom query.now 0 other.now }
         requires places { ArePlaces self.old.keys places.now other.now.keys }
-        ensures { GainsAll query.now other.now self.old self.new }
+        ensures { Adds query.now other.now self.old self.new }
     {
         let width = query.items.len();
         'groups: for theirs in 0..other.keys.len() {
@@ -175,7 +174,7 @@ impl Groups {
     pub fn remove(&mut self, query: &BoundQuery, other: &Groups)
         requires additive { All IsAdditive query.now.items }
         requires held { HasAll query.now other.now self.old }
-        ensures { LosesAll query.now other.now self.old self.new }
+        ensures { Removes query.now other.now self.old self.new }
     {
         'groups: for theirs in 0..other.keys.len() {
             self.take_group(query, other, theirs);

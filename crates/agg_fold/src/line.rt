@@ -1,10 +1,9 @@
 //! The line of a group in an answer.
 
 ghost use Rattle.std.specs.Prelude.{◌≡◌, ◌<◌, ◌^◌, ◌*◌, ◌/◌, ◌%◌, ℕ, ◌≢◌, [], List, length, map, IfOk, unwrap_or, slice_get};
-ghost use Rattle.std.specs.List.{zip};
 ghost use Rattle.cube_values.specs.Answer.{field_of, average};
 ghost use Rattle.agg_fold.specs.Coded.{value_for};
-ghost use Rattle.agg_fold.specs.Lines.{decoded_key, key_field, tally_field, field_for, empty_field};
+ghost use Rattle.agg_fold.specs.Lines.{decoded_key, key_field, tally_field, field_for, fields_for, empty_field};
 
 use crate::tally::Tally;
 use cube_values::{BoundItem, BoundQuery, Field, Line, Text, TextLists, Texts, Value};
@@ -159,7 +158,7 @@ pub fn line_for(
 ) -> Result<Line, AllocError>
     requires some { 0 < count }
     requires tallies { length tallies.now ≡ length query.now.items }
-    ensures { IfOk result (λ line. line ≡ map (λ p. field_for query.now.group values.now count p.0 p.1) (zip query.now.items tallies.now)) }
+    ensures { IfOk result (λ line. line ≡ fields_for query.now values.now count tallies.now) }
 {
     let items = query.items.as_slice();
     let mut fields = Vec::new(alloc);

@@ -1,13 +1,12 @@
 //! A part of an answer, from which rows and other parts make the whole.
 
-ghost use Rattle.std.specs.Prelude.{◌≡◌, ◌<◌, ℕ, IsTrue, [], ◌∷◌, List, All, length, IfOk, OnOk, OnErr};
+ghost use Rattle.std.specs.Prelude.{◌≡◌, ◌<◌, IsTrue, [], ◌∷◌, All, length, IfOk, OnOk, OnErr};
 ghost use Rattle.cube_values.specs.declared.query.BoundQuery.{BoundQuery};
-ghost use Rattle.cube_values.specs.declared.row.CodedRow.{CodedRow};
 ghost use Rattle.cube_values.specs.Queries.{IsSoundQuery};
 ghost use Rattle.cube_values.specs.Spans.{span_has};
 ghost use Rattle.agg_fold.specs.Tallies.{IsAdditive};
-ghost use Rattle.agg_fold.specs.Coded.{coded_key, coded_row, texts_for};
-ghost use Rattle.agg_fold.specs.Standing.{StandsFor, HasRoom, StandsAlike, Gains, GainsAll, HasAll, LosesAll, IsTableOf};
+ghost use Rattle.agg_fold.specs.Coded.{coded_key, texts_for};
+ghost use Rattle.agg_fold.specs.Standing.{StandsFor, HasRoom, StandsAlike, IsCopy, IsRowCount, Gains, Adds, HasAll, Removes, IsTable};
 ghost use Rattle.agg_fold.specs.Totals.{AreSomeRows, GainsGroup};
 
 use crate::finish::{table_for, texts_for};
@@ -44,7 +43,7 @@ impl Partial {
 
     /// A partial that stands for the same lists.
     pub fn copy(&self) -> Result<Partial, AllocError>
-        ensures { IfOk result (λ p. (query : BoundQuery) → StandsAlike query self.now.groups p.groups) }
+        ensures { IfOk result (λ p. IsCopy self.now.groups p.groups) }
     {
         Ok(Partial {
             groups: self.groups.copy(self.alloc)?,
@@ -65,7 +64,10 @@ impl Partial {
         requires sound { IsSoundQuery query.now (length coords.now) (length metrics.now) }
         requires inside { IsTrue (span_has query.now.span coords.now) }
         requires room { HasRoom query.now 1 self.old.groups }
-        ensures ok { OnOk result (Gains query.now (coded_row coords.now metrics.now ∷ []) self.old.groups self.new.groups) }
+        ensures ok { OnOk result (Gains query.now (record {
+            coords = coords.now;
+            metrics = metrics.now;
+        } ∷ []) self.old.groups self.new.groups) }
         ensures err { OnErr result (StandsAlike query.now self.old.groups self.new.groups) }
     {
         gather(&mut self.key, query.group.as_slice(), coords)?;
@@ -115,7 +117,7 @@ impl Partial {
     pub fn merge(&mut self, query: &BoundQuery, other: &Partial) -> Result<(), AllocError>
         requires room { HasRoom query.now other.now.groups.rows self.old.groups }
         requires other { HasRoom query.now 0 other.now.groups }
-        ensures ok { OnOk result (GainsAll query.now other.now.groups self.old.groups self.new.groups) }
+        ensures ok { OnOk result (Adds query.now other.now.groups self.old.groups self.new.groups) }
         ensures err { OnErr result (StandsAlike query.now self.old.groups self.new.groups) }
     {
         self.groups.join(self.alloc, query, &other.groups)
@@ -125,7 +127,7 @@ impl Partial {
     pub fn remove(&mut self, query: &BoundQuery, other: &Partial)
         requires additive { All IsAdditive query.now.items }
         requires held { HasAll query.now other.now.groups self.old.groups }
-        ensures { LosesAll query.now other.now.groups self.old.groups self.new.groups }
+        ensures { Removes query.now other.now.groups self.old.groups self.new.groups }
     {
         self.groups.remove(query, &other.groups);
     }
@@ -135,7 +137,7 @@ impl Partial {
     /// coordinates stand for; a coordinate without its text stands for the empty text.
     pub fn finish(&self, query: &BoundQuery, names: &NameLists) -> Result<Table, AllocError>
         requires { HasRoom query.now 0 self.now.groups }
-        ensures { IfOk result (IsTableOf query.now (texts_for query.now names.now) self.now.groups) }
+        ensures { IfOk result (IsTable query.now (texts_for query.now names.now) self.now.groups) }
     {
         let table = table_for(self.alloc, query, &self.groups, texts_for(query, names))?;
         Ok(table)
@@ -143,7 +145,7 @@ impl Partial {
 
     /// How many rows it stands for.
     pub fn rows(&self) -> u64
-        ensures { (query : BoundQuery) (rows : List CodedRow) → StandsFor query rows self.now.groups → result ≡ length rows }
+        ensures { IsRowCount self.now.groups result }
     {
         self.groups.rows
     }

@@ -2,7 +2,7 @@
 
 ghost use Rattle.std.specs.Prelude.{◌≡◌, ◌++◌, ◌+◌, ◌*◌, ◌≤◌, ℕ, [], List, All, length, map, OnOk, vec_capacity, vec_len};
 ghost use Rattle.cube_values.specs.Queries.{IsSoundItem};
-ghost use Rattle.agg_fold.specs.Tallies.{tally_of, Fits, IsSmall, tallies_with_row, tally_sums, tally_differences, told_tallies, chunk_of, changed_chunk};
+ghost use Rattle.agg_fold.specs.Tallies.{tally_of, Fits, IsSmall, tallies_with_row, tally_sums, tally_differences, AreTold, chunk_of, with_row_at, sums_at, differences_at};
 
 use crate::tally::Tally;
 use cube_values::BoundItem;
@@ -23,7 +23,7 @@ pub fn add_row_at(tallies: &mut [Tally], place: usize, items: &[BoundItem], metr
     requires small { All IsSmall (chunk_of place (length items.now) tallies.old) }
     requires items { (group : List ℕ) × All (IsSoundItem group (length metrics.now)) items.now }
     ensures fit { All (Fits metrics.now) items.now }
-    ensures more { tallies.new ≡ changed_chunk place (length items.now) (tallies_with_row metrics.now items.now) tallies.old }
+    ensures more { tallies.new ≡ with_row_at place items.now metrics.now tallies.old }
 {
     let first = place * items.len();
     add_row(&mut tallies[first..first + items.len()], items, metrics)
@@ -34,7 +34,7 @@ pub fn add_all_at(tallies: &mut [Tally], place: usize, more: &[Tally])
     requires within { place * length more.now + length more.now ≤ length tallies.old }
     requires small { All IsSmall (chunk_of place (length more.now) tallies.old) }
     requires more { All IsSmall more.now }
-    ensures { tallies.new ≡ changed_chunk place (length more.now) (λ old. tally_sums old more.now) tallies.old }
+    ensures { tallies.new ≡ sums_at place more.now tallies.old }
 {
     let first = place * more.len();
     add_all(&mut tallies[first..first + more.len()], more)
@@ -45,7 +45,7 @@ pub fn take_all_at(tallies: &mut [Tally], place: usize, less: &[Tally])
     requires within { place * length less.now + length less.now ≤ length tallies.old }
     requires small { All IsSmall (chunk_of place (length less.now) tallies.old) }
     requires less { All IsSmall less.now }
-    ensures { tallies.new ≡ changed_chunk place (length less.now) (λ old. tally_differences old less.now) tallies.old }
+    ensures { tallies.new ≡ differences_at place less.now tallies.old }
 {
     let first = place * less.len();
     take_all(&mut tallies[first..first + less.len()], less)
@@ -109,7 +109,7 @@ pub fn gather_told(
     requires sums { length items.now ≤ length sums.now }
     requires least { length items.now ≤ length least.now }
     requires greatest { length items.now ≤ length greatest.now }
-    ensures { OnOk result (tallies.new.items ≡ told_tallies items.now sums.now least.now greatest.now) }
+    ensures { OnOk result (AreTold items.now sums.now least.now greatest.now tallies.new.items) }
 {
     tallies.clear();
     'items: for i in 0..items.len() {

@@ -4,7 +4,7 @@ ghost use Rattle.std.specs.Prelude.{[], ◌++◌, ◌≡◌, ◌<◌, ◌≤◌,
 ghost use Rattle.cube_values.specs.Queries.{IsSoundItem, IsSoundQuery};
 ghost use Rattle.cube_values.specs.declared.row.CodedRow.{CodedRow};
 ghost use Rattle.agg_fold.specs.Standing.{StandsFor};
-ghost use Rattle.agg_fold.specs.Worked.{count_and_sum, three_and_five};
+ghost use Rattle.agg_fold.specs.Worked.{StandsForFew, count_and_sum, three_and_five};
 
 use crate::Partial;
 use cube_values::{
@@ -77,7 +77,7 @@ fn fold(
     step: usize,
 ) -> Result<Partial, AllocError>
     requires { length rows.now < 2 ^ 40 }
-    ensures { IfOk result (λ p. (rs : List CodedRow) × StandsFor query.now rs p.groups × (length rs ≤ length rows.now)) }
+    ensures { IfOk result (λ p. StandsForFew query.now (length rows.now) p.groups) }
 {
     let mut partial = Partial::new(alloc);
     'rows: for i in 0..rows.len() {

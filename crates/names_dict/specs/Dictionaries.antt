@@ -26,7 +26,8 @@ number_of d name = position (bytes_eq name) d.names
 -- The code of a name: its number, else the next number where there is room for one more name.
 abbrev pub code_of : Dictionary → List ℕ → Code
 code_of d name =
-    option_map_or Known (number_of d name) (if nat_lt (length d.names) d.cardinality then Added (length d.names) else Full)
+    option_map_or Known (number_of d name)
+    (if nat_lt (length d.names) d.cardinality then Added (length d.names) else Full)
 
 -- A name that is added goes last; else nothing changes.
 abbrev pub with_code : Dictionary → List ℕ → Code → Dictionary
@@ -38,6 +39,14 @@ abbrev pub empty_dictionaries : List Size → List Bool → List Dictionary
 empty_dictionaries (s ∷ sizes) (text ∷ texts) =
     record { cardinality = if text then s.cardinality else 0; names = [] } ∷ empty_dictionaries sizes texts
 empty_dictionaries sizes texts = []
+
+-- Those of a cube of this shape.
+abbrev pub new_dictionaries : CubeShape → List Dictionary
+new_dictionaries shape = empty_dictionaries shape.shape.sizes shape.texts
+
+-- The next cube has them.
+abbrev pub with_cube : List (List Dictionary) → CubeShape → List (List Dictionary)
+with_cube cubes shape = cubes ++ new_dictionaries shape ∷ []
 
 -- The dictionary of a dimension. One that is not made has no names.
 abbrev pub dictionary_in : List Dictionary → ℕ → Dictionary
@@ -53,7 +62,7 @@ dictionary_at cubes cube dim = dictionary_in (dictionaries_of cubes cube) dim
 
 -- The dictionaries of a cube of this shape: those that are made, else empty ones.
 abbrev pub made_dictionaries : CubeShape → List Dictionary → List Dictionary
-made_dictionaries shape [] = empty_dictionaries shape.shape.sizes shape.texts
+made_dictionaries shape [] = new_dictionaries shape
 made_dictionaries shape (d ∷ dims) = d ∷ dims
 
 -- A dimension of a shape has texts.
@@ -74,15 +83,27 @@ with_dictionaries cubes cube dims =
 abbrev pub encoded_dictionaries : ℕ → List ℕ → List Dictionary → Code → List Dictionary
 encoded_dictionaries dim name dims code = set dims dim (with_code (dictionary_in dims dim) name code)
 
+abbrev pub IsEncodedIn : ℕ → List ℕ → List Dictionary → List Dictionary → Code → Type 0
+IsEncodedIn dim name old new code = new ≡ encoded_dictionaries dim name old code
+
 -- A name got a code in a dimension of a cube of this shape.
-abbrev pub IsEncoded : CubeShape → ℕ → ℕ → List ℕ → List (List Dictionary) → List (List Dictionary) → Code → Type 0
+abbrev pub IsEncoded : CubeShape → ℕ → ℕ → List ℕ → List (List Dictionary) → List (List Dictionary) → Code
+    → Type 0
 IsEncoded shape cube dim name old new code =
     new ≡ with_dictionaries old cube
     (encoded_dictionaries dim name (made_dictionaries shape (dictionaries_of old cube)) code)
 
+-- It gets this code there.
+abbrev pub IsCodeFor : CubeShape → List (List Dictionary) → ℕ → ℕ → List ℕ → Code → Type 0
+IsCodeFor shape cubes cube dim name code = code ≡ code_of (dictionary_for shape cubes cube dim) name
+
 -- A name is to be added: the dictionary lacks it and has room.
 abbrev pub IsToBeAdded : Dictionary → List ℕ → Type 0
 IsToBeAdded d name = code_of d name ≡ Added (length d.names)
+
+-- It is to be added to that of a dimension of a cube of this shape.
+abbrev pub IsNewFor : CubeShape → List (List Dictionary) → ℕ → ℕ → List ℕ → Type 0
+IsNewFor shape cubes cube dim name = IsToBeAdded (dictionary_for shape cubes cube dim) name
 
 -- The name at a place, where there is such a place.
 abbrev pub name_at : List (List Dictionary) → ℕ → ℕ → ℕ → Option (List ℕ)

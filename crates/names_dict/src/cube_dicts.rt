@@ -2,7 +2,7 @@
 
 ghost use Rattle.std.specs.Prelude.{◌≡◌, ◌↔◌, ◌<◌, ◌≤◌, IsTrue, length, drop, option_copied, slice_get, [], IfOk, OnErr, if◌then◌else◌};
 ghost use Rattle.cube_values.specs.Shapes.{IsSoundCube};
-ghost use Rattle.names_dict.specs.Dictionaries.{number_of, code_of, empty_dictionaries, dictionary_in, encoded_dictionaries, IsToBeAdded};
+ghost use Rattle.names_dict.specs.Dictionaries.{number_of, code_of, empty_dictionaries, new_dictionaries, dictionary_in, IsEncodedIn, IsToBeAdded};
 
 use crate::code::Code;
 use crate::dict::Dict;
@@ -48,7 +48,7 @@ impl CubeDicts {
     /// The empty dictionaries of a new cube.
     pub fn new(alloc: Global, cube: &CubeShape) -> Result<CubeDicts, AllocError>
         requires { IsSoundCube cube.now }
-        ensures { IfOk result (λ dims. dims ≡ empty_dictionaries cube.now.shape.sizes cube.now.texts) }
+        ensures { IfOk result (λ dims. dims ≡ new_dictionaries cube.now) }
     {
         let dims = empty_dicts(alloc, cube.shape.sizes.as_slice(), cube.texts.as_slice())?;
         Ok(CubeDicts { dims })
@@ -83,7 +83,7 @@ impl CubeDicts {
     /// Encodes a name by the dictionary of a dimension. Where there is no such dimension there is no room.
     pub fn encode(&mut self, dim: u32, name: &str) -> Result<Code, AllocError>
         ensures code { IfOk result (λ code. code ≡ code_of (dictionary_in self.old dim) name.now) }
-        ensures names { IfOk result (λ code. self.new ≡ encoded_dictionaries dim name.now self.old code) }
+        ensures names { IfOk result (IsEncodedIn dim name.now self.old self.new) }
         ensures err { OnErr result (self.new ≡ self.old) }
         ensures wanted { OnErr result (IsToBeAdded (dictionary_in self.old dim) name.now) }
     {

