@@ -297,33 +297,45 @@ fn four_rows(query: &BoundQuery, two: &Partial) -> Result<Partial, AllocError>
     Ok(total)
 }
 
-/// Two rows of four are left.
-fn two_left(query: &BoundQuery, two: &Partial) -> Result<Partial, AllocError>
+/// The answer over the two rows.
+fn over_two(alloc: Global, query: &BoundQuery, two: &Partial) -> Result<Table, AllocError>
+    requires { StandsFor query.now three_and_five two.now.groups }
+{
+    two.finish(query, &NameLists::new(alloc))
+}
+
+/// The answer over the two rows twice.
+fn over_four(alloc: Global, query: &BoundQuery, two: &Partial) -> Result<Table, AllocError>
+    requires { StandsFor query.now three_and_five two.now.groups }
+{
+    let total = four_rows(query, two)?;
+    total.finish(query, &NameLists::new(alloc))
+}
+
+/// The answer over two rows of four that are left.
+fn over_two_left(alloc: Global, query: &BoundQuery, two: &Partial) -> Result<Table, AllocError>
     requires query { query.now ≡ count_and_sum }
     requires two { StandsFor query.now three_and_five two.now.groups }
-    ensures { IfOk result (λ p. StandsFor query.now three_and_five p.groups) }
 {
     let mut total = four_rows(query, two)?;
     total.remove(query, two);
-    Ok(total)
+    total.finish(query, &NameLists::new(alloc))
 }
 
-/// No row is left of two.
-fn none_left(query: &BoundQuery, two: &Partial) -> Result<Partial, AllocError>
+/// The answer where no row of two is left.
+fn over_none_left(alloc: Global, query: &BoundQuery, two: &Partial) -> Result<Table, AllocError>
     requires query { query.now ≡ count_and_sum }
     requires two { StandsFor query.now three_and_five two.now.groups }
-    ensures { IfOk result (λ p. StandsFor query.now [] p.groups) }
 {
     let mut total = two.copy()?;
     total.remove(query, two);
-    Ok(total)
+    total.finish(query, &NameLists::new(alloc))
 }
 
-/// The fields of the only line.
-fn only_line(query: &BoundQuery, partial: &Partial, alloc: Global) -> Result<Table, AllocError>
-    requires { (rows : List CodedRow) × StandsFor query.now rows partial.now.groups }
-{
-    partial.finish(query, &NameLists::new(alloc))
+/// The only line of an answer: a count and a sum.
+fn count_and(alloc: Global, count: i128, sum: Field) -> Result<Table, AllocError> {
+    let line = vec![in alloc; Field::Whole(count), sum]?;
+    table(alloc, vec![in alloc; line]?)
 }
 
 #[test]
@@ -331,22 +343,13 @@ fn rows_by_their_totals_come_and_go(rt: HostRuntime) -> Result<(), Fail> {
     let alloc = rt.alloc();
     let query = count_and_sum(alloc)?;
     let two = two_rows(alloc, &query)?;
-    let lines = [
-        only_line(&query, &two, alloc)?,
-        only_line(&query, &four_rows(&query, &two)?, alloc)?,
-        only_line(&query, &two_left(&query, &two)?, alloc)?,
-        only_line(&query, &none_left(&query, &two)?, alloc)?,
-    ];
-    let wanted = [
-        (2, Field::Whole(8)),
-        (4, Field::Whole(16)),
-        (2, Field::Whole(8)),
-        (0, Field::Null),
-    ];
-    for (i, (count, sum)) in wanted.into_iter().enumerate() {
-        let line = vec![in alloc; Field::Whole(count), sum]?;
-        assert!(rt; lines[i] == table(alloc, vec![in alloc; line]?)?, "case {i}");
-    }
+    let eight = count_and(alloc, 2, Field::Whole(8))?;
+    assert!(rt; over_two(alloc, &query, &two)? == eight);
+    let sixteen = count_and(alloc, 4, Field::Whole(16))?;
+    assert!(rt; over_four(alloc, &query, &two)? == sixteen);
+    assert!(rt; over_two_left(alloc, &query, &two)? == eight);
+    let none = count_and(alloc, 0, Field::Null)?;
+    assert!(rt; over_none_left(alloc, &query, &two)? == none);
     Ok(())
 }
 

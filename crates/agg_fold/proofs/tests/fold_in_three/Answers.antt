@@ -12,17 +12,15 @@ merge-requires-clause-other c =
     let (b, t, m) = c.in_ok-first.ensures in
     (b, t, omega (arith, t.few))
 
-pub merge-2-requires-clause-room : goal.merge-2-requires-clause-room
-merge-2-requires-clause-room c =
+pub merge-requires-2 : goal.merge-requires-2
+merge-requires-2 c =
     let (a, s, n) = c.in_ok-total.ensures in
     let (b, t, m) = c.in_ok-first.ensures in
     let (d, u, k) = c.in_ok-second.ensures in
-    (a ++ b, c.in_ok-merge.ensures.ok b t a s, omega (arith, length-append a b, u.count, n, m, k))
-
-pub merge-2-requires-clause-other : goal.merge-2-requires-clause-other
-merge-2-requires-clause-other c =
-    let (d, u, k) = c.in_ok-second.ensures in
-    (d, u, omega (arith, u.few))
+    record {
+      room = (a ++ b, c.in_ok-merge.ensures.ok b t a s, omega (arith, length-append a b, u.count, n, m, k));
+      other = (d, u, omega (arith, u.few));
+    }
 
 pub returns : goal.returns
 returns c =

@@ -1,10 +1,10 @@
-use Rattle.std.proofs.Common.{◌++◌, All, sym, subst}
+use Rattle.std.proofs.Common.{◌++◌, All, sym, subst, arith}
 use Rattle.std.proofs.lemmas.List.Sorted.{IsPermutation-refl}
 use Rattle.cube_values.specs.declared.query.BoundQuery.{BoundQuery}
 use Rattle.agg_fold.specs.Tallies.{IsAdditive}
 use Rattle.agg_fold.specs.Worked.{three_and_five}
 use Rattle.agg_fold.proofs.WorkedRows.{both_additive}
-use Rattle.agg_fold.proofs.tests.two_left.Goals as goal
+use Rattle.agg_fold.proofs.tests.over_two_left.Goals as goal
 
 pub remove-requires-clause-additive : goal.remove-requires-clause-additive
 remove-requires-clause-additive c = subst (λ (q : BoundQuery). All IsAdditive q.items) (sym c.requires.query) both_additive
@@ -19,5 +19,7 @@ remove-requires-clause-held c = record {
   part = c.requires.two;
 }
 
-pub returns : goal.returns
-returns c = c.remove.ensures (three_and_five ++ three_and_five) three_and_five three_and_five (IsPermutation-refl (three_and_five ++ three_and_five)) c.requires.two c.in_ok-total.ensures
+pub finish-requires : goal.finish-requires
+finish-requires c =
+    let s = c.remove.ensures (three_and_five ++ three_and_five) three_and_five three_and_five (IsPermutation-refl (three_and_five ++ three_and_five)) c.requires.two c.in_ok-total.ensures in
+    (three_and_five, s, omega (arith, s.few))
