@@ -65,8 +65,8 @@ impl Partial {
         requires inside { IsTrue (span_has query.now.span coords.now) }
         requires room { HasRoom query.now 1 self.old.groups }
         ensures ok { OnOk result (Gains query.now (record {
-            coords = coords.now;
-            metrics = metrics.now;
+          coords = coords.now;
+          metrics = metrics.now;
         } ∷ []) self.old.groups self.new.groups) }
         ensures err { OnErr result (StandsAlike query.now self.old.groups self.new.groups) }
     {
@@ -91,16 +91,16 @@ impl Partial {
         requires wide { length key.now ≡ length query.now.group }
         requires room { HasRoom query.now rows self.old.groups }
         requires some { AreSomeRows query.now key.now (record {
-            rows = rows;
-            sums = sums.now;
-            least = least.now;
-            greatest = greatest.now;
+          rows = rows;
+          sums = sums.now;
+          least = least.now;
+          greatest = greatest.now;
         }) }
         ensures ok { OnOk result (GainsGroup query.now key.now (record {
-            rows = rows;
-            sums = sums.now;
-            least = least.now;
-            greatest = greatest.now;
+          rows = rows;
+          sums = sums.now;
+          least = least.now;
+          greatest = greatest.now;
         }) self.old.groups self.new.groups) }
         ensures err { OnErr result (StandsAlike query.now self.old.groups self.new.groups) }
     {

@@ -58,12 +58,7 @@ fn two_dimensions(alloc: Global) -> Result<CubeShape, AllocError>
 }
 
 /// Encodes a name of the first dimension.
-fn encoded(
-    dicts: &mut Dicts,
-    cube: u32,
-    shape: &CubeShape,
-    name: &str,
-) -> Result<Code, AllocError>
+fn encoded(dicts: &mut Dicts, cube: u32, shape: &CubeShape, name: &str) -> Result<Code, AllocError>
     requires sound { IsSoundCube shape.now }
     requires text { IsTextDimension shape.now 0 }
 {

@@ -18,15 +18,15 @@ groups-preserved c = (
   λ rows s. c.place.ensures.same rows (c.groups.invariant.0 rows s),
   c.place.ensures.rows ∙ c.groups.invariant.1,
   let keys = c.place.new.self.keys in
-  let theirs = c.args.other.now.keys in
-  let h = c.groups.theirs in
-  let key : get_or theirs h [] ≡ c.at.result.now = get_or_from_slice_get theirs h c.at.result.now [] c.at.ensures in
-  let here : slice_get keys c.in_ok-place.place ≡ Some (get_or theirs h []) = c.in_ok-place.ensures.place ∙ ap Some (sym key) in
-  let pushed : c.push.new.self.items ≡ c.groups.places.items ++ c.in_ok-place.place ∷ [] = search rules in
-  ap (map (slice_get keys)) pushed
-  ∙ map_push (slice_get keys) c.groups.places.items c.in_ok-place.place
-  ∙ (λ i. places_stay c.groups.self.keys keys c.place.ensures.stay c.groups.places.items (take h theirs) c.groups.invariant.2 i ++ here i ∷ [])
-  ∙ sym (map_more Some theirs h [] (omega arith)),
+      let theirs = c.args.other.now.keys in
+      let h = c.groups.theirs in
+      let key : get_or theirs h [] ≡ c.at.result.now = get_or_from_slice_get theirs h c.at.result.now [] c.at.ensures in
+      let here : slice_get keys c.in_ok-place.place ≡ Some (get_or theirs h []) = c.in_ok-place.ensures.place ∙ ap Some (sym key) in
+      let pushed : c.push.new.self.items ≡ c.groups.places.items ++ c.in_ok-place.place ∷ [] = search rules in
+      ap (map (slice_get keys)) pushed
+      ∙ map_push (slice_get keys) c.groups.places.items c.in_ok-place.place
+      ∙ (λ i. places_stay c.groups.self.keys keys c.place.ensures.stay c.groups.places.items (take h theirs) c.groups.invariant.2 i ++ here i ∷ [])
+      ∙ sym (map_more Some theirs h [] (omega arith)),
 )
 
 pub returns-clause-places : goal.returns-clause-places
