@@ -1,0 +1,5 @@
+pub mod Bytes
+pub mod Courses
+pub mod Images
+pub mod Moments
+pub mod Reading

@@ -1,0 +1,16 @@
+//! Disks: what a crash may leave of a file that is written, and a disk in memory.
+#![tactic(auto)]
+
+mod disk;
+mod disk_bytes;
+mod disk_memory;
+mod events;
+mod steps;
+mod tape;
+mod whole;
+
+pub use disk::{Disk, Failed};
+pub use disk_memory::DiskMemory;
+pub use events::{DiskByte, DiskEvent};
+pub use steps::{replace_from, write_through};
+pub use whole::read_disk;
