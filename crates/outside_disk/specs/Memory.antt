@@ -23,6 +23,16 @@ pub record DiskState : Type 0 where
   pub calls : ℕ
   pub faults : ℕ
 
+-- a disk that has answered no call
+abbrev pub new_disk : List ℕ → ℕ → List ℕ → Option ℕ → DiskState
+new_disk first room failing stop = record {
+  tape = record { first = first; events = []; room = room };
+  failing = failing;
+  stop = stop;
+  calls = 0;
+  faults = 0;
+}
+
 -- what became of its bytes
 abbrev pub tape_course : TapeState → Course
 tape_course tape = course_of tape.first tape.events

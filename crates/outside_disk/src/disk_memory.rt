@@ -5,7 +5,7 @@ ghost use Rattle.outside.specs.Files.{IsPiece};
 ghost use Rattle.outside_disk.specs.Course.{write_events};
 ghost use Rattle.outside_disk.specs.Crash.{crash_image};
 ghost use Rattle.outside_disk.specs.DiskBytes.{IsImage, read_bytes};
-ghost use Rattle.outside_disk.specs.Memory.{tape_course, disk_view, IsStopped, IsFaulty, Fails, within_room, after_call, sync_events, cut_events};
+ghost use Rattle.outside_disk.specs.Memory.{tape_course, new_disk, disk_view, IsStopped, IsFaulty, Fails, within_room, after_call, sync_events, cut_events};
 ghost use Rattle.outside_disk.specs.Steps.{Goes, IsSame, Torn, AnyFrom, with_bytes};
 ghost use Rattle.outside_disk.specs.Views.{IsSynced};
 ghost use Rattle.outside_disk.specs.declared.events.DiskEvent.TheVariants.{Nothing};
@@ -53,13 +53,21 @@ impl DiskMemory {
         failing: Vec<u64>,
         stop: Option<u64>,
     ) -> Result<DiskMemory, AllocError>
-        ensures { IfOk result (λ disk. disk ≡ record {
-          tape = record { first = bytes.items; events = []; room = room };
-          failing = failing.items;
-          stop = stop;
-          calls = 0;
-          faults = 0;
-        }) }
+        ensures exact { IfOk result (λ disk. disk ≡ new_disk bytes.items room failing.items stop) }
+        ensures told { IfOk result (λ disk. (disk_view disk).told ≡ Some bytes.items) }
+        ensures synced { IfOk result (λ disk. IsSynced (disk_view disk)) }
+    {
+        DiskMemory::with_tape(alloc, bytes, room, failing, stop)
+    }
+
+    fn with_tape(
+        alloc: Global,
+        bytes: Vec<u8>,
+        room: u64,
+        failing: Vec<u64>,
+        stop: Option<u64>,
+    ) -> Result<DiskMemory, AllocError>
+        ensures { IfOk result (λ disk. disk ≡ new_disk bytes.items room failing.items stop) }
     {
         Ok(DiskMemory {
             alloc,
@@ -279,3 +287,6 @@ impl Disk for DiskMemory {
         self.settle()
     }
 }
+
+#[cfg(test)]
+mod tests;
