@@ -10,17 +10,17 @@ use Rattle.outside_disk.specs.declared.disk.Failed.{Failed}
 use Rattle.outside_disk.specs.declared.events.DiskByte.{DiskByte}
 use Rattle.outside_disk.specs.declared.events.DiskEvent.{DiskEvent}
 use Rattle.outside_disk.specs.declared.events.DiskEvent.TheVariants.{Nothing, Sync, Cut, FailedCut, Write, Byte}
-use Rattle.outside_disk.specs.Course.{Course, later, course_after, course_of, byte_events, write_events, WasImage}
+use Rattle.outside_disk.specs.Course.{Course, next_moment, course_after, course_of, byte_events, write_events, WasImage}
 use Rattle.outside_disk.specs.DiskBytes.{read_bytes, with_byte, marked_from, IsImage}
 use Rattle.outside_disk.specs.Laws.{read_is_image}
-use Rattle.outside_disk.specs.Memory.{DiskState, TapeState, tape_course, course_view, disk_view, with_events, within_room, Fails, after_call, sync_events, cut_events}
-use Rattle.outside_disk.specs.Steps.{Goes, IsSame, Torn, AnyFrom, with_bytes}
+use Rattle.outside_disk.specs.Memory.{DiskState, TapeState, tape_course, course_view, disk_view, with_events, fitting_events, Fails, after_call, sync_events, cut_events}
+use Rattle.outside_disk.specs.Effects.{Goes, IsSame, Torn, AnyFrom, with_bytes}
 use Rattle.outside_disk.specs.Views.{IsSynced}
 use Rattle.outside_disk.proofs.Images.{settled_image, read_marked, read_put, unsettled_image, cut_image, bytes_put, write_image, Torn-same, image_long}
 
--- one moment more, at which each image is an old one after the step
-pub record Moves (step : List ℕ → List ℕ → Type 0) (old new : Course) : Type 0 where
-  pub images : (c : List ℕ) → IsImage new.now c → (d : List ℕ) × IsImage old.now d × step d c
+-- one moment more, at which each image is an old one after the effect
+pub record Moves (effect : List ℕ → List ℕ → Type 0) (old new : Course) : Type 0 where
+  pub images : (c : List ℕ) → IsImage new.now c → (d : List ℕ) × IsImage old.now d × effect d c
   pub past : new.past ≡ old.now ∷ old.past
 
 -- the count after a call with this answer
@@ -31,11 +31,11 @@ faults_after (Err fault) faults = next faults
 rose_next : (n : ℕ) → Rose n (next n)
 rose_next n = grind arith
 
-module _ {T : Type 0} (step : List ℕ → List ℕ → Type 0) where
+module _ {T : Type 0} (effect : List ℕ → List ℕ → Type 0) where
   -- the course after the call, or the same where the events lacked room
-  moved : (result : Result T Failed) (old new : Course) (n m : ℕ) → Moves step old new → n ≤ m → m ≡ faults_after result n
-      → Goes step result (course_view old n) (course_view new m)
-  moved result old new n m moves count e = record {
+  Goes-moves : (result : Result T Failed) (old new : Course) (n m : ℕ) → Moves effect old new → n ≤ m → m ≡ faults_after result n
+      → Goes effect result (course_view old n) (course_view new m)
+  Goes-moves result old new n m moves count e = record {
     later = let p = ap length moves.past in omega (arith, p);
     images = moves.images;
     nothing_else = λ t c le left. ⊎_elim (λ now. inr now) (λ was. inl (subst (λ past. WasImage past t c) moves.past was).1) left;
@@ -54,9 +54,9 @@ module _ {T : Type 0} (step : List ℕ → List ℕ → Type 0) where
       quiet (Ok answer) e = e
       quiet (Err fault) e = tt
 
-  stayed : (result : Result T Failed) (old : Course) (n m : ℕ) → ((c : List ℕ) → IsImage old.now c → step c c) → n ≤ m → m ≡ faults_after result n
-      → Goes step result (course_view old n) (course_view old m)
-  stayed result old n m same count e = record {
+  Goes-stays : (result : Result T Failed) (old : Course) (n m : ℕ) → ((c : List ℕ) → IsImage old.now c → effect c c) → n ≤ m → m ≡ faults_after result n
+      → Goes effect result (course_view old n) (course_view old m)
+  Goes-stays result old n m same count e = record {
     later = omega arith;
     images = λ c im. (c, im, same c im);
     nothing_else = λ t c le left. inl left;
@@ -76,7 +76,7 @@ module _ {T : Type 0} (step : List ℕ → List ℕ → Type 0) where
       quiet (Err fault) e = tt
 
 -- events have room or lack it
-room_or_none : (room : ℕ) (events : List DiskEvent) → (within_room room events ≡ events) ⊎ ((room < length events) × (within_room room events ≡ []))
+room_or_none : (room : ℕ) (events : List DiskEvent) → (fitting_events room events ≡ events) ⊎ ((room < length events) × (fitting_events room events ≡ []))
 room_or_none room events = at (nat_le (length events) room) refl
   where
     at : (b : Bool) → nat_le (length events) room ≡ b
@@ -99,27 +99,27 @@ faults_of (Ok answer) events old = refl
 faults_of (Err fault) events old = refl
 
 pub after : {T : Type 0} (result : Result T Failed) (events : List DiskEvent) (old new : DiskState)
-    → new ≡ after_call result (within_room old.tape.room events) old → After result events old new
+    → new ≡ after_call result (fitting_events old.tape.room events) old → After result events old new
 after result events old new e = record {
   course =
-      let made = within_room old.tape.room events in
+      let made = fitting_events old.tape.room events in
       let whole : tape_course new.tape ≡ fold course_after (tape_course old.tape) made =
       ap (λ disk. tape_course disk.tape) e ∙ ap tape_course (tape_of result made old)
       ∙ fold-append course_after _ old.tape.events made in
       ⊎_elim (λ all. inl (whole ∙ ap (fold course_after (tape_course old.tape)) all))
       (λ none. inr (none.0, whole ∙ ap (fold course_after (tape_course old.tape)) none.1)) (room_or_none old.tape.room events);
-  faults = ap (λ disk. disk.faults) e ∙ faults_of result (within_room old.tape.room events) old;
+  faults = ap (λ disk. disk.faults) e ∙ faults_of result (fitting_events old.tape.room events) old;
 }
 
-pub Goes-after : {T : Type 0} (step : List ℕ → List ℕ → Type 0) (result : Result T Failed) (events : List DiskEvent) (old new : DiskState)
-    → After result events old new → old.faults ≤ new.faults → Moves step (tape_course old.tape) (fold course_after (tape_course old.tape) events)
-    → ((c : List ℕ) → IsImage (tape_course old.tape).now c → step c c) → Goes step result (disk_view old) (disk_view new)
-Goes-after step result events old new call count moves same =
+pub Goes-after : {T : Type 0} (effect : List ℕ → List ℕ → Type 0) (result : Result T Failed) (events : List DiskEvent) (old new : DiskState)
+    → After result events old new → old.faults ≤ new.faults → Moves effect (tape_course old.tape) (fold course_after (tape_course old.tape) events)
+    → ((c : List ℕ) → IsImage (tape_course old.tape).now c → effect c c) → Goes effect result (disk_view old) (disk_view new)
+Goes-after effect result events old new call count moves same =
     ⊎_elim
-    (λ e. subst (λ k. Goes step result (disk_view old) (course_view k new.faults)) (sym e)
-    (moved step result (tape_course old.tape) (fold course_after (tape_course old.tape) events) old.faults new.faults moves count call.faults))
-    (λ e. subst (λ k. Goes step result (disk_view old) (course_view k new.faults)) (sym e.1)
-    (stayed step result (tape_course old.tape) old.faults new.faults same count call.faults))
+    (λ e. subst (λ k. Goes effect result (disk_view old) (course_view k new.faults)) (sym e)
+    (Goes-moves effect result (tape_course old.tape) (fold course_after (tape_course old.tape) events) old.faults new.faults moves count call.faults))
+    (λ e. subst (λ k. Goes effect result (disk_view old) (course_view k new.faults)) (sym e.1)
+    (Goes-stays effect result (tape_course old.tape) old.faults new.faults same count call.faults))
     call.course
 
 -- what the events do
@@ -148,19 +148,19 @@ moves_write course at bytes within =
     (record { images = λ c im. write_image at bytes course.now c within im; past = refl })
 
 -- what the calls do
-pub goes_nothing : {T : Type 0} (result : Result T Failed) (old new : DiskState) → new ≡ after_call result (within_room old.tape.room (Nothing ∷ [])) old
+pub goes_nothing : {T : Type 0} (result : Result T Failed) (old new : DiskState) → new ≡ after_call result (fitting_events old.tape.room (Nothing ∷ [])) old
     → old.faults ≤ new.faults → Goes IsSame result (disk_view old) (disk_view new)
 goes_nothing result old new e count =
     Goes-after IsSame result (Nothing ∷ []) old new (after result (Nothing ∷ []) old new e) count (moves_nothing (tape_course old.tape)) (λ c im. refl)
 
 pub goes_write : (result : Result Unit Failed) (at : ℕ) (bytes : List ℕ) (old new : DiskState)
-    → new ≡ after_call result (within_room old.tape.room (write_events at bytes)) old → old.faults ≤ new.faults
+    → new ≡ after_call result (fitting_events old.tape.room (write_events at bytes)) old → old.faults ≤ new.faults
     → at ≤ length (tape_course old.tape).now → Goes (Torn at (length bytes)) result (disk_view old) (disk_view new)
 goes_write result at bytes old new e count within =
     Goes-after (Torn at (length bytes)) result (write_events at bytes) old new (after result (write_events at bytes) old new e) count
     (moves_write (tape_course old.tape) at bytes within) (λ c im. Torn-same at (length bytes) c)
 
-pub goes_sync : (result : Result Unit Failed) (old new : DiskState) → new ≡ after_call result (within_room old.tape.room (sync_events result)) old
+pub goes_sync : (result : Result Unit Failed) (old new : DiskState) → new ≡ after_call result (fitting_events old.tape.room (sync_events result)) old
     → old.faults ≤ new.faults → Goes IsSame result (disk_view old) (disk_view new)
 goes_sync (Ok done) old new e count =
     Goes-after IsSame (Ok done) (Sync ∷ []) old new (after (Ok done) (Sync ∷ []) old new e) count (moves_sync (tape_course old.tape)) (λ c im. refl)
@@ -171,7 +171,7 @@ any_same len disk c within im =
     let long = image_long disk c im in record { before = refl; no_shorter = omega (arith, long, within); no_longer = grind arith }
 
 pub goes_cut : (result : Result Unit Failed) (len : ℕ) (old new : DiskState)
-    → new ≡ after_call result (within_room old.tape.room (cut_events len result)) old → old.faults ≤ new.faults
+    → new ≡ after_call result (fitting_events old.tape.room (cut_events len result)) old → old.faults ≤ new.faults
     → len ≤ length (tape_course old.tape).now → Goes (AnyFrom len 0) result (disk_view old) (disk_view new)
 goes_cut (Ok done) len old new e count within =
     let now = (tape_course old.tape).now in
@@ -193,28 +193,28 @@ told_after : (events : List DiskEvent) (result : Result Unit Failed) (old new : 
 told_after events result old new call ok exact =
     ⊎_elim (λ e. e) (λ none. absurd (had_room old (length events) result ok exact none.0)) call.course
 
-pub told_nothing : {T : Type 0} (result : Result T Failed) (old new : DiskState) → new ≡ after_call result (within_room old.tape.room (Nothing ∷ [])) old
+pub told_nothing : {T : Type 0} (result : Result T Failed) (old new : DiskState) → new ≡ after_call result (fitting_events old.tape.room (Nothing ∷ [])) old
     → (disk_view new).told ≡ (disk_view old).told
 told_nothing result old new e =
     ⊎_elim (λ k. ap (λ k. Some (read_bytes k.now)) k) (λ none. ap (λ k. Some (read_bytes k.now)) none.1) (after result (Nothing ∷ []) old new e).course
 
-pub told_sync : (result : Result Unit Failed) (old new : DiskState) → new ≡ after_call result (within_room old.tape.room (sync_events result)) old
+pub told_sync : (result : Result Unit Failed) (old new : DiskState) → new ≡ after_call result (fitting_events old.tape.room (sync_events result)) old
     → (IsOk result ↔ (Fails old 1 → ⊥)) → OnOk result ((disk_view new).told ≡ (disk_view old).told)
 told_sync (Ok done) old new e exact =
     ap (λ k. Some (read_bytes k.now)) (told_after (Sync ∷ []) (Ok done) old new (after (Ok done) (Sync ∷ []) old new e) refl exact)
     ∙ ap Some (read_marked 0 true (tape_course old.tape).now)
 told_sync (Err fault) old new e exact = tt
 
-pub synced : (result : Result Unit Failed) (old new : DiskState) → new ≡ after_call result (within_room old.tape.room (sync_events result)) old
+pub IsSynced-after : (result : Result Unit Failed) (old new : DiskState) → new ≡ after_call result (fitting_events old.tape.room (sync_events result)) old
     → (IsOk result ↔ (Fails old 1 → ⊥)) → OnOk result (IsSynced (disk_view new))
-synced (Ok done) old new e exact =
+IsSynced-after (Ok done) old new e exact =
     let course = told_after (Sync ∷ []) (Ok done) old new (after (Ok done) (Sync ∷ []) old new e) refl exact in
     let now = (tape_course old.tape).now in
     subst (λ k. (c : List ℕ) → IsImage k.now c → c ≡ read_bytes k.now) (sym course)
     (λ c im. settled_image now c im ∙ sym (read_marked 0 true now))
-synced (Err fault) old new e exact = tt
+IsSynced-after (Err fault) old new e exact = tt
 
-pub told_cut : (result : Result Unit Failed) (len : ℕ) (old new : DiskState) → new ≡ after_call result (within_room old.tape.room (cut_events len result)) old
+pub told_cut : (result : Result Unit Failed) (len : ℕ) (old new : DiskState) → new ≡ after_call result (fitting_events old.tape.room (cut_events len result)) old
     → (IsOk result ↔ (Fails old 1 → ⊥)) → OnOk result ((disk_view new).told ≡ Some (take len (read_bytes (tape_course old.tape).now)))
 told_cut (Ok done) len old new e exact =
     ap (λ k. Some (read_bytes k.now)) (told_after (Cut len ∷ []) (Ok done) old new (after (Ok done) (Cut len ∷ []) old new e) refl exact)
@@ -226,7 +226,7 @@ length-byte_events at [] = refl
 length-byte_events at (byte ∷ bytes) = let rest = length-byte_events (at + 1) bytes in omega (arith, rest)
 
 pub told_write : (result : Result Unit Failed) (at : ℕ) (bytes : List ℕ) (old new : DiskState)
-    → new ≡ after_call result (within_room old.tape.room (write_events at bytes)) old → (IsOk result ↔ (Fails old (1 + length bytes) → ⊥))
+    → new ≡ after_call result (fitting_events old.tape.room (write_events at bytes)) old → (IsOk result ↔ (Fails old (1 + length bytes) → ⊥))
     → at ≤ length (tape_course old.tape).now
     → OnOk result ((disk_view new).told ≡ Some (with_bytes at bytes (read_bytes (tape_course old.tape).now)))
 told_write (Ok done) at bytes old new e exact within =
@@ -238,12 +238,12 @@ told_write (Ok done) at bytes old new e exact within =
 told_write (Err fault) at bytes old new e exact within = tt
 
 -- a write has room or lacks it
-pub write_fits : (room at : ℕ) (bytes : List ℕ) → length bytes < room → within_room room (write_events at bytes) ≡ write_events at bytes
+pub write_fits : (room at : ℕ) (bytes : List ℕ) → length bytes < room → fitting_events room (write_events at bytes) ≡ write_events at bytes
 write_fits room at bytes fits =
     let len = length-byte_events at bytes in
     ⊎_elim (λ all. all) (λ none. absurd (omega (arith, len, none.0, fits))) (room_or_none room (write_events at bytes))
 
-pub write_lacks : (room at : ℕ) (bytes : List ℕ) → room ≤ length bytes → within_room room (write_events at bytes) ≡ []
+pub write_lacks : (room at : ℕ) (bytes : List ℕ) → room ≤ length bytes → fitting_events room (write_events at bytes) ≡ []
 write_lacks room at bytes lacks = at_test (nat_le (length (write_events at bytes)) room) refl
   where
     at_test : (b : Bool) → nat_le (length (write_events at bytes)) room ≡ b → cond b (write_events at bytes) [] ≡ []
@@ -265,10 +265,10 @@ with_none tape =
     let room : tape.room - 0 ≡ tape.room = omega arith in
     (λ i. record { first = tape.first; events = append-nil tape.events i; room = room i })
 
-pub answered : {T : Type 0} (result : Result T Failed) (events made : List DiskEvent) (old : DiskState) (tape : TapeState)
+pub after_answer : {T : Type 0} (result : Result T Failed) (events made : List DiskEvent) (old : DiskState) (tape : TapeState)
     → tape ≡ with_events events old.tape → made ≡ events → after_call result [] (record old { tape = tape }) ≡ after_call result made old
-answered (Ok answer) events made old tape e all =
+after_answer (Ok answer) events made old tape e all =
     ap (λ t. record old { tape = t; calls = next old.calls }) (with_none tape ∙ e ∙ ap (λ es. with_events es old.tape) (sym all))
-answered (Err fault) events made old tape e all =
+after_answer (Err fault) events made old tape e all =
     ap (λ t. record old { tape = t; calls = next old.calls; faults = next old.faults })
     (with_none tape ∙ e ∙ ap (λ es. with_events es old.tape) (sym all))

@@ -7,7 +7,7 @@ use Rattle.outside_disk.specs.declared.events.DiskByte.{DiskByte}
 use Rattle.outside_disk.specs.Crash.{filled_from, crash_image}
 use Rattle.outside_disk.specs.DiskBytes.{unsettled_byte, read_bytes, with_byte, with_mark, marked_from, IsImage}
 use Rattle.outside_disk.specs.Laws.{read_is_image}
-use Rattle.outside_disk.specs.Steps.{AnyFrom, Torn, with_bytes}
+use Rattle.outside_disk.specs.Effects.{AnyFrom, Torn, with_bytes}
 
 -- an image is as long as the bytes
 pub image_long : (disk : List DiskByte) (c : List ℕ) → IsImage disk c → length c ≡ length disk

@@ -7,7 +7,7 @@ use Rattle.outside.specs.Files.{IsPiece}
 use Rattle.outside.proofs.Pieces.{take_more_piece}
 use Rattle.outside_disk.specs.declared.disk.Failed.{Failed}
 use Rattle.outside_disk.specs.Reads.{IsUntouched}
-use Rattle.outside_disk.specs.Steps.{Goes, IsSame}
+use Rattle.outside_disk.specs.Effects.{Goes, IsSame}
 use Rattle.outside_disk.specs.Views.{View, LeavesOnly}
 use Rattle.outside_disk.proofs.Moments.{LeavesOnly-more}
 

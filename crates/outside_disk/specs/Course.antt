@@ -12,16 +12,16 @@ pub record Course : Type 0 where
   pub past : List (List DiskByte)
 
 -- the bytes at one moment more
-abbrev pub later : List DiskByte → Course → Course
-later disk course = record { now = disk; past = course.now ∷ course.past }
+abbrev pub next_moment : List DiskByte → Course → Course
+next_moment disk course = record { now = disk; past = course.now ∷ course.past }
 
 -- the course after an event; the bytes of a write are put at the moment at which it began
 abbrev pub course_after : Course → DiskEvent → Course
-course_after course Nothing = later course.now course
-course_after course Sync = later (marked_from 0 true course.now) course
-course_after course (Cut len) = later (take len course.now) course
-course_after course (FailedCut len) = later (marked_from len false course.now) course
-course_after course Write = later course.now course
+course_after course Nothing = next_moment course.now course
+course_after course Sync = next_moment (marked_from 0 true course.now) course
+course_after course (Cut len) = next_moment (take len course.now) course
+course_after course (FailedCut len) = next_moment (marked_from len false course.now) course
+course_after course Write = next_moment course.now course
 course_after course (Byte at byte) = record course { now = with_byte at byte course.now }
 
 -- the course of a disk that had these bytes first, all of them settled

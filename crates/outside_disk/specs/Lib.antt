@@ -4,5 +4,5 @@ pub mod DiskBytes
 pub mod Laws
 pub mod Memory
 pub mod Reads
-pub mod Steps
+pub mod Effects
 pub mod Views

@@ -15,7 +15,7 @@ pub record TapeState : Type 0 where
   pub room : ℕ
 
 -- the tape, the numbers of the calls that fail and of the first of those that all fail, how many calls it
--- has answered, and how many of them failed
+-- has after_answer, and how many of them failed
 pub record DiskState : Type 0 where
   pub tape : TapeState
   pub failing : List ℕ
@@ -56,8 +56,8 @@ abbrev pub with_events : List DiskEvent → TapeState → TapeState
 with_events events tape = record tape { events = tape.events ++ events; room = tape.room - length events }
 
 -- the events of a call, none of them where they lack room
-abbrev pub within_room : ℕ → List DiskEvent → List DiskEvent
-within_room room events = if nat_le (length events) room then events else []
+abbrev pub fitting_events : ℕ → List DiskEvent → List DiskEvent
+fitting_events room events = if nat_le (length events) room then events else []
 
 -- calls from this number on fail
 abbrev pub IsStopped : Option ℕ → ℕ → Type 0

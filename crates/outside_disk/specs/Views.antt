@@ -24,4 +24,4 @@ pub record LeavesOnly (old new : View) (P : List ℕ → Type 0) : Type 0 where
 
 -- a crash at any moment between leaves what stands in this relation to what the old disk reads as
 abbrev pub AnyMoment : (List ℕ → List ℕ → Type 0) → View → View → Type 0
-AnyMoment step old new = IfSome old.told (λ f. LeavesOnly old new (step f))
+AnyMoment effect old new = IfSome old.told (λ f. LeavesOnly old new (effect f))

@@ -3,7 +3,7 @@
 ghost use Rattle.std.specs.Prelude.{◌≡◌, ℕ, ◌≤◌, List, length, take, Some, OnOk, IfOk, IfSome};
 ghost use Rattle.outside.specs.Files.{IsPiece};
 ghost use Rattle.outside_disk.specs.Views.{View, IsSynced};
-ghost use Rattle.outside_disk.specs.Steps.{Goes, IsSame, Torn, AnyFrom, with_bytes};
+ghost use Rattle.outside_disk.specs.Effects.{Goes, IsSame, Torn, AnyFrom, with_bytes};
 
 /// A disk call failed, and the disk counted a fault.
 #[derive(Debug, Drop, Clone, Copy, PartialEq, Eq)]

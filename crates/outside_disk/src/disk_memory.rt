@@ -5,8 +5,8 @@ ghost use Rattle.outside.specs.Files.{IsPiece};
 ghost use Rattle.outside_disk.specs.Course.{write_events};
 ghost use Rattle.outside_disk.specs.Crash.{crash_image};
 ghost use Rattle.outside_disk.specs.DiskBytes.{IsImage, read_bytes};
-ghost use Rattle.outside_disk.specs.Memory.{tape_course, new_disk, disk_view, IsStopped, IsFaulty, Fails, within_room, after_call, sync_events, cut_events};
-ghost use Rattle.outside_disk.specs.Steps.{Goes, IsSame, Torn, AnyFrom, with_bytes};
+ghost use Rattle.outside_disk.specs.Memory.{tape_course, new_disk, disk_view, IsStopped, IsFaulty, Fails, fitting_events, after_call, sync_events, cut_events};
+ghost use Rattle.outside_disk.specs.Effects.{Goes, IsSame, Torn, AnyFrom, with_bytes};
 ghost use Rattle.outside_disk.specs.Views.{IsSynced};
 ghost use Rattle.outside_disk.specs.declared.events.DiskEvent.TheVariants.{Nothing};
 
@@ -133,7 +133,7 @@ impl DiskMemory {
         ensures later { self.old.faults ≤ self.new.faults }
         ensures exact { IsOk result ↔ (Fails self.old 1 → ⊥) }
         ensures after { self.new ≡
-            after_call result (within_room self.old.tape.room (Nothing ∷ [])) self.old }
+            after_call result (fitting_events self.old.tape.room (Nothing ∷ [])) self.old }
     {
         if self.tape.room() == 0 {
             return self.fail();
@@ -148,7 +148,7 @@ impl DiskMemory {
         ensures later { self.old.faults ≤ self.new.faults }
         ensures exact { IsOk result ↔ (Fails self.old (1 + length bytes.now) → ⊥) }
         ensures after { self.new ≡
-            after_call result (within_room self.old.tape.room (write_events at bytes.now)) self.old }
+            after_call result (fitting_events self.old.tape.room (write_events at bytes.now)) self.old }
     {
         if self.tape.room() <= bytes.len() {
             return self.fail();
@@ -162,7 +162,7 @@ impl DiskMemory {
         ensures later { self.old.faults ≤ self.new.faults }
         ensures exact { IsOk result ↔ (Fails self.old 1 → ⊥) }
         ensures after { self.new ≡
-            after_call result (within_room self.old.tape.room (cut_events len result)) self.old }
+            after_call result (fitting_events self.old.tape.room (cut_events len result)) self.old }
     {
         if self.tape.room() == 0 {
             return self.fail();
@@ -179,7 +179,7 @@ impl DiskMemory {
         ensures later { self.old.faults ≤ self.new.faults }
         ensures exact { IsOk result ↔ (Fails self.old 1 → ⊥) }
         ensures after { self.new ≡
-            after_call result (within_room self.old.tape.room (sync_events result)) self.old }
+            after_call result (fitting_events self.old.tape.room (sync_events result)) self.old }
     {
         if self.tape.room() == 0 {
             return self.fail();
@@ -215,7 +215,7 @@ impl Disk for DiskMemory {
 
         ensures exact { IsOk result ↔ (Fails self.old 1 → ⊥) }
         ensures after { self.new ≡
-            after_call result (within_room self.old.tape.room (Nothing ∷ [])) self.old }
+            after_call result (fitting_events self.old.tape.room (Nothing ∷ [])) self.old }
     {
         self.note()
     }
@@ -257,7 +257,7 @@ impl Disk for DiskMemory {
 
         ensures exact { IsOk result ↔ (Fails self.old (1 + length bytes.now) → ⊥) }
         ensures after { self.new ≡
-            after_call result (within_room self.old.tape.room (write_events at bytes.now)) self.old }
+            after_call result (fitting_events self.old.tape.room (write_events at bytes.now)) self.old }
     {
         self.write(at, bytes)
     }
@@ -270,7 +270,7 @@ impl Disk for DiskMemory {
 
         ensures exact { IsOk result ↔ (Fails self.old 1 → ⊥) }
         ensures after { self.new ≡
-            after_call result (within_room self.old.tape.room (cut_events len result)) self.old }
+            after_call result (fitting_events self.old.tape.room (cut_events len result)) self.old }
     {
         self.cut_to(len)
     }
@@ -282,7 +282,7 @@ impl Disk for DiskMemory {
 
         ensures exact { IsOk result ↔ (Fails self.old 1 → ⊥) }
         ensures after { self.new ≡
-            after_call result (within_room self.old.tape.room (sync_events result)) self.old }
+            after_call result (fitting_events self.old.tape.room (sync_events result)) self.old }
     {
         self.settle()
     }

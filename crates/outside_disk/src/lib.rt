@@ -7,7 +7,7 @@ mod disk_bytes;
 mod disk_memory;
 mod events;
 mod gate;
-mod steps;
+mod synced_writes;
 mod tape;
 mod whole;
 
@@ -15,5 +15,5 @@ pub use disk::{Disk, Failed};
 pub use disk_memory::DiskMemory;
 pub use events::{DiskByte, DiskEvent};
 pub use gate::{Gate, NoGate};
-pub use steps::{replace_from, write_through};
+pub use synced_writes::{replace_from, write_through};
 pub use whole::read_disk;

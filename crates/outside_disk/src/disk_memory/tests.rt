@@ -7,7 +7,7 @@ ghost use Rattle.outside_disk.specs.Views.{IsSynced};
 use super::DiskMemory;
 use crate::disk::{Disk, Failed};
 use crate::gate::{Gate, NoGate};
-use crate::steps::{replace_from, write_through};
+use crate::synced_writes::{replace_from, write_through};
 use crate::whole::read_disk;
 use std::alloc::{AllocError, Global};
 use std::test::Fail;
@@ -156,7 +156,7 @@ impl PlainDisk {
         piece
     }
 
-    fn step(&mut self, failing: Failing, call: Call) -> Result<(), AllocError> {
+    fn take_call(&mut self, failing: Failing, call: Call) -> Result<(), AllocError> {
         self.last = (false, [0; 4]);
         if !self.succeeds(failing, 0) {
             return Ok(());
@@ -238,7 +238,7 @@ fn after_calls(alloc: Global, failing: Failing, calls: &[Call]) -> Result<PlainD
         last: (false, [0; 4]),
     };
     for call in calls {
-        plain.step(failing, *call)?;
+        plain.take_call(failing, *call)?;
     }
     Ok(plain)
 }

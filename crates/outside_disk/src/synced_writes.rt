@@ -3,7 +3,7 @@
 ghost use Rattle.std.specs.Prelude.{◌≡◌, ◌≤◌, length, take, ◌++◌, Some, OnOk, OnErr, IfSome};
 ghost use Rattle.outside.specs.Counts.{Rose};
 ghost use Rattle.outside_disk.specs.Views.{IsSynced, AnyMoment};
-ghost use Rattle.outside_disk.specs.Steps.{Torn, AnyFrom, with_bytes};
+ghost use Rattle.outside_disk.specs.Effects.{Torn, AnyFrom, with_bytes};
 
 use crate::disk::{Disk, Failed};
 
