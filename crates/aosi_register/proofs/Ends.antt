@@ -46,7 +46,8 @@ module _ (laws : Laws) (k : Contents) (sessions safe : ℕ) (fits : FitsJournal 
       let r = reader_of k.holds k.snapshots k.pending fits.holds n t is in
       record {
         legal = laws.legal safe k.journal e fits.legal
-            (subst (λ x. IsSomeAnd x (λ h. h.own ≡ false)) (sym (ap (λ xs. held_by xs n) (sym fits.state.snapshots) ∙ r.held)) r.own);
+            (subst (λ x. IsSomeAnd x (λ h. h.own ≡ false))
+            (sym (ap (λ xs. held_by xs n) (sym fits.state.snapshots) ∙ r.held)) r.own);
         state = subst (ShowsState _) (sym (laws.state safe k.journal e)) (record {
           ec = fits.state.ec;
           lse = fits.state.lse;
@@ -116,7 +117,8 @@ module _ (laws : Laws) (k : Contents) (sessions safe : ℕ) (fits : FitsJournal 
             round = fits.state.round;
             store_failed = fits.state.store_failed;
             snapshots =
-                open_taken k.holds n t has k.snapshots writer.o fits.holds.held fits.snapshot_tickets writer.found writer.session
+                open_taken k.holds n t has k.snapshots writer.o fits.holds.held fits.snapshot_tickets writer.found
+                writer.session
                 ∙ ap (snapshots_without n) fits.state.snapshots;
             pending =
                 pending_taken 0 k.ec k.pending p epoch fits.rise found
@@ -129,7 +131,8 @@ module _ (laws : Laws) (k : Contents) (sessions safe : ℕ) (fits : FitsJournal 
             ec = omega (arith, fits.sizes.ec, length-added k.journal e);
           };
           holds =
-              HoldsFit-ended k.holds k.snapshots k.pending (members_without p k.pending) fits.holds fits.snapshot_tickets n within t has
+              HoldsFit-ended k.holds k.snapshots k.pending (members_without p k.pending) fits.holds
+              fits.snapshot_tickets n within t has
               (λ a w other holds_w. item_by_ticket-before_taken k.pending p w
               (λ same. other (fits.holds.own a n w holds_w (ap pending_ticket is ∙ ap Some (sym same)))));
           writers =
@@ -165,7 +168,8 @@ module _ (laws : Laws) (k : Contents) (sessions safe : ℕ) (fits : FitsJournal 
     allowed : CountersAllow safe k.journal e
     after : state_after s e ≡ record s { lse = lse; round = round; store_failed = store_failed }
 
-  fits_round : (e : JournalEntry) (lse : ℕ) (round : Option ℕ) (store_failed : Bool) → IsOfRound e lse round store_failed
+  fits_round : (e : JournalEntry) (lse : ℕ) (round : Option ℕ) (store_failed : Bool)
+      → IsOfRound e lse round store_failed
       → FitsJournal (record k {
         lse = lse;
         round = round;
@@ -202,7 +206,12 @@ module _ (laws : Laws) (k : Contents) (sessions safe : ℕ) (fits : FitsJournal 
   fits_opened epoch ask is more =
       fits_round (entry.Round epoch) k.lse (Some epoch) k.store_failed (record {
         allowed = record { ask = ask; target = is; more = more };
-        after = λ i. record s { lse = sym fits.state.lse i; round = Some epoch; store_failed = sym fits.state.store_failed i };
+        after = λ i. record s {
+          lse = sym fits.state.lse i;
+          round = Some epoch;
+          store_failed = sym
+              fits.state.store_failed i;
+        };
       })
 
   -- There was nothing to keep.
@@ -220,7 +229,8 @@ module _ (laws : Laws) (k : Contents) (sessions safe : ℕ) (fits : FitsJournal 
 
   -- The round is closed.
   pub fits_closed : (epoch : ℕ) (end : RoundEnd) → s.round ≡ Some epoch
-      → FitsJournal (record (without_round k epoch end) { journal = k.journal ++ end_entry epoch end ∷ [] }) sessions safe
+      → FitsJournal (record (without_round k epoch end) { journal = k.journal ++ end_entry epoch end ∷ [] })
+      sessions safe
   fits_closed epoch Safe is =
       fits_round (entry.Safe epoch) epoch None k.store_failed (record {
         allowed = is;
@@ -234,5 +244,10 @@ module _ (laws : Laws) (k : Contents) (sessions safe : ℕ) (fits : FitsJournal 
   fits_closed epoch (Lost Memory) is =
       fits_round (entry.RoundLost epoch Memory) k.lse None k.store_failed (record {
         allowed = is;
-        after = λ i. record s { lse = sym fits.state.lse i; round = None; store_failed = sym fits.state.store_failed i };
+        after = λ i. record s {
+          lse = sym fits.state.lse i;
+          round = None;
+          store_failed = sym fits.state.store_failed
+              i;
+        };
       })

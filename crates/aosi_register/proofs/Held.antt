@@ -56,7 +56,8 @@ none_held holds (m ∷ snapshots) n held free =
 
 -- A session with a ticket holds the snapshot that it finds.
 pub some_held : (holds : List Hold) (snapshots : List (Member OpenSnapshot)) (n : ℕ) (t : Ticket) (o : OpenSnapshot)
-    → AreHeld holds snapshots → snapshot_ticket (hold_of holds n) ≡ Some t → item_by_ticket snapshots t ≡ Some o → o.session ≡ n
+    → AreHeld holds snapshots → snapshot_ticket (hold_of holds n) ≡ Some t → item_by_ticket snapshots t ≡ Some o
+    → o.session ≡ n
     → held_by (items snapshots) n ≡ Some o.snapshot
 some_held holds [] n t o held has found session = absurd (cc)
 some_held holds (m ∷ snapshots) n t o held has found session = elim (ticket_cases m.ticket t) [
@@ -93,7 +94,8 @@ held_added holds (m ∷ snapshots) h t o held free within has =
     some_none t same = cc
 
 module _ (holds : List Hold) (n : ℕ) (t : Ticket) (has : snapshot_ticket (hold_of holds n) ≡ Some t) where
-  other_session : (m : Member OpenSnapshot) → snapshot_ticket (hold_of holds m.item.session) ≡ Some m.ticket → m.ticket ≢ t
+  other_session : (m : Member OpenSnapshot) → snapshot_ticket (hold_of holds m.item.session) ≡ Some m.ticket
+      → m.ticket ≢ t
       → m.item.session ≢ n
   other_session m held apart same = apart (some_same m.ticket t
       (sym held ∙ ap (λ s. snapshot_ticket (hold_of holds s)) same ∙ has))
@@ -134,7 +136,8 @@ module _ (holds : List Hold) (n : ℕ) (t : Ticket) (has : snapshot_ticket (hold
         )
   ]
 
-  pub open_taken : (snapshots : List (Member OpenSnapshot)) (o : OpenSnapshot) → AreHeld holds snapshots → TicketsDiffer snapshots
+  pub open_taken : (snapshots : List (Member OpenSnapshot)) (o : OpenSnapshot) → AreHeld holds snapshots
+      → TicketsDiffer snapshots
       → item_by_ticket snapshots t ≡ Some o → o.session ≡ n
       → items (members_without t snapshots) ≡ snapshots_without n (items snapshots)
   open_taken [] o held differ found session = refl
@@ -202,6 +205,7 @@ fits_still snapshots later pending next n Free finds finds_pending fits = tt
 fits_still snapshots later pending next n (Reader t) finds finds_pending fits =
     subst (λ x. IsSomeAnd x (IsOpenOf n false)) (sym (finds t refl)) fits
 fits_still snapshots later pending next n (Writer t w) finds finds_pending fits =
-    subst (λ x. IsSomeAnd x (λ o. IsOpenOf n true o × (item_by_ticket next w ≡ Some o.snapshot.epoch))) (sym (finds t refl))
+    subst (λ x. IsSomeAnd x (λ o. IsOpenOf n true o × (item_by_ticket next w ≡ Some o.snapshot.epoch)))
+    (sym (finds t refl))
     (subst (λ y. IsSomeAnd (item_by_ticket snapshots t) (λ o. IsOpenOf n true o × (y ≡ Some o.snapshot.epoch)))
     (sym (finds_pending w refl)) fits)

@@ -39,7 +39,8 @@ module _ (holds : List Hold) (snapshots : List (Member OpenSnapshot)) (pending :
       let there = open_found snapshots pending n (hold_of holds n) u (fit.fit n) has in
       item_by_ticket-before_added snapshots (member t o) u (fresh_differs snapshots t u there.0 fresh there.1)
 
-  pub HoldsFit-read : o.snapshot.own ≡ false → HoldsFit (set holds o.session (Reader t)) (snapshots ++ member t o ∷ []) pending
+  pub HoldsFit-read : o.snapshot.own ≡ false → HoldsFit (set holds o.session (Reader t))
+      (snapshots ++ member t o ∷ []) pending
   unfolding more
   HoldsFit-read own = record {
     held = held_added holds snapshots (Reader t) t o fit.held (ap snapshot_ticket free) within refl;
@@ -75,7 +76,8 @@ module _ (holds : List Hold) (snapshots : List (Member OpenSnapshot)) (pending :
 
     later_same : (a : ℕ) → a ≡ o.session → hold_of later a ≡ Writer t p
     unfolding later
-    later_same a same = ap (hold_of (set holds o.session (Writer t p))) same ∙ hold-same holds o.session (Writer t p) within
+    later_same a same = ap (hold_of (set holds o.session (Writer t p))) same
+        ∙ hold-same holds o.session (Writer t p) within
 
     later_other : (a : ℕ) → a ≢ o.session → hold_of later a ≡ hold_of holds a
     unfolding later
@@ -95,7 +97,8 @@ module _ (holds : List Hold) (snapshots : List (Member OpenSnapshot)) (pending :
         let there = pending_found snapshots pending a (hold_of holds a) p (fit.fit a) has in
         fresh_differs pending p p there.0 fresh_pending there.1 refl
 
-    owned : (a b : ℕ) (w : Ticket) → pending_ticket (hold_of later a) ≡ Some w → pending_ticket (hold_of later b) ≡ Some w
+    owned : (a b : ℕ) (w : Ticket) → pending_ticket (hold_of later a) ≡ Some w
+        → pending_ticket (hold_of later b) ≡ Some w
         → (a ≡ o.session) ⊎ (a ≢ o.session) → (b ≡ o.session) ⊎ (b ≢ o.session) → a ≡ b
     owned a b w has has_too (inl first) (inl second) = first ∙ sym second
     owned a b w has has_too (inl first) (inr second) =
@@ -105,10 +108,12 @@ module _ (holds : List Hold) (snapshots : List (Member OpenSnapshot)) (pending :
         let is : Some p ≡ Some w = sym (ap pending_ticket (later_same b second)) ∙ has_too in
         absurd (was_not a (sym (ap pending_ticket (later_other a first)) ∙ has ∙ sym is))
     owned a b w has has_too (inr first) (inr second) =
-        fit.own a b w (sym (ap pending_ticket (later_other a first)) ∙ has) (sym (ap pending_ticket (later_other b second)) ∙ has_too)
+        fit.own a b w (sym (ap pending_ticket (later_other a first)) ∙ has)
+        (sym (ap pending_ticket (later_other b second)) ∙ has_too)
 
     pub HoldsFit-begun : o.snapshot.own ≡ true
-        → HoldsFit (set holds o.session (Writer t p)) (snapshots ++ member t o ∷ []) (pending ++ member p o.snapshot.epoch ∷ [])
+        → HoldsFit (set holds o.session (Writer t p)) (snapshots ++ member t o ∷ [])
+        (pending ++ member p o.snapshot.epoch ∷ [])
     unfolding more next later
     HoldsFit-begun own = record {
       held = held_added holds snapshots (Writer t p) t o fit.held (ap snapshot_ticket free) within refl;
@@ -126,9 +131,11 @@ module _ (holds : List Hold) (snapshots : List (Member OpenSnapshot)) (pending :
 
 -- The session's snapshot ends, and its pending epoch if it has one.
 module _ (holds : List Hold) (snapshots : List (Member OpenSnapshot)) (pending next : List (Member ℕ))
-    (fit : HoldsFit holds snapshots pending) (differ : TicketsDiffer snapshots) (n : ℕ) (within : n < length holds) (t : Ticket)
+    (fit : HoldsFit holds snapshots pending) (differ : TicketsDiffer snapshots) (n : ℕ) (within : n < length holds)
+    (t : Ticket)
     (has : snapshot_ticket (hold_of holds n) ≡ Some t)
-    (kept : (a : ℕ) (w : Ticket) → a ≢ n → pending_ticket (hold_of holds a) ≡ Some w → item_by_ticket next w ≡ item_by_ticket pending w) where
+    (kept : (a : ℕ) (w : Ticket) → a ≢ n → pending_ticket (hold_of holds a) ≡ Some w
+    → item_by_ticket next w ≡ item_by_ticket pending w) where
   finds : (a : ℕ) (u : Ticket) → a ≢ n → snapshot_ticket (hold_of holds a) ≡ Some u
       → item_by_ticket (members_without t snapshots) u ≡ item_by_ticket snapshots u
   finds a u other holds_u =

@@ -67,7 +67,8 @@ module _ (laws : Laws) (k : Contents) (sessions safe : ℕ) (fits : FitsJournal 
       }
     where
       same : (t : JournalState) → t.ec ≡ s.ec → t.lse ≡ s.lse → t.round ≡ s.round → t.store_failed ≡ s.store_failed
-          → t.snapshots ≡ s.snapshots → t.pending ≡ s.pending → (j : List JournalEntry) → ShowsState (with_journal k j) t
+          → t.snapshots ≡ s.snapshots → t.pending ≡ s.pending → (j : List JournalEntry)
+          → ShowsState (with_journal k j) t
       same t ec lse round store_failed snapshots pending j = record {
         ec = fits.state.ec ∙ sym ec;
         lse = fits.state.lse ∙ sym lse;
@@ -91,14 +92,15 @@ module _ (laws : Laws) (k : Contents) (sessions safe : ℕ) (fits : FitsJournal 
       let e = entry.Cube n statement k.ec in
       record {
         legal = laws.legal safe k.journal e fits.legal (record { next = fits.state.ec; free = free });
-        state = subst (ShowsState (record k { ec = k.ec + 1; journal = k.journal ++ e ∷ [] })) (sym (laws.state safe k.journal e)) (record {
-          ec = ap (λ x. x + 1) fits.state.ec;
-          lse = fits.state.lse;
-          round = fits.state.round;
-          store_failed = fits.state.store_failed;
-          snapshots = fits.state.snapshots;
-          pending = fits.state.pending;
-        });
+        state = subst (ShowsState (record k { ec = k.ec + 1; journal = k.journal ++ e ∷ [] }))
+            (sym (laws.state safe k.journal e)) (record {
+              ec = ap (λ x. x + 1) fits.state.ec;
+              lse = fits.state.lse;
+              round = fits.state.round;
+              store_failed = fits.state.store_failed;
+              snapshots = fits.state.snapshots;
+              pending = fits.state.pending;
+            });
         sizes = record {
           holds = fits.sizes.holds;
           few = fits.sizes.few;
@@ -112,7 +114,8 @@ module _ (laws : Laws) (k : Contents) (sessions safe : ℕ) (fits : FitsJournal 
         pending_tickets = fits.pending_tickets;
       }
 
-  module _ (n statement : ℕ) (free : held_by s.snapshots n ≡ None) (t : Ticket) (fresh : item_by_ticket k.snapshots t ≡ None) where
+  module _ (n statement : ℕ) (free : held_by s.snapshots n ≡ None) (t : Ticket)
+      (fresh : item_by_ticket k.snapshots t ≡ None) where
     free_place : hold_of k.holds n ≡ Free
     free_place =
         free_hold k.holds k.snapshots k.pending fits.holds n (ap (λ xs. held_by xs n) fits.state.snapshots ∙ free)
@@ -126,7 +129,8 @@ module _ (laws : Laws) (k : Contents) (sessions safe : ℕ) (fits : FitsJournal 
     -- A reader is opened.
     pub fits_read : n < 49
         → FitsJournal (record k {
-          snapshots = k.snapshots ++ member t (record { session = n; bound = lce s; snapshot = reader_snapshot s }) ∷ [];
+          snapshots = k.snapshots ++ member t
+              (record { session = n; bound = lce s; snapshot = reader_snapshot s }) ∷ [];
           holds = set k.holds n (Reader t);
           journal = k.journal ++ entry.Read n statement (lce s) ∷ [];
         }) sessions safe
@@ -141,7 +145,8 @@ module _ (laws : Laws) (k : Contents) (sessions safe : ℕ) (fits : FitsJournal 
             round = fits.state.round;
             store_failed = fits.state.store_failed;
             snapshots =
-                items-added k.snapshots (member t opened_reader) ∙ ap (λ xs. xs ++ opened_reader ∷ []) fits.state.snapshots;
+                items-added k.snapshots (member t opened_reader)
+                ∙ ap (λ xs. xs ++ opened_reader ∷ []) fits.state.snapshots;
             pending = fits.state.pending;
           });
           sizes = record {
@@ -164,7 +169,8 @@ module _ (laws : Laws) (k : Contents) (sessions safe : ℕ) (fits : FitsJournal 
     pub fits_begun : 1 ≤ n → n ≤ sessions → (p : Ticket) → item_by_ticket k.pending p ≡ None
         → FitsJournal (record k {
           ec = k.ec + 1;
-          snapshots = k.snapshots ++ member t (record { session = n; bound = lce s; snapshot = writer_snapshot s }) ∷ [];
+          snapshots = k.snapshots ++ member t
+              (record { session = n; bound = lce s; snapshot = writer_snapshot s }) ∷ [];
           pending = k.pending ++ member p k.ec ∷ [];
           holds = set k.holds n (Writer t p);
           journal = k.journal ++ entry.Begin n statement s.ec s.pending ∷ [];
@@ -180,7 +186,8 @@ module _ (laws : Laws) (k : Contents) (sessions safe : ℕ) (fits : FitsJournal 
             round = fits.state.round;
             store_failed = fits.state.store_failed;
             snapshots =
-                items-added k.snapshots (member t opened_writer) ∙ ap (λ xs. xs ++ opened_writer ∷ []) fits.state.snapshots;
+                items-added k.snapshots (member t opened_writer)
+                ∙ ap (λ xs. xs ++ opened_writer ∷ []) fits.state.snapshots;
             pending =
                 items-added k.pending (member p k.ec) ∙ ap (λ xs. xs ++ k.ec ∷ []) fits.state.pending
                 ∙ ap (λ x. s.pending ++ x ∷ []) fits.state.ec;
@@ -192,11 +199,14 @@ module _ (laws : Laws) (k : Contents) (sessions safe : ℕ) (fits : FitsJournal 
             ec = ec_room 1 (omega arith) e;
           };
           holds =
-              subst (λ x. HoldsFit (set k.holds n (Writer t p)) (k.snapshots ++ member t opened_writer ∷ []) (k.pending ++ member p x ∷ []))
+              subst (λ x. HoldsFit (set k.holds n (Writer t p)) (k.snapshots ++ member t opened_writer ∷ [])
+              (k.pending ++ member p x ∷ []))
               (sym fits.state.ec)
-              (HoldsFit-begun k.holds k.snapshots k.pending fits.holds opened_writer t fresh free_place place p fresh_pending refl);
+              (HoldsFit-begun k.holds k.snapshots k.pending fits.holds opened_writer t fresh free_place place p
+              fresh_pending refl);
           writers =
-              subst (λ x. WritersCount (set k.holds n (Writer t p)) sessions x) (sym (length-added k.pending (member p k.ec)))
+              subst (λ x. WritersCount (set k.holds n (Writer t p)) sessions x)
+              (sym (length-added k.pending (member p k.ec)))
               (WritersCount-more k.holds sessions (length k.pending) n t p place low high was_free fits.writers);
           rise =
               subst (λ xs. Rise 0 xs (k.ec + 1)) (sym (items-added k.pending (member p k.ec)))

@@ -33,7 +33,8 @@ fold-stays : (low : ℕ) (es : List ℕ) (high : ℕ) → Rise low es high → f
 fold-stays low [] high rise = refl
 fold-stays low (e ∷ es) high rise =
     let least : min low e ≡ low = let first = rise.0 in omega arith in
-    ap (λ m. fold min m es) least ∙ fold-stays low es high (Rise-lower e low high es (let first = rise.0 in omega arith) rise.1)
+    ap (λ m. fold min m es) least ∙ fold-stays low es high
+    (Rise-lower e low high es (let first = rise.0 in omega arith) rise.1)
 
 pub fold-rise : (low high e : ℕ) (es : List ℕ) → Rise low (e ∷ es) high → fold min high (e ∷ es) ≡ e
 fold-rise low high e es rise =
@@ -117,7 +118,8 @@ one_weight true is = refl
 one_weight false is = absurd (cc)
 
 -- Where only the first places have writers, there are no more than these places.
-count-few : (holds : List Hold) (k : ℕ) → ((i : ℕ) → k ≤ i → is_writer (hold_of holds i) ≡ false) → count_by is_writer holds ≤ k
+count-few : (holds : List Hold) (k : ℕ) → ((i : ℕ) → k ≤ i → is_writer (hold_of holds i) ≡ false)
+    → count_by is_writer holds ≤ k
 count-few [] k none = omega arith
 count-few (h ∷ holds) zero none =
     let first : is_writer h ≡ false = none 0 (omega arith) in
@@ -135,7 +137,8 @@ count-few (h ∷ holds) (suc k) none =
     weight_most true = omega arith
     weight_most false = omega arith
 
-pub WritersCount-most : (holds : List Hold) (sessions pending : ℕ) → WritersCount holds sessions pending → pending ≤ sessions
+pub WritersCount-most : (holds : List Hold) (sessions pending : ℕ) → WritersCount holds sessions pending
+    → pending ≤ sessions
 WritersCount-most [] sessions pending writers = let none = writers.count in omega arith
 WritersCount-most (h ∷ holds) sessions pending writers =
     let weight = no_weight (is_writer h) writers.first in
@@ -146,13 +149,16 @@ WritersCount-most (h ∷ holds) sessions pending writers =
 
 -- One place is changed.
 count-set : (holds : List Hold) (n : ℕ) (h : Hold) → n < length holds
-    → count_by is_writer (set holds n h) + cond (is_writer (hold_of holds n)) 1 0 ≡ count_by is_writer holds + cond (is_writer h) 1 0
+    → count_by is_writer (set holds n h) + cond (is_writer (hold_of holds n)) 1 0 ≡ count_by is_writer holds + cond
+    (is_writer h) 1 0
 count-set holds n h within = sum_by-set (λ x. cond (is_writer x) 1 0) holds n h Free within
 
-few-set : (holds : List Hold) (n k : ℕ) (h : Hold) → n < length holds → ((i : ℕ) → k < i → is_writer (hold_of holds i) ≡ false)
+few-set : (holds : List Hold) (n k : ℕ) (h : Hold) → n < length holds
+    → ((i : ℕ) → k < i → is_writer (hold_of holds i) ≡ false)
     → (k < n → is_writer h ≡ false) → (i : ℕ) → k < i → is_writer (hold_of (set holds n h) i) ≡ false
 few-set holds n k h within few new i above = elim (cases_eq i n) [
-  | inl same ↦ ap is_writer (ap (hold_of (set holds n h)) same ∙ hold-same holds n h within) ∙ new (subst (λ x. k < x) same above)
+  | inl same ↦ ap is_writer (ap (hold_of (set holds n h)) same ∙ hold-same holds n h within)
+      ∙ new (subst (λ x. k < x) same above)
   | inr other ↦ ap is_writer (hold-other holds n i h other) ∙ few i above
 ]
 
@@ -164,7 +170,8 @@ first-set holds n h within first new = elim (cases_eq 0 n) [
 ]
 
 -- A session begins to write.
-pub WritersCount-more : (holds : List Hold) (sessions pending n : ℕ) (t p : Ticket) → n < length holds → 1 ≤ n → n ≤ sessions
+pub WritersCount-more : (holds : List Hold) (sessions pending n : ℕ) (t p : Ticket) → n < length holds → 1 ≤ n
+    → n ≤ sessions
     → is_writer (hold_of holds n) ≡ false → WritersCount holds sessions pending
     → WritersCount (set holds n (Writer t p)) sessions (pending + 1)
 WritersCount-more holds sessions pending n t p within low high was writers = record {
@@ -178,7 +185,8 @@ WritersCount-more holds sessions pending n t p within low high was writers = rec
 }
 
 -- A session that writes ends.
-pub WritersCount-fewer : (holds : List Hold) (sessions pending n : ℕ) → n < length holds → is_writer (hold_of holds n) ≡ true
+pub WritersCount-fewer : (holds : List Hold) (sessions pending n : ℕ) → n < length holds
+    → is_writer (hold_of holds n) ≡ true
     → WritersCount holds sessions (pending + 1) → WritersCount (set holds n Free) sessions pending
 WritersCount-fewer holds sessions pending n within was writers = record {
   few = few-set holds n sessions Free within writers.few (λ above. refl);

@@ -49,7 +49,8 @@ writers_of_none m sessions = record {
 }
 
 -- The fields of an empty journal agree with it.
-pub fits_opening : (sessions safe : ℕ) → sessions ≤ 16 → safe ≤ 2 ^ 61 → FitsJournal (opening_contents safe) sessions safe
+pub fits_opening : (sessions safe : ℕ) → sessions ≤ 16 → safe ≤ 2 ^ 61
+    → FitsJournal (opening_contents safe) sessions safe
 fits_opening sessions safe few low = record {
   legal = tt;
   state = record { ec = refl; lse = refl; round = refl; store_failed = refl; snapshots = refl; pending = refl };
@@ -61,7 +62,8 @@ fits_opening sessions safe few low = record {
   pending_tickets = tt;
 }
 
-first_bound : (low high : ℕ) (snapshots : List OpenSnapshot) → NeverFalls low snapshots high → low ≤ oldest_bound snapshots high
+first_bound : (low high : ℕ) (snapshots : List OpenSnapshot) → NeverFalls low snapshots high
+    → low ≤ oldest_bound snapshots high
 first_bound low high [] bounds = bounds
 first_bound low high (o ∷ snapshots) bounds = bounds.0
 
@@ -84,7 +86,8 @@ noted_room k new e more room some new_is enough =
     subst (λ (x : Contents). length x.journal + (entries_owed x + 0) ≤ room) (sym new_is)
     (omega (arith, enough, length-added k.journal e))
 
-pub closed_room : (k mid new : Contents) (epoch : ℕ) (end : RoundEnd) (e : JournalEntry) (room : ℕ) → k.round ≡ Some epoch
+pub closed_room : (k mid new : Contents) (epoch : ℕ) (end : RoundEnd) (e : JournalEntry) (room : ℕ)
+    → k.round ≡ Some epoch
     → mid ≡ without_round k epoch end → new ≡ record mid { journal = mid.journal ++ e ∷ [] }
     → length k.journal + (entries_owed k + 0) ≤ room → length new.journal + (entries_owed new + 0) ≤ room
 closed_room k mid new epoch end e room is mid_is new_is enough =

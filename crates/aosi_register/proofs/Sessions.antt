@@ -49,7 +49,8 @@ module _ (holds : List Hold) (snapshots : List (Member OpenSnapshot)) (pending :
     pub epoch : item_by_ticket pending p ≡ Some o.snapshot.epoch
 
   pub reader_of : (t : Ticket) → hold_of holds n ≡ Reader t → ReaderOf t
-  reader_of t is = go (item_by_ticket snapshots t) refl (subst (λ (h : Hold). HoldFits snapshots pending n h) is (fit.fit n))
+  reader_of t is = go (item_by_ticket snapshots t) refl
+      (subst (λ (h : Hold). HoldFits snapshots pending n h) is (fit.fit n))
     where
       go : (x : Option OpenSnapshot) → item_by_ticket snapshots t ≡ x → IsSomeAnd x (IsOpenOf n false) → ReaderOf t
       go None found fits = absurd fits
@@ -62,7 +63,8 @@ module _ (holds : List Hold) (snapshots : List (Member OpenSnapshot)) (pending :
       }
 
   pub writer_of : (t p : Ticket) → hold_of holds n ≡ Writer t p → WriterOf t p
-  writer_of t p is = go (item_by_ticket snapshots t) refl (subst (λ (h : Hold). HoldFits snapshots pending n h) is (fit.fit n))
+  writer_of t p is = go (item_by_ticket snapshots t) refl
+      (subst (λ (h : Hold). HoldFits snapshots pending n h) is (fit.fit n))
     where
       go : (x : Option OpenSnapshot) → item_by_ticket snapshots t ≡ x
           → IsSomeAnd x (λ o. IsOpenOf n true o × (item_by_ticket pending p ≡ Some o.snapshot.epoch)) → WriterOf t p

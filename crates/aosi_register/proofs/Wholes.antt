@@ -46,17 +46,25 @@ pub target_shown : (k : Contents) (s : JournalState) → ShowsState k s
 target_shown k s shows = λ i. oldest_bound (shows.snapshots i) (fold min (shows.ec i) (shows.pending i) - 1)
 
 -- The same contents fit as well.
-pub fits_same : (k same : Contents) (sessions safe : ℕ) → same ≡ k → FitsJournal k sessions safe → FitsJournal same sessions safe
+pub fits_same : (k same : Contents) (sessions safe : ℕ) → same ≡ k → FitsJournal k sessions safe
+    → FitsJournal same sessions safe
 fits_same k same sessions safe is fits = subst (λ x. FitsJournal x sessions safe) (sym is) fits
 
 -- There are few pending epochs.
 pub few_pending : (k : Contents) (sessions safe : ℕ) → FitsJournal k sessions safe → length (items k.pending) ≤ 16
 few_pending k sessions safe fits =
-    omega (arith, length-map k.pending (λ m. m.item), WritersCount-most k.holds sessions (length k.pending) fits.writers, fits.sizes.few)
+    omega (
+      arith,
+      length-map k.pending (λ m. m.item),
+      WritersCount-most k.holds sessions (length k.pending)
+          fits.writers,
+      fits.sizes.few,
+    )
 
 -- A snapshot that was opened, and the entry added.
 pub begun : (laws : Laws) (k mid new : Contents) (sessions safe n statement : ℕ) (o : OpenSnapshot) (e : JournalEntry)
-    (fits : FitsJournal k sessions safe) → held_by (journal_state safe k.journal).snapshots n ≡ None → 1 ≤ n → n ≤ sessions
+    (fits : FitsJournal k sessions safe) → held_by (journal_state safe k.journal).snapshots n ≡ None → 1 ≤ n
+    → n ≤ sessions
     → o ≡ record {
       session = n;
       bound = lce (journal_state safe k.journal);
@@ -66,10 +74,16 @@ pub begun : (laws : Laws) (k mid new : Contents) (sessions safe n statement : �
     → Begins k mid o → new ≡ record mid { journal = mid.journal ++ e ∷ [] } → FitsJournal new sessions safe
 begun laws k mid new sessions safe n statement o e fits free low high o_is e_is begins new_is =
     let b = subst (Begins k mid) o_is begins in
-    let added : new ≡ record mid { journal = mid.journal ++ entry.Begin n statement (journal_state safe k.journal).ec (journal_state safe k.journal).pending ∷ [] } =
+    let added : new ≡ record mid {
+      journal = mid.journal ++ entry.Begin n statement
+          (journal_state safe k.journal).ec (journal_state safe k.journal).pending ∷ [];
+    } =
     new_is ∙ ap (λ x. record mid { journal = mid.journal ++ x ∷ [] }) e_is in
     subst (λ x. FitsJournal x sessions safe)
-    (sym (added ∙ ap (λ (m : Contents). record m { journal = m.journal ++ entry.Begin n statement (journal_state safe k.journal).ec (journal_state safe k.journal).pending ∷ [] }) b.is))
+    (sym (added ∙ ap (λ (m : Contents). record m {
+      journal = m.journal ++ entry.Begin n statement (journal_state safe k.journal).ec
+          (journal_state safe k.journal).pending ∷ [];
+    }) b.is))
     (fits_begun laws k sessions safe fits n statement free b.ticket b.fresh low high b.other b.other_fresh)
 
 pub begun_room : (k mid new : Contents) (o : OpenSnapshot) (e : JournalEntry) (room : ℕ) → Begins k mid o
@@ -91,10 +105,14 @@ pub read : (laws : Laws) (k mid new : Contents) (sessions safe n statement : ℕ
     → Reads k mid o → new ≡ record mid { journal = mid.journal ++ e ∷ [] } → FitsJournal new sessions safe
 read laws k mid new sessions safe n statement o e fits free high o_is e_is reads new_is =
     let b = subst (Reads k mid) o_is reads in
-    let added : new ≡ record mid { journal = mid.journal ++ entry.Read n statement (lce (journal_state safe k.journal)) ∷ [] } =
+    let added : new ≡ record mid {
+      journal = mid.journal ++ entry.Read n statement
+          (lce (journal_state safe k.journal)) ∷ [];
+    } =
     new_is ∙ ap (λ x. record mid { journal = mid.journal ++ x ∷ [] }) e_is in
     subst (λ x. FitsJournal x sessions safe)
-    (sym (added ∙ ap (λ (m : Contents). record m { journal = m.journal ++ entry.Read n statement (lce (journal_state safe k.journal)) ∷ [] }) b.is))
+    (sym (added ∙ ap (λ (m : Contents). record m
+    { journal = m.journal ++ entry.Read n statement (lce (journal_state safe k.journal)) ∷ [] }) b.is))
     (fits_read laws k sessions safe fits n statement free b.ticket b.fresh high)
 
 pub read_room : (k mid new : Contents) (o : OpenSnapshot) (e : JournalEntry) (room : ℕ) → Reads k mid o
@@ -111,7 +129,8 @@ pub record Writes (k : Contents) (n : ℕ) (s : JournalState) : Type 0 where
   pub within : n < length k.holds
   pub fits : HoldFits k.snapshots k.pending n (hold_of k.holds n)
 
-pub writes : (k : Contents) (sessions safe n : ℕ) → FitsJournal k sessions safe → IsWriting (journal_state safe k.journal) n
+pub writes : (k : Contents) (sessions safe n : ℕ) → FitsJournal k sessions safe
+    → IsWriting (journal_state safe k.journal) n
     → Writes k n (journal_state safe k.journal)
 writes k sessions safe n fits writing =
     let held = subst (λ xs. IsSomeAnd (held_by xs n) (λ h. h.own ≡ true)) (sym fits.state.snapshots) writing in
@@ -140,12 +159,14 @@ module _ (k : Contents) (sessions safe n : ℕ) (fits : FitsJournal k sessions s
   pub writing_in_state : (t p : Ticket) → hold_of k.holds n ≡ Writer t p → IsWriting (journal_state safe k.journal) n
   writing_in_state t p is =
       let w = writer_of k.holds k.snapshots k.pending fits.holds n t p is in
-      subst (λ x. IsSomeAnd x (λ h. h.own ≡ true)) (sym (ap (λ xs. held_by xs n) (sym fits.state.snapshots) ∙ w.held)) w.own
+      subst (λ x. IsSomeAnd x (λ h. h.own ≡ true))
+      (sym (ap (λ xs. held_by xs n) (sym fits.state.snapshots) ∙ w.held)) w.own
 
   pub reading_in_state : (t : Ticket) → hold_of k.holds n ≡ Reader t → HoldsReader (journal_state safe k.journal) n
   reading_in_state t is =
       let r = reader_of k.holds k.snapshots k.pending fits.holds n t is in
-      subst (λ x. IsSomeAnd x (λ h. h.own ≡ false)) (sym (ap (λ xs. held_by xs n) (sym fits.state.snapshots) ∙ r.held)) r.own
+      subst (λ x. IsSomeAnd x (λ h. h.own ≡ false))
+      (sym (ap (λ xs. held_by xs n) (sym fits.state.snapshots) ∙ r.held)) r.own
 
 -- A writer that ended.
 module _ (laws : Laws) (k mid new : Contents) (sessions safe n : ℕ) (fits : FitsJournal k sessions safe) (epoch : ℕ)
@@ -157,7 +178,8 @@ module _ (laws : Laws) (k mid new : Contents) (sessions safe n : ℕ) (fits : Fi
       → FitsJournal new sessions safe
   committed statement new_is =
       subst (λ x. FitsJournal x sessions safe)
-      (sym (new_is ∙ ap (λ (m : Contents). record m { journal = m.journal ++ entry.Committed n statement epoch ∷ [] }) ends.is))
+      (sym (new_is ∙ ap (λ (m : Contents). record m
+      { journal = m.journal ++ entry.Committed n statement epoch ∷ [] }) ends.is))
       (fits_committed laws k sessions safe fits n ends.ticket ends.other epoch within ends.was ends.found statement)
 
   pub aborted : (statement : ℕ) (cause : AbortCause)
@@ -165,7 +187,8 @@ module _ (laws : Laws) (k mid new : Contents) (sessions safe n : ℕ) (fits : Fi
       → FitsJournal new sessions safe
   aborted statement cause new_is =
       subst (λ x. FitsJournal x sessions safe)
-      (sym (new_is ∙ ap (λ (m : Contents). record m { journal = m.journal ++ entry.Aborted n statement epoch cause ∷ [] }) ends.is))
+      (sym (new_is ∙ ap (λ (m : Contents). record m
+      { journal = m.journal ++ entry.Aborted n statement epoch cause ∷ [] }) ends.is))
       (fits_aborted laws k sessions safe fits n ends.ticket ends.other epoch within ends.was ends.found statement cause)
 
   -- The epoch is that of the snapshot that the session held.
@@ -208,10 +231,17 @@ module _ (laws : Laws) (k mid new : Contents) (sessions safe n : ℕ) (fits : Fi
       let r = reader_of k.holds k.snapshots k.pending fits.holds n ends.ticket ends.was in
       subst (λ (x : Contents). length x.journal + (entries_owed x + 0) ≤ room)
       (sym (new_is ∙ ap (λ (m : Contents). record m { journal = m.journal ++ entry.ReadEnd n statement ∷ [] }) ends.is))
-      (omega (arith, enough, length-added k.journal (entry.ReadEnd n statement), length-taken k.snapshots ends.ticket r.o r.found))
+      (omega (
+        arith,
+        enough,
+        length-added k.journal (entry.ReadEnd n statement),
+        length-taken k.snapshots
+            ends.ticket r.o r.found,
+      ))
 
 -- A note that was added.
-pub noted : (laws : Laws) (k new : Contents) (sessions safe : ℕ) (fits : FitsJournal k sessions safe) (q : Note) (e : JournalEntry)
+pub noted : (laws : Laws) (k new : Contents) (sessions safe : ℕ) (fits : FitsJournal k sessions safe) (q : Note)
+    (e : JournalEntry)
     → CountersAllow safe k.journal (note_entry q) → e ≡ note_entry q → new ≡ record k { journal = k.journal ++ e ∷ [] }
     → FitsJournal new sessions safe
 noted laws k new sessions safe fits q e allowed e_is new_is =

@@ -1,16 +1,17 @@
 -- The fields of a register are what its journal says.
 use Rattle.std.specs.Prelude.{◌≡◌, ℕ, ◌+◌, ◌-◌, ◌^◌, ◌≤◌, Bool, true, false, fold, min, replicate, List, [], ◌∷◌, ◌++◌, length, slice_set, Option, Some, None, vec_capacity}
+use Rattle.cube_values.specs.declared.snapshot.Snapshot.{Snapshot}
 use Rattle.cube_journal.specs.declared.counters.Counters.{Counters}
 use Rattle.cube_journal.specs.declared.counters.OpenSnapshot.{OpenSnapshot}
 use Rattle.cube_journal.specs.declared.journal_entry.LostCause.TheVariants.{Disk, Memory}
 use Rattle.aosi_register.specs.declared.answer.RoundEnd.{RoundEnd}
 use Rattle.aosi_register.specs.declared.answer.RoundEnd.TheVariants.{Safe, Lost}
 use Rattle.cube_journal.specs.declared.journal_entry.JournalEntry.{JournalEntry}
-use Rattle.cube_journal.specs.Counters.{JournalState, journal_state}
+use Rattle.cube_journal.specs.Counters.{JournalState, journal_state, oldest_bound}
 use Rattle.cube_journal.specs.Legal.{CountersAllowAll}
 use Rattle.linked_roll.specs.declared.ticket.Ticket.{Ticket}
 use Rattle.linked_roll.specs.Members.{Member, member, item_by_ticket, items, members_without, TicketsDiffer}
-use Rattle.aosi_register.specs.Holds.{hold_of, HoldsFit, WritersCount, Rise}
+use Rattle.aosi_register.specs.Holds.{hold_of, HoldFits, HoldsFit, WritersCount, Rise}
 use Rattle.aosi_register.specs.declared.hold.Hold.{Hold}
 use Rattle.aosi_register.specs.declared.hold.Hold.TheVariants.{Free, Reader, Writer}
 use Rattle.aosi_register.specs.declared.fields.Fields.{Fields}
@@ -51,9 +52,29 @@ opening_contents safe = record {
   store_failed = false;
 }
 
+-- The latest committed epoch.
+abbrev pub lce_of : Contents → ℕ
+lce_of k = fold min k.ec (items k.pending) - 1
+
+-- The target of a round.
+abbrev pub target_of : Contents → ℕ
+target_of k = oldest_bound (items k.snapshots) (lce_of k)
+
+-- The snapshot of a writer that opens next.
+abbrev pub next_snapshot : Contents → Snapshot
+next_snapshot k = record { epoch = k.ec; deps = items k.pending; own = true }
+
 -- The counters.
 abbrev pub counters_of : Contents → Counters
-counters_of k = record { ec = k.ec; lce = fold min k.ec (items k.pending) - 1; lse = k.lse; pending = items k.pending }
+counters_of k = record { ec = k.ec; lce = lce_of k; lse = k.lse; pending = items k.pending }
+
+-- With one more entry.
+abbrev pub with_last : Contents → JournalEntry → Contents
+with_last k e = record k { journal = k.journal ++ e ∷ [] }
+
+-- The tickets of a session agree with the rolls.
+abbrev pub HasTickets : Contents → ℕ → Type 0
+HasTickets k session = HoldFits k.snapshots k.pending session (hold_of k.holds session)
 
 -- The round of an epoch is closed.
 abbrev pub without_round : Contents → ℕ → RoundEnd → Contents

@@ -36,7 +36,8 @@ is_reader (Writer ticket other) = false
 -- Of each open snapshot, its session has the ticket.
 abbrev pub AreHeld : List Hold → List (Member OpenSnapshot) → Type 0
 AreHeld holds [] = Unit {0}
-AreHeld holds (m ∷ snapshots) = (snapshot_ticket (hold_of holds m.item.session) ≡ Some m.ticket) × AreHeld holds snapshots
+AreHeld holds (m ∷ snapshots) = (snapshot_ticket (hold_of holds m.item.session) ≡ Some m.ticket) × AreHeld holds
+    snapshots
 
 -- The open snapshot is the session's, and of this kind.
 abbrev pub IsOpenOf : ℕ → Bool → OpenSnapshot → Type 0
@@ -45,16 +46,19 @@ IsOpenOf session own o = (o.session ≡ session) × (o.snapshot.own ≡ own)
 -- A session's tickets find its open snapshot, and of a writer its epoch among the pending ones.
 abbrev pub HoldFits : List (Member OpenSnapshot) → List (Member ℕ) → ℕ → Hold → Type 0
 HoldFits snapshots pending session Free = Unit {0}
-HoldFits snapshots pending session (Reader ticket) = IsSomeAnd (item_by_ticket snapshots ticket) (IsOpenOf session false)
+HoldFits snapshots pending session (Reader ticket) = IsSomeAnd (item_by_ticket snapshots ticket)
+    (IsOpenOf session false)
 HoldFits snapshots pending session (Writer ticket other) =
     IsSomeAnd (item_by_ticket snapshots ticket)
     (λ o. IsOpenOf session true o × (item_by_ticket pending other ≡ Some o.snapshot.epoch))
 
 -- The tickets agree with both rolls, and no two sessions have one pending epoch.
-pub record HoldsFit (holds : List Hold) (snapshots : List (Member OpenSnapshot)) (pending : List (Member ℕ)) : Type 0 where
+pub record HoldsFit (holds : List Hold) (snapshots : List (Member OpenSnapshot)) (pending : List (Member ℕ)) : Type
+    0 where
   pub held : AreHeld holds snapshots
   pub fit : (session : ℕ) → HoldFits snapshots pending session (hold_of holds session)
-  pub own : (a b : ℕ) (t : Ticket) → pending_ticket (hold_of holds a) ≡ Some t → pending_ticket (hold_of holds b) ≡ Some t → a ≡ b
+  pub own : (a b : ℕ) (t : Ticket) → pending_ticket (hold_of holds a) ≡ Some t
+      → pending_ticket (hold_of holds b) ≡ Some t → a ≡ b
 
 -- Only the sessions hold writers, and there is one pending epoch for each of them.
 pub record WritersCount (holds : List Hold) (sessions pending : ℕ) : Type 0 where

@@ -3,7 +3,7 @@
 use Rattle.std.specs.Prelude.{◌≡◌, ℕ, ◌+◌, ◌==◌, List, [], ◌∷◌, ◌++◌, Bool, true, false, if◌then◌else◌, IsSomeAnd, Option}
 use Rattle.std.specs.Option.{option_map_or}
 use Rattle.cube_values.specs.declared.snapshot.Snapshot.{Snapshot}
-use Rattle.cube_journal.specs.declared.counters.OpenSnapshot.{OpenSnapshot}
+use Rattle.cube_journal.specs.declared.journal_entry.AbortCause.{AbortCause}
 use Rattle.cube_journal.specs.declared.journal_entry.JournalEntry.{JournalEntry}
 use Rattle.cube_journal.specs.declared.journal_entry.JournalEntry.TheVariants as entry
 use Rattle.cube_journal.specs.Counters.{JournalState, journal_state, lce, target, held_by}
@@ -55,3 +55,26 @@ answer_entry (Target from epoch) = entry.Round epoch
 abbrev pub end_entry : ℕ → RoundEnd → JournalEntry
 end_entry epoch Safe = entry.Safe epoch
 end_entry epoch (Lost cause) = entry.RoundLost epoch cause
+
+-- The register after a writer or a reader with this snapshot was opened.
+abbrev pub after_begin : RegisterState → ℕ → ℕ → Snapshot → RegisterState
+after_begin r session statement s = with_entry r (entry.Begin session statement s.epoch s.deps)
+
+abbrev pub after_read : RegisterState → ℕ → ℕ → Snapshot → RegisterState
+after_read r session statement s = with_entry r (entry.Read session statement s.epoch)
+
+-- The register after the session's writer ended.
+abbrev pub after_commit : RegisterState → ℕ → ℕ → RegisterState
+after_commit r session statement = with_entry r (entry.Committed session statement (held_epoch (state_of r) session))
+
+abbrev pub after_abort : RegisterState → ℕ → ℕ → AbortCause → RegisterState
+after_abort r session statement cause =
+    with_entry r (entry.Aborted session statement (held_epoch (state_of r) session) cause)
+
+-- The register after a cube took an epoch.
+abbrev pub after_cube : RegisterState → ℕ → ℕ → ℕ → RegisterState
+after_cube r session statement epoch = with_entry r (entry.Cube session statement epoch)
+
+-- The register after this was answered to who asked for a round.
+abbrev pub after_answer : RegisterState → RoundAnswer → RegisterState
+after_answer r answer = with_entry r (answer_entry answer)

@@ -1,10 +1,9 @@
 //! The fields of a register, with calls that change some of them. The register says how they agree.
-ghost use Rattle.std.specs.Prelude.{◌≡◌, ◌+◌, ◌-◌, ◌<◌, ◌≤◌, ◌^◌, ◌++◌, [], ◌∷◌, true, false, OnOk, IfOk, length, vec_capacity, fold, min, replicate};
-ghost use Rattle.cube_journal.specs.Counters.{oldest_bound};
+ghost use Rattle.std.specs.Prelude.{◌≡◌, ◌+◌, ◌<◌, ◌≤◌, ◌^◌, true, false, OnOk, IfOk, length, vec_capacity, replicate};
 ghost use Rattle.linked_roll.specs.Members.{items};
-ghost use Rattle.aosi_register.specs.Holds.{hold_of, is_writer, is_reader, HoldFits, Rise};
+ghost use Rattle.aosi_register.specs.Holds.{hold_of, is_writer, is_reader, Rise};
 ghost use Rattle.aosi_register.specs.declared.hold.Hold.TheVariants.{Free};
-ghost use Rattle.aosi_register.specs.Fits.{contents, entries_owed, HasRoomFor, opening_contents, counters_of, without_round, Begins, Reads, EndsWriter, EndsReader};
+ghost use Rattle.aosi_register.specs.Fits.{contents, lce_of, target_of, next_snapshot, with_last, HasTickets, HasRoomFor, opening_contents, counters_of, without_round, Begins, Reads, EndsWriter, EndsReader};
 
 use crate::answer::RoundEnd;
 use crate::counted::{push, remove};
@@ -69,7 +68,7 @@ impl Fields {
     /// The latest committed epoch.
     pub(crate) fn lce(&self) -> u64
         requires { Rise 0 (items self.now.pending.members) self.now.ec }
-        ensures { result ≡ fold min self.now.ec (items self.now.pending.members) - 1 }
+        ensures { result ≡ lce_of (contents self.now) }
     {
         match self.pending.front() {
             Some(epoch) => *epoch - 1,
@@ -80,7 +79,7 @@ impl Fields {
     /// The target of a round.
     pub(crate) fn target(&self) -> u64
         requires { Rise 0 (items self.now.pending.members) self.now.ec }
-        ensures { result ≡ oldest_bound (items self.now.snapshots.members) (fold min self.now.ec (items self.now.pending.members) - 1) }
+        ensures { result ≡ target_of (contents self.now) }
     {
         match self.snapshots.front() {
             Some(oldest) => oldest.bound,
@@ -103,7 +102,7 @@ impl Fields {
     /// The snapshot of a writer that opens next.
     pub(crate) fn next_writer(&self) -> Snapshot
         requires { length (items self.now.pending.members) ≤ 16 }
-        ensures { result ≡ record { epoch = self.now.ec; deps = items self.now.pending.members; own = true } }
+        ensures { result ≡ next_snapshot (contents self.now) }
     {
         Snapshot {
             epoch: self.ec,
@@ -129,7 +128,7 @@ impl Fields {
     /// Appends an entry.
     pub(crate) fn add(&mut self, entry: JournalEntry)
         requires { length self.old.journal.items < vec_capacity self.old.journal }
-        ensures contents { contents self.new ≡ record (contents self.old) { journal = self.old.journal.items ++ entry ∷ [] } }
+        ensures contents { contents self.new ≡ with_last (contents self.old) entry }
         ensures capacity { vec_capacity self.new.journal ≡ vec_capacity self.old.journal }
     {
         self.journal.push_reserved(entry);
@@ -167,7 +166,7 @@ impl Fields {
     pub(crate) fn end_writer(&mut self, session: u32) -> u64
         requires session { session < length self.old.holds.items }
         requires writer { is_writer (hold_of self.old.holds.items session) ≡ true }
-        requires fits { HoldFits self.old.snapshots.members self.old.pending.members session (hold_of self.old.holds.items session) }
+        requires fits { HasTickets (contents self.old) session }
         ensures ends { EndsWriter (contents self.old) (contents self.new) session result }
         ensures capacity { vec_capacity self.new.journal ≡ vec_capacity self.old.journal }
     {
@@ -209,7 +208,7 @@ impl Fields {
     pub(crate) fn end_reader(&mut self, session: u32)
         requires session { session < length self.old.holds.items }
         requires reader { is_reader (hold_of self.old.holds.items session) ≡ true }
-        requires fits { HoldFits self.old.snapshots.members self.old.pending.members session (hold_of self.old.holds.items session) }
+        requires fits { HasTickets (contents self.old) session }
         ensures ends { EndsReader (contents self.old) (contents self.new) session }
         ensures capacity { vec_capacity self.new.journal ≡ vec_capacity self.old.journal }
     {

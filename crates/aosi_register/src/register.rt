@@ -4,8 +4,10 @@ ghost use Rattle.cube_journal.specs.declared.journal_entry.JournalEntry.TheVaria
 ghost use Rattle.cube_journal.specs.Counters.{held_by, counters, lce};
 ghost use Rattle.cube_journal.specs.Entries.{note_entry};
 ghost use Rattle.cube_journal.specs.Legal.{CountersAllow, CountersAllowAll, HoldsReader, MayAskRound};
+ghost use Rattle.cube_journal.specs.Order.{IsInOrder};
 ghost use Rattle.linked_roll.specs.Members.{items};
-ghost use Rattle.aosi_register.specs.State.{state_of, with_entry, writer_snapshot, reader_snapshot, IsWriting, held_epoch, round_answer, answer_entry, end_entry};
+ghost use Rattle.aosi_register.specs.Holds.{Rise};
+ghost use Rattle.aosi_register.specs.State.{state_of, with_entry, writer_snapshot, reader_snapshot, IsWriting, round_answer, end_entry, after_begin, after_read, after_commit, after_abort, after_cube, after_answer};
 
 use crate::answer::{RoundAnswer, RoundEnd};
 use crate::fields::Fields;
@@ -69,7 +71,7 @@ impl Register {
         requires high { session ≤ self.old.sessions }
         requires free { held_by (state_of self.old).snapshots session ≡ None }
         ensures snapshot { IfOk result (λ s. s ≡ writer_snapshot (state_of self.old)) }
-        ensures journal { IfOk result (λ s. self.new ≡ with_entry self.old (entry.Begin session statement s.epoch s.deps)) }
+        ensures journal { IfOk result (λ s. self.new ≡ after_begin self.old session statement s) }
         ensures same { OnErr result (self.new ≡ self.old) }
     {
         self.fields.reserve(2)?;
@@ -96,7 +98,7 @@ impl Register {
         requires high { session ≤ MOST_HOLDERS }
         requires free { held_by (state_of self.old).snapshots session ≡ None }
         ensures snapshot { IfOk result (λ s. s ≡ reader_snapshot (state_of self.old)) }
-        ensures journal { IfOk result (λ s. self.new ≡ with_entry self.old (entry.Read session statement s.epoch)) }
+        ensures journal { IfOk result (λ s. self.new ≡ after_read self.old session statement s) }
         ensures same { OnErr result (self.new ≡ self.old) }
     {
         self.fields.reserve(2)?;
@@ -123,7 +125,7 @@ impl Register {
     /// Ends the writer of a session; what it wrote stays.
     pub fn commit(&mut self, session: u32, statement: u32)
         requires { IsWriting (state_of self.old) session }
-        ensures { self.new ≡ with_entry self.old (entry.Committed session statement (held_epoch (state_of self.old) session)) }
+        ensures { self.new ≡ after_commit self.old session statement }
     {
         one_more_entry();
         let epoch = self.fields.end_writer(session);
@@ -137,7 +139,7 @@ impl Register {
     /// Ends the writer of a session; nothing that it wrote stays.
     pub fn abort_end(&mut self, session: u32, statement: u32, cause: AbortCause)
         requires { IsWriting (state_of self.old) session }
-        ensures { self.new ≡ with_entry self.old (entry.Aborted session statement (held_epoch (state_of self.old) session) cause) }
+        ensures { self.new ≡ after_abort self.old session statement cause }
     {
         one_more_entry();
         let epoch = self.fields.end_writer(session);
@@ -178,7 +180,7 @@ impl Register {
     pub fn take_epoch(&mut self, session: u32, statement: u32) -> Result<u64, AllocError>
         requires { held_by (state_of self.old).snapshots session ≡ None }
         ensures epoch { IfOk result (λ epoch. epoch ≡ (state_of self.old).ec) }
-        ensures journal { IfOk result (λ epoch. self.new ≡ with_entry self.old (entry.Cube session statement epoch)) }
+        ensures journal { IfOk result (λ e. self.new ≡ after_cube self.old session statement e) }
         ensures same { OnErr result (self.new ≡ self.old) }
     {
         self.fields.reserve(1)?;
@@ -198,7 +200,7 @@ impl Register {
     pub fn round_open(&mut self) -> Result<RoundAnswer, AllocError>
         requires { MayAskRound (state_of self.old) }
         ensures answer { IfOk result (λ answer. answer ≡ round_answer (state_of self.old)) }
-        ensures journal { IfOk result (λ answer. self.new ≡ with_entry self.old (answer_entry answer)) }
+        ensures journal { IfOk result (λ answer. self.new ≡ after_answer self.old answer) }
         ensures same { OnErr result (self.new ≡ self.old) }
     {
         self.fields.reserve(2)?;
@@ -265,10 +267,20 @@ impl Register {
         &self.fields.snapshots
     }
 
-    /// The pending epochs in the order of opening.
+    /// The pending epochs in the order of opening. They rise.
     pub fn pending_roll(&self) -> &Roll<u64>
-        ensures { items result.now.members ≡ (state_of self.now).pending }
+        ensures items { items result.now.members ≡ (state_of self.now).pending }
+        ensures rise { Rise 0 (items result.now.members) (state_of self.now).ec }
     {
         &self.fields.pending
+    }
+
+    /// A law: EC is above LCE; from LSE over the bounds of the open snapshots, in the order of opening, up to
+    /// LCE no number falls; and the open round's target is not above them.
+    pub fn is_in_order(&self)
+        ensures { IsInOrder (state_of self.now) }
+    {
+        legal_journals_are_in_order();
+        let _journal = self.fields.journal.as_slice();
     }
 }

@@ -12,21 +12,26 @@ use Rattle.aosi_register.proofs.register.Register.close_read.Goals as goal
 
 pub end_reader-requires-clause-session : goal.end_reader-requires-clause-session
 end_reader-requires-clause-session c =
-    (reads_by (contents c.self.inside.fields) c.self.inside.sessions c.self.inside.safe c.args.session c.self.invariant.0 (rw (← c.self.view_is) at c.requires)).within
+    (reads_by (contents c.self.inside.fields) c.self.inside.sessions c.self.inside.safe c.args.session
+    c.self.invariant.0 (rw (← c.self.view_is) at c.requires)).within
 
 pub end_reader-requires-clause-reader : goal.end_reader-requires-clause-reader
 end_reader-requires-clause-reader c =
-    (reads_by (contents c.self.inside.fields) c.self.inside.sessions c.self.inside.safe c.args.session c.self.invariant.0 (rw (← c.self.view_is) at c.requires)).reader
+    (reads_by (contents c.self.inside.fields) c.self.inside.sessions c.self.inside.safe c.args.session
+    c.self.invariant.0 (rw (← c.self.view_is) at c.requires)).reader
 
 pub invariant_of-self : goal.invariant_of-self
 invariant_of-self c =
     let laws : Laws = record { state = c.one_more_entry.ensures.state; legal = c.one_more_entry.ensures.legal } in
-    let held = reads_by (contents c.self.inside.fields) c.self.inside.sessions c.self.inside.safe c.args.session c.self.invariant.0 (rw (← c.self.view_is) at c.requires) in
-    let room = read_ended_room laws (contents c.self.inside.fields) (contents c.end_reader.new.self) (contents c.add.new.self)
+    let held = reads_by (contents c.self.inside.fields) c.self.inside.sessions c.self.inside.safe c.args.session
+    c.self.invariant.0 (rw (← c.self.view_is) at c.requires) in
+    let room = read_ended_room laws (contents c.self.inside.fields) (contents c.end_reader.new.self)
+    (contents c.add.new.self)
     c.self.inside.sessions c.self.inside.safe c.args.session c.self.invariant.0 held.within c.end_reader.ensures.ends
     c.args.statement c.add.ensures.contents _ c.self.invariant.1 in (
       read_ended laws (contents c.self.inside.fields) (contents c.end_reader.new.self) (contents c.add.new.self)
-          c.self.inside.sessions c.self.inside.safe c.args.session c.self.invariant.0 held.within c.end_reader.ensures.ends
+          c.self.inside.sessions c.self.inside.safe c.args.session c.self.invariant.0 held.within
+          c.end_reader.ensures.ends
           c.args.statement c.add.ensures.contents,
       omega (arith, room, c.add.ensures.capacity, c.end_reader.ensures.capacity),
     )

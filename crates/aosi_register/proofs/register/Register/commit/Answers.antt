@@ -12,22 +12,28 @@ use Rattle.aosi_register.proofs.register.Register.commit.Goals as goal
 
 pub end_writer-epoch-requires-clause-session : goal.end_writer-epoch-requires-clause-session
 end_writer-epoch-requires-clause-session c =
-    (writes (contents c.self.inside.fields) c.self.inside.sessions c.self.inside.safe c.args.session c.self.invariant.0 (rw (← c.self.view_is) at c.requires)).within
+    (writes (contents c.self.inside.fields) c.self.inside.sessions c.self.inside.safe c.args.session
+    c.self.invariant.0 (rw (← c.self.view_is) at c.requires)).within
 
 pub end_writer-epoch-requires-clause-writer : goal.end_writer-epoch-requires-clause-writer
 end_writer-epoch-requires-clause-writer c =
-    (writes (contents c.self.inside.fields) c.self.inside.sessions c.self.inside.safe c.args.session c.self.invariant.0 (rw (← c.self.view_is) at c.requires)).writer
+    (writes (contents c.self.inside.fields) c.self.inside.sessions c.self.inside.safe c.args.session
+    c.self.invariant.0 (rw (← c.self.view_is) at c.requires)).writer
 
 pub invariant_of-self : goal.invariant_of-self
 invariant_of-self c =
     let laws : Laws = record { state = c.one_more_entry.ensures.state; legal = c.one_more_entry.ensures.legal } in
-    let held = writes (contents c.self.inside.fields) c.self.inside.sessions c.self.inside.safe c.args.session c.self.invariant.0 (rw (← c.self.view_is) at c.requires) in
-    let room = ended_room laws (contents c.self.inside.fields) (contents c.end_writer-epoch.new.self) (contents c.add.new.self)
+    let held = writes (contents c.self.inside.fields) c.self.inside.sessions c.self.inside.safe c.args.session
+    c.self.invariant.0 (rw (← c.self.view_is) at c.requires) in
+    let room = ended_room laws (contents c.self.inside.fields) (contents c.end_writer-epoch.new.self)
+    (contents c.add.new.self)
     c.self.inside.sessions c.self.inside.safe c.args.session c.self.invariant.0 c.end_writer-epoch.result held.within
     c.end_writer-epoch.ensures.ends
-    (entry.Committed c.args.session c.args.statement c.end_writer-epoch.result) _ c.add.ensures.contents c.self.invariant.1 in (
+    (entry.Committed c.args.session c.args.statement c.end_writer-epoch.result) _ c.add.ensures.contents
+    c.self.invariant.1 in (
       committed laws (contents c.self.inside.fields) (contents c.end_writer-epoch.new.self) (contents c.add.new.self)
-          c.self.inside.sessions c.self.inside.safe c.args.session c.self.invariant.0 c.end_writer-epoch.result held.within
+          c.self.inside.sessions c.self.inside.safe c.args.session c.self.invariant.0 c.end_writer-epoch.result
+          held.within
           c.end_writer-epoch.ensures.ends c.args.statement c.add.ensures.contents,
       omega (arith, room, c.add.ensures.capacity, c.end_writer-epoch.ensures.capacity),
     )
@@ -35,9 +41,16 @@ invariant_of-self c =
 pub returns : goal.returns
 returns c =
     let laws : Laws = record { state = c.one_more_entry.ensures.state; legal = c.one_more_entry.ensures.legal } in
-    let held = writes (contents c.self.inside.fields) c.self.inside.sessions c.self.inside.safe c.args.session c.self.invariant.0 (rw (← c.self.view_is) at c.requires) in
-    let journal = ended_journal laws (contents c.self.inside.fields) (contents c.end_writer-epoch.new.self) (contents c.add.new.self)
+    let held = writes (contents c.self.inside.fields) c.self.inside.sessions c.self.inside.safe c.args.session
+    c.self.invariant.0 (rw (← c.self.view_is) at c.requires) in
+    let journal = ended_journal laws (contents c.self.inside.fields) (contents c.end_writer-epoch.new.self)
+    (contents c.add.new.self)
     c.self.inside.sessions c.self.inside.safe c.args.session c.self.invariant.0 c.end_writer-epoch.result held.within
     c.end_writer-epoch.ensures.ends
     (λ x. entry.Committed c.args.session c.args.statement x) c.add.ensures.contents in
-    rw (← c.self.view_is) (ap (λ j. record { safe = c.self.inside.safe; sessions = c.self.inside.sessions; journal = j }) journal)
+    rw (← c.self.view_is) (ap (λ j. record {
+      safe = c.self.inside.safe;
+      sessions = c.self.inside.sessions;
+      journal =
+          j;
+    }) journal)

@@ -12,13 +12,15 @@ use Rattle.aosi_register.proofs.register.Register.note.Goals as goal
 
 pub counters-counters-requires-clause-few : goal.counters-counters-requires-clause-few
 counters-counters-requires-clause-few c =
-    let fits = fits_same (contents c.self.inside.fields) (contents c.reserve.new.self) c.self.inside.sessions c.self.inside.safe
+    let fits = fits_same (contents c.self.inside.fields) (contents c.reserve.new.self) c.self.inside.sessions
+    c.self.inside.safe
     c.reserve.ensures.same c.self.invariant.0 in
     few_pending (contents c.reserve.new.self) c.self.inside.sessions c.self.inside.safe fits
 
 pub invariant_of-self-2 : goal.invariant_of-self-2
 invariant_of-self-2 c =
-    let fits = fits_same (contents c.self.inside.fields) (contents c.reserve.new.self) c.self.inside.sessions c.self.inside.safe
+    let fits = fits_same (contents c.self.inside.fields) (contents c.reserve.new.self) c.self.inside.sessions
+    c.self.inside.safe
     c.reserve.ensures.same c.self.invariant.0 in
     let laws : Laws = record { state = c.one_more_entry.ensures.state; legal = c.one_more_entry.ensures.legal } in
     let first = rw (← c.self.view_is) at c.requires in

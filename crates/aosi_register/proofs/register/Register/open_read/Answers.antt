@@ -12,11 +12,13 @@ use Rattle.aosi_register.proofs.register.Register.open_read.Goals as goal
 
 pub invariant_of-self-2 : goal.invariant_of-self-2
 invariant_of-self-2 c =
-    let fits = fits_same (contents c.self.inside.fields) (contents c.reserve.new.self) c.self.inside.sessions c.self.inside.safe
+    let fits = fits_same (contents c.self.inside.fields) (contents c.reserve.new.self) c.self.inside.sessions
+    c.self.inside.safe
     c.reserve.ensures.same c.self.invariant.0 in
     let laws : Laws = record { state = c.one_more_entry.ensures.state; legal = c.one_more_entry.ensures.legal } in
     let first = rw (← c.self.view_is) at c.requires.free in
-    let free = subst (λ (x : Contents). held_by (journal_state c.self.inside.safe x.journal).snapshots c.args.session ≡ None)
+    let free = subst (λ (x : Contents). held_by (journal_state c.self.inside.safe x.journal).snapshots
+    c.args.session ≡ None)
     (sym c.reserve.ensures.same) first in
     let s = journal_state c.self.inside.safe (contents c.reserve.new.self).journal in
     let epoch = c.lce-epoch.ensures ∙ lce_shown (contents c.reserve.new.self) s fits.state in
@@ -25,7 +27,8 @@ invariant_of-self-2 c =
     let room = read_room (contents c.reserve.new.self) (contents c.read.new.self) (contents c.add.new.self) _ _ _
     c.read.ensures.reads c.add.ensures.contents c.in_ok-reserve.ensures.room in (
       read laws (contents c.reserve.new.self) (contents c.read.new.self) (contents c.add.new.self)
-          c.self.inside.sessions c.self.inside.safe c.args.session c.args.statement _ _ fits free (omega (arith, c.requires.high))
+          c.self.inside.sessions c.self.inside.safe c.args.session c.args.statement _ _ fits free
+          (omega (arith, c.requires.high))
           (λ i. record { session = c.args.session; bound = epoch i; snapshot = copied i }) e_is c.read.ensures.reads
           c.add.ensures.contents,
       omega (arith, room, c.add.ensures.capacity, c.read.ensures.capacity),

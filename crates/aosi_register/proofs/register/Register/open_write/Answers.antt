@@ -12,17 +12,20 @@ use Rattle.aosi_register.proofs.register.Register.open_write.Goals as goal
 
 pub next_writer-snapshot-requires : goal.next_writer-snapshot-requires
 next_writer-snapshot-requires c =
-    let fits = fits_same (contents c.self.inside.fields) (contents c.reserve.new.self) c.self.inside.sessions c.self.inside.safe
+    let fits = fits_same (contents c.self.inside.fields) (contents c.reserve.new.self) c.self.inside.sessions
+    c.self.inside.safe
     c.reserve.ensures.same c.self.invariant.0 in
     few_pending (contents c.reserve.new.self) c.self.inside.sessions c.self.inside.safe fits
 
 pub invariant_of-self-2 : goal.invariant_of-self-2
 invariant_of-self-2 c =
-    let fits = fits_same (contents c.self.inside.fields) (contents c.reserve.new.self) c.self.inside.sessions c.self.inside.safe
+    let fits = fits_same (contents c.self.inside.fields) (contents c.reserve.new.self) c.self.inside.sessions
+    c.self.inside.safe
     c.reserve.ensures.same c.self.invariant.0 in
     let laws : Laws = record { state = c.one_more_entry.ensures.state; legal = c.one_more_entry.ensures.legal } in
     let first = rw (← c.self.view_is) at c.requires.free in
-    let free = subst (λ (x : Contents). held_by (journal_state c.self.inside.safe x.journal).snapshots c.args.session ≡ None)
+    let free = subst (λ (x : Contents). held_by (journal_state c.self.inside.safe x.journal).snapshots
+    c.args.session ≡ None)
     (sym c.reserve.ensures.same) first in
     let s = journal_state c.self.inside.safe (contents c.reserve.new.self).journal in
     let high = rw (← c.self.view_is) at c.requires.high in

@@ -1,0 +1,2 @@
+pub mod Cubes
+pub use Rattle.aosi_register.specs.State
