@@ -1,2 +1,0 @@
-pub mod Cubes
-pub use Rattle.aosi_register.specs.State
