@@ -1,9 +1,0 @@
-use Rattle.std.proofs.Common.{sym, ◌∙◌}
-use Rattle.aosi_register.specs.Fits.{contents}
-use Rattle.aosi_register.proofs.Wholes.{writing_in_state}
-use Rattle.aosi_register.proofs.register.Register.is_writing.Goals as goal
-
-pub returns-in-Writer : goal.returns-in-Writer
-returns-in-Writer c = λ shown. rw (← c.self.view_is)
-    (writing_in_state (contents c.self.inside.fields) c.self.inside.sessions c.self.inside.safe c.args.session
-    c.self.invariant.0 c.in-Writer.ticket c.in-Writer.pending (sym c.hold.ensures ∙ c.in-Writer.is))
