@@ -11,37 +11,35 @@ use std::mem::size_of;
 use std::process::Abort;
 use std::test::Fail;
 
-impl Register {
-    fn is_session(&self, session: u32) -> bool
-        ensures low { IsTrue result → 1 ≤ session }
-        ensures high { IsTrue result → session ≤ self.now.sessions }
-    {
-        1 <= session && session <= self.sessions
-    }
+fn is_session(register: &Register, session: u32) -> bool
+    ensures low { IsTrue result → 1 ≤ session }
+    ensures high { IsTrue result → session ≤ register.now.sessions }
+{
+    1 <= session && session <= register.sessions
+}
 
-    fn is_free(&self, session: u32) -> bool
-        ensures { IsTrue result → held_by (state_of self.now).snapshots session ≡ None }
-    {
-        matches!(self.fields.hold(session), Hold::Free)
-    }
+fn is_free(register: &Register, session: u32) -> bool
+    ensures { IsTrue result → held_by (state_of register.now).snapshots session ≡ None }
+{
+    matches!(register.fields.hold(session), Hold::Free)
+}
 
-    fn is_writing(&self, session: u32) -> bool
-        ensures { IsTrue result → IsWriting (state_of self.now) session }
-    {
-        matches!(self.fields.hold(session), Hold::Writer { .. })
-    }
+fn is_writing(register: &Register, session: u32) -> bool
+    ensures { IsTrue result → IsWriting (state_of register.now) session }
+{
+    matches!(register.fields.hold(session), Hold::Writer { .. })
+}
 
-    fn is_reading(&self, session: u32) -> bool
-        ensures { IsTrue result → HoldsReader (state_of self.now) session }
-    {
-        matches!(self.fields.hold(session), Hold::Reader(_))
-    }
+fn is_reading(register: &Register, session: u32) -> bool
+    ensures { IsTrue result → HoldsReader (state_of register.now) session }
+{
+    matches!(register.fields.hold(session), Hold::Reader(_))
+}
 
-    fn round(&self) -> Option<u64>
-        ensures { result ≡ (state_of self.now).round }
-    {
-        self.fields.round
-    }
+fn open_round(register: &Register) -> Option<u64>
+    ensures { result ≡ (state_of register.now).round }
+{
+    register.fields.round
 }
 
 // A call of a register.
@@ -63,55 +61,55 @@ fn make(rt: &impl Abort, register: &mut Register, call: Call, at: u32) -> Result
     let mut made = false;
     match call {
         Call::Write(session) => {
-            if register.is_session(session) && register.is_free(session) {
+            if is_session(register, session) && is_free(register, session) {
                 let _snapshot = register.open_write(session, at)?;
                 made = true;
             }
         }
         Call::Read(session) => {
-            if 1 <= session && session <= MOST_HOLDERS && register.is_free(session) {
+            if 1 <= session && session <= MOST_HOLDERS && is_free(register, session) {
                 let _snapshot = register.open_read(session, at)?;
                 made = true;
             }
         }
         Call::Commit(session) => {
-            if register.is_writing(session) {
+            if is_writing(register, session) {
                 register.commit(session, at);
                 made = true;
             }
         }
         Call::Abort(session) => {
-            if register.is_writing(session) {
+            if is_writing(register, session) {
                 register.abort_end(session, at, AbortCause::Asked);
                 made = true;
             }
         }
         Call::Close(session) => {
-            if register.is_reading(session) {
+            if is_reading(register, session) {
                 register.close_read(session, at);
                 made = true;
             }
         }
         Call::Cube(session) => {
-            if register.is_free(session) {
+            if is_free(register, session) {
                 let _epoch = register.take_epoch(session, at)?;
                 made = true;
             }
         }
         Call::Open => {
-            if register.round().is_none() && !register.store_failed() {
+            if open_round(register).is_none() && !register.store_failed() {
                 let _answer = register.round_open()?;
                 made = true;
             }
         }
         Call::Safe => {
-            if let Some(epoch) = register.round() {
+            if let Some(epoch) = open_round(register) {
                 register.round_close(epoch, RoundEnd::Safe);
                 made = true;
             }
         }
         Call::Lost => {
-            if let Some(epoch) = register.round() {
+            if let Some(epoch) = open_round(register) {
                 register.round_close(epoch, RoundEnd::Lost(LostCause::Memory));
                 made = true;
             }
