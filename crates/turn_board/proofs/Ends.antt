@@ -1,0 +1,100 @@
+-- A table as it opens, and as it is closed.
+use Rattle.std.proofs.Common.{◌≡◌, ℕ, cond, eqb, ltb, zero, suc, ◌+◌, ◌-◌, ◌*◌, ◌%◌, ◌^◌, ◌<◌, ◌≤◌, ◌≢◌, ◌⊎◌, List, [], ◌∷◌, ◌++◌, length, take, drop, map, get_or, set, sym, refl, ap, ◌∙◌, subst, inl, inr, ⊎_elim, arith, length-set, append-nil, append_assoc, Option, Some, None}
+use mathlib.Core.Option.{none, some, some-injective, some-ne-none}
+use mathlib.Core.Logic.{dite}
+use mathlib.Core.List.{IsPrefix}
+use native.Mathlib.Decide.{ℕ_discrete}
+use lib.ListN.{get_elem?}
+use lib.Seq.{set-get_or}
+use Rattle.atomic_table.specs.Table.{State, Me, keeps, takes, gives, stepped, Allows, Splits, Joins, opening as table_opening, Final, Seen}
+use Rattle.atomic_table.specs.Table.{step as table_step}
+use Rattle.atomic_table.proofs.Lists.{set_again, set_here, set_else, at_longer, at_set}
+use Rattle.turn_board.specs.declared.history.Event.{Event}
+use Rattle.turn_board.specs.declared.history.Hand.{Hand}
+use Rattle.turn_board.specs.declared.lane.Lane.{Lane}
+use Rattle.turn_board.specs.declared.view.Stage.{Stage}
+use Rattle.turn_board.specs.declared.view.Stage.TheVariants.{Idle, Queued, Turn}
+use Rattle.turn_board.specs.declared.view.View.{View}
+use Rattle.turn_board.specs.History.{event, of_cell, of_caller, longer, Leads, AllFitAfter, IsRun}
+use Rattle.turn_board.specs.Hands.{number_of, placed, merged, fresh, with_made, event_of, Makes, Owns, FitsFirst}
+use Rattle.turn_board.specs.Rule.{Account, AreCounts, Awaits, HasTicket, HasTurn, InOrder, IsDrawn, IsHome, IsInOrder, IsLogOf, IsSeat, IsShutAt, Knows, SomeSeat, newcomer, ticket_word, turn_word}
+use Rattle.std.specs.Prelude.{replicate}
+use Rattle.turn_board.proofs.Logs.{longer_nothing}
+use Rattle.turn_board.proofs.Owners.{owns_fresh, owns_makes}
+use Rattle.turn_board.proofs.Places.{inside, there}
+use Rattle.turn_board.proofs.Tickets.{idle_has_no_turn}
+
+module _ {T Q A : Type 0} (step : T → Q → A → T → Type 0) (fits : List T → ℕ → List (Event Q A) → ℕ → Q → Type 0) (opening : List T) (callers : ℕ) where
+  abbrev start : Account T Q A
+  start = record { log = []; values = opening; served = λ _. 0; drawn = λ _. 0; holder = λ _ _. 0; owner = λ _. 0 }
+
+  first_seat : IsSeat callers opening start 0 (newcomer opening callers)
+  first_seat = let hands : Owns callers start.log start.owner 0 0 (fresh 0 callers) = owns_fresh callers start.log start.owner 0 callers 0 (omega arith) (λ n. refl) refl in record {
+    opened = λ _. refl;
+    stage = tt;
+    shut = λ k x e. absurd (some-ne-none x (sym e));
+    past = ([], refl);
+    also = ([], refl);
+    hands = hands;
+    own = owns_makes callers start.log start.owner 0 0 (fresh 0 callers) hands;
+  }
+
+  only_seat : (j : ℕ) (u : View T Q A) → get_elem? (newcomer opening callers ∷ []) j ≡ some u → IsSeat callers opening start j u
+  only_seat zero u e = subst (λ w. IsSeat callers opening start 0 w) (some-injective (newcomer opening callers) u e) first_seat
+  only_seat (suc j) u e = absurd (some-ne-none u (sym e))
+
+  -- a board that opens with these words and slots is in order
+  pub opens : (words : List ℕ) (lanes : List (Lane T)) → callers < 65536 → length words ≡ 16 * length opening → ((k : ℕ) → get_or words k 0 ≡ 0) → map (λ (l : Lane T). l.value) lanes ≡ opening
+      → InOrder step fits opening callers (table_opening words lanes (newcomer opening callers))
+  opens words lanes few wide zeros values = record {
+    account = start;
+    holds = record {
+      few = few;
+      counts = record { wide = wide; tickets = λ k l. zeros (ticket_word k); turns = λ k l. zeros (turn_word k) };
+      slots = same_length lanes ∙ ap length values;
+      log = record { long = refl; fitting = tt; leads = λ k x y is is'. some-injective x y (sym is ∙ is'); others = λ by l. refl };
+      turns = λ k l. refl;
+      behind = λ k l. omega arith;
+      lodged = λ k x e. inl (home lanes k x (ap (λ l. get_elem? l k) values ∙ e));
+      tickets = λ k p l after before. absurd (omega arith);
+      seats = only_seat;
+    };
+  }
+    where
+      same_length : (ls : List (Lane T)) → length (map some ls) ≡ length (map (λ (l : Lane T). l.value) ls)
+      same_length [] = refl
+      same_length (l ∷ ls) = ap suc (same_length ls)
+
+      home : (ls : List (Lane T)) (k : ℕ) (x : T) → get_elem? (map (λ (l : Lane T). l.value) ls) k ≡ some x → IsHome (map some ls) k x
+      home [] k x e = absurd (some-ne-none x (sym e))
+      home (l ∷ ls) zero x e = (l, refl, some-injective l.value x e)
+      home (l ∷ ls) (suc k) x e = home ls k x e
+
+  -- What a table is whose every turn a seat keeps for good: each slot has the value that the history leaves.
+  pub record IsClosed (v : View T Q A) (lanes : List (Lane T)) : Type 0 where
+    pub values : List T
+    pub log : List (Event Q A)
+    pub log_of : IsLogOf step fits callers opening values log
+    pub slots : (k : ℕ) (x : T) → get_elem? values k ≡ some x → (lane : Lane T) × (get_elem? lanes k ≡ some lane) × (lane.value ≡ x)
+    pub past : IsPrefix v.past log
+    pub own : Makes log v.hands
+
+  pub closes : (id : ℕ) (v : View T Q A) (words : List ℕ) (lanes : List (Lane T)) → v.stage ≡ Idle → length v.shut ≡ length opening
+      → Final (Seen (InOrder step fits opening callers) id v) words lanes → IsClosed v lanes
+  closes id v words lanes idle all f =
+      let s = f.0 in let o = f.1.0 in let at = f.1.1 in let slots_at = f.4 in
+      let a = o.account in let r = o.holds in let seat = r.seats id v at in record {
+        values = a.values;
+        log = a.log;
+        log_of = r.log;
+        slots = λ k x e. ⊎_elim (λ (h : IsHome s.homes k x). (h.0, slots_at k h.0 h.1, h.2))
+            (λ (t : SomeSeat s.views (a.holder k (a.served k)) (HasTurn k (a.served k) x)).
+              let l = r.log in let long = l.long in let i = inside a.values k x e in
+              let y = there v.shut k (omega arith) in
+              let d = seat.shut k y.0 y.1 in
+              let same : t.0 ≡ v = some-injective t.0 v (sym t.1 ∙ (ap (get_elem? s.views) d.holder ∙ at)) in
+              absurd (idle_has_no_turn v.stage k (a.served k) x idle (ap (λ (w : View T Q A). w.stage) (sym same) ∙ t.2)))
+            (r.lodged k x e);
+        past = seat.past;
+        own = owns_makes callers a.log a.owner id 0 v.hands seat.hands;
+      }

@@ -1,0 +1,48 @@
+-- What the calls of a board promise. Each speaks of what a pass knew before, and of what it knows after.
+use Rattle.std.specs.Prelude.{◌≡◌, ℕ, ◌≤◌, List, [], ◌∷◌, ◌++◌, length, Some}
+use mathlib.Core.List.{IsPrefix}
+use mathlib.Core.Option.{some}
+use lib.ListN.{get_elem?}
+use Rattle.turn_board.specs.declared.history.Event.{Event}
+use Rattle.turn_board.specs.declared.view.View.{View}
+use Rattle.turn_board.specs.History.{of_cell, of_caller, longer, Leads, AllFitAfter, IsRun}
+use Rattle.turn_board.specs.Hands.{number_of, merged, with_made, event_of, Makes, FitsFirst}
+
+module _ {T Q A : Type 0} (fits : List T → ℕ → List (Event Q A) → ℕ → Q → Type 0) where
+  -- The pass may make this call next.
+  abbrev pub FitsNext : View T Q A → ℕ → Q → Type 0
+  FitsNext v k call = FitsFirst fits v.opening v.hands k call
+
+module _ {T Q A : Type 0} (step : T → Q → A → T → Type 0) (fits : List T → ℕ → List (Event Q A) → ℕ → Q → Type 0) where
+  -- The call was answered so. The history goes on from all that the pass knew, by the calls of others, and ends with this call.
+  -- It is a run in which each call fitted, and of each caller of the pass it has the own calls and no others.
+  pub record IsCalled (v : View T Q A) (k : ℕ) (call : Q) (answer : A) (w : View T Q A) : Type 0 where
+    pub made : Event Q A
+    pub is : event_of v.hands k call answer ≡ Some made
+    pub more : List (Event Q A)
+    pub past : w.past ≡ (v.past ++ more) ++ made ∷ []
+    pub hands : w.hands ≡ with_made v.hands made
+    pub opening : w.opening ≡ v.opening
+    pub run : IsRun step fits v.opening w.past
+    pub own : Makes w.past w.hands
+
+  -- The pass has the callers of both, and knows a history of which each knew a prefix.
+  pub record IsGathered (v other w : View T Q A) : Type 0 where
+    pub past : w.past ≡ longer v.past other.past
+    pub hands : w.hands ≡ merged number_of v.hands other.hands
+    pub opening : w.opening ≡ v.opening
+    pub first : IsPrefix v.past w.past
+    pub second : IsPrefix other.past w.past
+    pub run : IsRun step fits v.opening w.past
+    pub own : Makes w.past w.hands
+
+  -- What a board leaves that a pass shuts: there is one history, a run in which each call fitted, that leaves the cells. What the
+  -- pass knew is a prefix of it. Of each caller of the pass it has the own calls and no others, and it has no caller but the board's.
+  pub record IsShut (callers : ℕ) (opening : List T) (v : View T Q A) (cells : List T) : Type 0 where
+    pub long : length cells ≡ length opening
+    pub log : List (Event Q A)
+    pub fitting : AllFitAfter fits opening [] log
+    pub leads : (k : ℕ) (x y : T) → get_elem? opening k ≡ some x → get_elem? cells k ≡ some y → Leads step x (of_cell k log) y
+    pub past : IsPrefix v.past log
+    pub own : Makes log v.hands
+    pub others : (by : ℕ) → callers ≤ by → of_caller by log ≡ []

@@ -1,0 +1,5 @@
+pub mod Calls
+pub mod Hands
+pub mod History
+pub mod Rule
+pub mod Steps

@@ -1,0 +1,27 @@
+//! The table's rule as a type.
+ghost use Rattle.turn_board.specs.Rule.{InOrder, newcomer};
+
+use crate::cells::Cells;
+use crate::lane::Lane;
+use crate::view::View;
+use atomic_table::TableRule;
+use std::marker::PhantomData;
+use std::snapshot::Snapshot;
+
+// What the table is told when it is made.
+pub struct Opening<T> {
+    pub cells: Snapshot<Vec<T>>,
+    pub callers: u64,
+}
+
+pub struct Order<C> {
+    cells: PhantomData<C>,
+}
+
+impl<C: Cells> TableRule<Lane<C::Cell>, View<C::Cell, C::Call, C::Answer>, Opening<C::Cell>>
+    for Order<C>
+{
+    ghost holds = { λ key. InOrder C.step C.fits key.cells.value.items key.callers };
+
+    ghost first = { λ key. newcomer key.cells.value.items key.callers };
+}
