@@ -16,10 +16,13 @@ use Rattle.turn_board.specs.declared.view.Stage.{Stage}
 use Rattle.turn_board.specs.declared.view.Stage.TheVariants.{Idle, Queued, Turn}
 use Rattle.turn_board.specs.declared.view.View.{View}
 use Rattle.turn_board.specs.History.{event, of_cell, of_caller, longer, Leads, AllFitAfter, IsRun}
-use Rattle.turn_board.specs.Hands.{number_of, placed, merged, fresh, with_made, event_of, Makes, Owns, FitsFirst}
+use Rattle.turn_board.specs.Hands.{number_of, fresh, with_made, event_of, Makes, Owns, FitsFirst}
+use Rattle.turn_board.specs.Rising.{placed, merged}
 use Rattle.turn_board.specs.Rule.{Account, AreCounts, Awaits, HasTicket, HasTurn, InOrder, IsDrawn, IsHome, IsInOrder, IsLogOf, IsSeat, IsShutAt, Knows, SomeSeat, newcomer, ticket_word, turn_word}
 use Rattle.std.specs.Prelude.{replicate}
-use Rattle.turn_board.proofs.Logs.{longer_nothing}
+use Rattle.atomic_table.proofs.Lists.{at_map}
+use Rattle.turn_board.specs.Calls.{IsShut}
+use Rattle.turn_board.specs.Lanes.{value_of, values_of}
 use Rattle.turn_board.proofs.Owners.{owns_fresh, owns_makes}
 use Rattle.turn_board.proofs.Places.{inside, there}
 use Rattle.turn_board.proofs.Tickets.{idle_has_no_turn}
@@ -44,7 +47,7 @@ module _ {T Q A : Type 0} (step : T → Q → A → T → Type 0) (fits : List T
   only_seat (suc j) u e = absurd (some-ne-none u (sym e))
 
   -- a board that opens with these words and slots is in order
-  pub opens : (words : List ℕ) (lanes : List (Lane T)) → callers < 65536 → length words ≡ 16 * length opening → ((k : ℕ) → get_or words k 0 ≡ 0) → map (λ (l : Lane T). l.value) lanes ≡ opening
+  pub opens : (words : List ℕ) (lanes : List (Lane T)) → callers < 65536 → length words ≡ 16 * length opening → ((k : ℕ) → get_or words k 0 ≡ 0) → values_of lanes ≡ opening
       → InOrder step fits opening callers (table_opening words lanes (newcomer opening callers))
   opens words lanes few wide zeros values = record {
     account = start;
@@ -61,11 +64,11 @@ module _ {T Q A : Type 0} (step : T → Q → A → T → Type 0) (fits : List T
     };
   }
     where
-      same_length : (ls : List (Lane T)) → length (map some ls) ≡ length (map (λ (l : Lane T). l.value) ls)
+      same_length : (ls : List (Lane T)) → length (map some ls) ≡ length (values_of ls)
       same_length [] = refl
       same_length (l ∷ ls) = ap suc (same_length ls)
 
-      home : (ls : List (Lane T)) (k : ℕ) (x : T) → get_elem? (map (λ (l : Lane T). l.value) ls) k ≡ some x → IsHome (map some ls) k x
+      home : (ls : List (Lane T)) (k : ℕ) (x : T) → get_elem? (values_of ls) k ≡ some x → IsHome (map some ls) k x
       home [] k x e = absurd (some-ne-none x (sym e))
       home (l ∷ ls) zero x e = (l, refl, some-injective l.value x e)
       home (l ∷ ls) (suc k) x e = home ls k x e
@@ -78,6 +81,7 @@ module _ {T Q A : Type 0} (step : T → Q → A → T → Type 0) (fits : List T
     pub slots : (k : ℕ) (x : T) → get_elem? values k ≡ some x → (lane : Lane T) × (get_elem? lanes k ≡ some lane) × (lane.value ≡ x)
     pub past : IsPrefix v.past log
     pub own : Makes log v.hands
+    pub long : length lanes ≡ length opening
 
   pub closes : (id : ℕ) (v : View T Q A) (words : List ℕ) (lanes : List (Lane T)) → v.stage ≡ Idle → length v.shut ≡ length opening
       → Final (Seen (InOrder step fits opening callers) id v) words lanes → IsClosed v lanes
@@ -97,4 +101,29 @@ module _ {T Q A : Type 0} (step : T → Q → A → T → Type 0) (fits : List T
             (r.lodged k x e);
         past = seat.past;
         own = owns_makes callers a.log a.owner id 0 v.hands seat.hands;
+        long = sym f.3 ∙ r.slots;
       }
+
+  -- what a closed board promises of the values in its lanes
+  pub shut_is : (v v' : View T Q A) (lanes : List (Lane T)) → v'.past ≡ v.past → v'.hands ≡ v.hands → IsClosed v' lanes
+      → IsShut step fits callers opening v (values_of lanes)
+  shut_is v v' lanes past hands c = let l = c.log_of in record {
+    long = same_length lanes ∙ c.long;
+    log = c.log;
+    fitting = l.fitting;
+    leads = λ k x y is is'. let n = l.long in let i = inside opening k x is in let z = there c.values k (omega arith) in let s = c.slots k z.0 z.1 in
+        let same : z.0 ≡ y = sym s.2 ∙ some-injective (s.0).value y (sym (at_map value_of lanes k s.0 s.1) ∙ is') in
+        subst (λ t. Leads step x (of_cell k c.log) t) same (l.leads k x z.0 is z.1);
+    past = subst (λ p. IsPrefix p c.log) past c.past;
+    own = subst (Makes c.log) hands c.own;
+    others = l.others;
+  }
+    where
+      same_length : (ls : List (Lane T)) → length (values_of ls) ≡ length ls
+      same_length [] = refl
+      same_length (l ∷ ls) = ap suc (same_length ls)
+
+pub zero_at : (n k : ℕ) → get_or (replicate n 0) k 0 ≡ 0
+zero_at zero k = refl
+zero_at (suc n) zero = refl
+zero_at (suc n) (suc k) = zero_at n k

@@ -9,3 +9,6 @@ mod Passing
 mod Settling
 mod Sharing
 mod Ends
+mod Chains
+mod Serving
+mod Gathering

@@ -5,7 +5,8 @@ use Rattle.std.proofs.lemmas.Bool.{ltb-true, ltb-false}
 use Rattle.turn_board.specs.declared.history.Event.{Event}
 use Rattle.turn_board.specs.declared.history.Hand.{Hand}
 use Rattle.turn_board.specs.History.{is_by_caller, of_caller}
-use Rattle.turn_board.specs.Hands.{number_of, placed, merged, fresh, Makes, Owns}
+use Rattle.turn_board.specs.Hands.{number_of, fresh, Makes, Owns}
+use Rattle.turn_board.specs.Rising.{placed, merged}
 use Rattle.turn_board.proofs.Logs.{part_between}
 
 module _ {Q A : Type 0} where

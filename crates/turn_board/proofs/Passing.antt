@@ -16,7 +16,8 @@ use Rattle.turn_board.specs.declared.view.Stage.{Stage}
 use Rattle.turn_board.specs.declared.view.Stage.TheVariants.{Idle, Queued, Turn}
 use Rattle.turn_board.specs.declared.view.View.{View}
 use Rattle.turn_board.specs.History.{event, of_cell, of_caller, longer, Leads, AllFitAfter, IsRun}
-use Rattle.turn_board.specs.Hands.{number_of, placed, merged, fresh, with_made, event_of, Makes, Owns, FitsFirst}
+use Rattle.turn_board.specs.Hands.{number_of, fresh, with_made, event_of, Makes, Owns, FitsFirst}
+use Rattle.turn_board.specs.Rising.{placed, merged}
 use Rattle.turn_board.specs.Rule.{Account, AreCounts, Awaits, HasTicket, HasTurn, InOrder, IsDrawn, IsHome, IsInOrder, IsLogOf, IsSeat, IsShutAt, Knows, SomeSeat, newcomer, ticket_word, turn_word}
 
 use Rattle.turn_board.specs.Steps.{after_call, HasJoined, PassesOn}
@@ -255,9 +256,9 @@ module _ {T Q A : Type 0} (step : T → Q → A → T → Type 0) (fits : List T
     }
 
   pub passes : (slots id k p : ℕ) (v : View T Q A) (lane : Lane T) (x : T) → v.stage ≡ Turn k p x → v.hands ≢ [] → v.also ≡ []
-      → (call : Q) (answer : A) (e : Event Q A) → event_of v.hands k call answer ≡ Some e → FitsFirst fits v.opening v.hands k call → step x call answer lane.value
-      → Allows (InOrder step fits opening callers) slots id (v, (k, lane) ∷ []) (turn_word k) (λ n. (n + 1) % 2 ^ 64) (PassesOn step fits (Some e) (table_step slots (turn_word k) 1 0 none) (v, (k, lane) ∷ []))
-  passes slots id k p v lane x turn some_hand none_also call answer e named fit stepped_so s o _ at _ = let a = o.account in let r = o.holds in (
+      → (call : Q) (answer : A) (named : Option (Event Q A)) (e : Event Q A) → named ≡ event_of v.hands k call answer → event_of v.hands k call answer ≡ Some e → FitsFirst fits v.opening v.hands k call → step x call answer lane.value
+      → Allows (InOrder step fits opening callers) slots id (v, (k, lane) ∷ []) (turn_word k) (λ n. (n + 1) % 2 ^ 64) (PassesOn step fits named (table_step slots (turn_word k) 1 0 none) (v, (k, lane) ∷ []))
+  passes slots id k p v lane x turn some_hand none_also call answer name e chosen named fit stepped_so s o _ at _ = let a = o.account in let r = o.holds in (
     w s a r id k p v at lane x turn some_hand none_also call answer e named fit stepped_so,
     gives,
     tt,
@@ -265,5 +266,18 @@ module _ {T Q A : Type 0} (step : T → Q → A → T → Type 0) (fits : List T
       account = b s a r id k p v at lane x turn some_hand none_also call answer e named fit stepped_so;
       holds = passed_on s a r id k p v at lane x turn some_hand none_also call answer e named fit stepped_so;
     },
-    (e, refl, joined s a r id k p v at lane x turn some_hand none_also call answer e named fit stepped_so),
+    (e, chosen ∙ named, joined s a r id k p v at lane x turn some_hand none_also call answer e named fit stepped_so),
   )
+
+  pub some_event : (k : ℕ) (call : Q) (answer : A) (hs : List (Hand Q A)) → hs ≢ [] → (e : Event Q A) × (event_of hs k call answer ≡ Some e)
+  some_event k call answer [] ne = absurd (ne refl)
+  some_event k call answer (h ∷ hs) ne = (event h.number k call answer, refl)
+
+  -- the same of a seat whose slots are known by an equation
+  pub passes_on : (slots id k p : ℕ) (me : Me (Lane T) (View T Q A)) (lane : Lane T) (x : T) → me.1 ≡ (k, lane) ∷ [] → me.0.stage ≡ Turn k p x → me.0.hands ≢ [] → me.0.also ≡ []
+      → (call : Q) (answer : A) (named : Option (Event Q A)) → named ≡ event_of me.0.hands k call answer → FitsFirst fits me.0.opening me.0.hands k call → step x call answer lane.value
+      → Allows (InOrder step fits opening callers) slots id me (turn_word k) (λ n. (n + 1) % 2 ^ 64) (PassesOn step fits named (table_step slots (turn_word k) 1 0 none) me)
+  passes_on slots id k p me lane x held turn some_hand none_also call answer named chosen fit stepped_so =
+      let e = some_event k call answer me.0.hands some_hand in
+      subst (λ cs. Allows (InOrder step fits opening callers) slots id (me.0, cs) (turn_word k) (λ n. (n + 1) % 2 ^ 64) (PassesOn step fits named (table_step slots (turn_word k) 1 0 none) (me.0, cs)))
+      (sym held) (passes slots id k p me.0 lane x turn some_hand none_also call answer named e.0 chosen e.1 fit stepped_so)

@@ -16,7 +16,8 @@ use Rattle.turn_board.specs.declared.view.Stage.{Stage}
 use Rattle.turn_board.specs.declared.view.Stage.TheVariants.{Idle, Queued, Turn}
 use Rattle.turn_board.specs.declared.view.View.{View}
 use Rattle.turn_board.specs.History.{event, of_cell, of_caller, longer, Leads, AllFitAfter, IsRun}
-use Rattle.turn_board.specs.Hands.{number_of, placed, merged, fresh, with_made, event_of, Makes, Owns, FitsFirst}
+use Rattle.turn_board.specs.Hands.{number_of, fresh, with_made, event_of, Makes, Owns, FitsFirst}
+use Rattle.turn_board.specs.Rising.{placed, merged}
 use Rattle.turn_board.specs.Rule.{Account, AreCounts, Awaits, HasTicket, HasTurn, InOrder, IsDrawn, IsHome, IsInOrder, IsLogOf, IsSeat, IsShutAt, Knows, SomeSeat, newcomer, ticket_word, turn_word}
 use Rattle.turn_board.specs.Steps.{HasSettled, Settles, settled_view}
 use Rattle.turn_board.proofs.Logs.{longer_is, longer_nothing, run_front}

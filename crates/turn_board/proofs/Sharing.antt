@@ -16,7 +16,8 @@ use Rattle.turn_board.specs.declared.view.Stage.{Stage}
 use Rattle.turn_board.specs.declared.view.Stage.TheVariants.{Idle, Queued, Turn}
 use Rattle.turn_board.specs.declared.view.View.{View}
 use Rattle.turn_board.specs.History.{event, of_cell, of_caller, longer, Leads, AllFitAfter, IsRun}
-use Rattle.turn_board.specs.Hands.{number_of, placed, merged, fresh, with_made, event_of, Makes, Owns, FitsFirst}
+use Rattle.turn_board.specs.Hands.{number_of, fresh, with_made, event_of, Makes, Owns, FitsFirst}
+use Rattle.turn_board.specs.Rising.{placed, merged}
 use Rattle.turn_board.specs.Rule.{Account, AreCounts, Awaits, HasTicket, HasTurn, InOrder, IsDrawn, IsHome, IsInOrder, IsLogOf, IsSeat, IsShutAt, Knows, SomeSeat, newcomer, ticket_word, turn_word}
 use Rattle.turn_board.specs.Steps.{first_part, last_part, joined_view, spent_view}
 use Rattle.std.proofs.lemmas.Bool.{cases_lt, le-ltb, lt-ltb}
@@ -25,20 +26,21 @@ use Rattle.turn_board.proofs.Owners.{lacks_other, makes_between, makes_merged, o
 use Rattle.turn_board.proofs.Places.{at_end, inside, put, put_here, put_else, seat_stays, seats_set, set_at}
 use Rattle.turn_board.proofs.Tickets.{idle_has_none, idle_has_no_turn, knows_stays}
 
-module _ {T Q A : Type 0} where
-  -- a seat with no ticket and no turn of its own awaits nothing
-  awaits_nothing : (v : View T Q A) (served k p : ℕ) → v.stage ≡ Idle → v.shut ≡ [] → Awaits served k p v → ⊥
-  awaits_nothing v served k p idle open h = ⊎_elim (λ (m : HasTicket k p v.stage). idle_has_none k p v.stage idle m)
-      (λ (m : (k < length v.shut) × (p ≡ served)). let l = m.0 in let z = ap length open in absurd (omega arith)) h.0
-
+module _ {Q A : Type 0} where
   makes_part : (past : List (Event Q A)) (m : ℕ) (hs : List (Hand Q A)) → Makes past hs → Makes past (take m hs) × Makes past (drop m hs)
   makes_part past zero hs all = (tt, all)
   makes_part past (suc m) [] all = (tt, tt)
   makes_part past (suc m) (h ∷ hs) all = let t = makes_part past m hs all.1 in ((all.0, t.0), t.1)
 
+module _ {T Q A : Type 0} where
+  -- a seat with no ticket and no turn of its own awaits nothing
+  awaits_nothing : (v : View T Q A) (served k p : ℕ) → v.stage ≡ Idle → v.shut ≡ [] → Awaits served k p v → ⊥
+  awaits_nothing v served k p idle unshut h = ⊎_elim (λ (m : HasTicket k p v.stage). idle_has_none k p v.stage idle m)
+      (λ (m : (k < length v.shut) × (p ≡ served)). let l = m.0 in let z = ap length unshut in absurd (omega arith)) h.0
+
 module _ {T Q A : Type 0} (step : T → Q → A → T → Type 0) (fits : List T → ℕ → List (Event Q A) → ℕ → Q → Type 0) (opening : List T) (callers : ℕ) where
   module _ (s : State (Lane T) (View T Q A)) (a : Account T Q A) (r : IsInOrder step fits opening callers s a) (id m : ℕ) (v : View T Q A) (at : get_elem? s.views id ≡ some v)
-      (idle : v.stage ≡ Idle) (open : v.shut ≡ []) (some_hand : v.hands ≢ []) (some_left : m < length v.hands) where
+      (idle : v.stage ≡ Idle) (unshut : v.shut ≡ []) (some_hand : v.hands ≢ []) (some_left : m < length v.hands) where
     seat : IsSeat callers opening a id v
     seat = r.seats id v at
 
@@ -74,7 +76,7 @@ module _ {T Q A : Type 0} (step : T → Q → A → T → Type 0) (fits : List T
     b = record { log = a.log; values = a.values; served = a.served; drawn = a.drawn; holder = a.holder; owner = owner }
 
     nothing_shut : (k : ℕ) (x : T) → get_elem? v.shut k ≡ some x → ⊥
-    nothing_shut k x e = let l = inside v.shut k x e in let z = ap length open in absurd (omega arith)
+    nothing_shut k x e = let l = inside v.shut k x e in let z = ap length unshut in absurd (omega arith)
 
     first_seat : IsSeat callers opening b id v1
     first_seat = record {
@@ -126,22 +128,22 @@ module _ {T Q A : Type 0} (step : T → Q → A → T → Type 0) (fits : List T
       behind = r.behind;
       lodged = λ i x e. ⊎_elim (λ (h : IsHome s.homes i x). inl h)
           (λ t. inr (stays (a.holder i (a.served i)) (HasTurn i (a.served i) x) (λ h. absurd (idle_has_no_turn v.stage i (a.served i) x idle h)) t)) (r.lodged i x e);
-      tickets = λ i q l after before. stays (a.holder i q) (Awaits (a.served i) i q) (λ h. absurd (awaits_nothing v (a.served i) i q idle open h)) (r.tickets i q l after before);
+      tickets = λ i q l after before. stays (a.holder i q) (Awaits (a.served i) i q) (λ h. absurd (awaits_nothing v (a.served i) i q idle unshut h)) (r.tickets i q l after before);
       seats = λ j u e. ⊎_elim (λ (t : get_elem? (set s.views id v1) j ≡ some u). seats_set s.views id v v1 at (λ j u. IsSeat callers opening b j u) first_seat (λ j u ne e. others j u ne (r.seats j u e)) j u t)
           (λ (t : (j ≡ new) × (v2 ≡ u)). subst (λ (n : ℕ × View T Q A). IsSeat callers opening b n.0 n.1) (λ z. (sym t.0 z, t.1 z)) last_seat) (at_end (set s.views id v1) v2 u j e);
     }
 
   pub splits : (id m : ℕ) (v : View T Q A) → v.stage ≡ Idle → v.shut ≡ [] → v.hands ≢ [] → m < length v.hands
       → Splits (InOrder step fits opening callers) id v (first_part m v) (last_part m v)
-  splits id m v idle open some_hand some_left s o at = record {
-    account = b s o.account o.holds id m v at idle open some_hand some_left;
-    holds = split_holds s o.account o.holds id m v at idle open some_hand some_left;
+  splits id m v idle unshut some_hand some_left s o at = record {
+    account = b s o.account o.holds id m v at idle unshut some_hand some_left;
+    holds = split_holds s o.account o.holds id m v at idle unshut some_hand some_left;
   }
 
   module _ (s : State (Lane T) (View T Q A)) (a : Account T Q A) (r : IsInOrder step fits opening callers s a) (id : ℕ) (v : View T Q A) (at : get_elem? s.views id ≡ some v)
       (other : ℕ) (u : View T Q A) (apart : other ≢ id) (there : get_elem? s.views other ≡ some u)
-      (idle : v.stage ≡ Idle) (open : v.shut ≡ []) (some_hand : v.hands ≢ []) (none_also : v.also ≡ [])
-      (idle' : u.stage ≡ Idle) (open' : u.shut ≡ []) (none_also' : u.also ≡ []) where
+      (idle : v.stage ≡ Idle) (unshut : v.shut ≡ []) (some_hand : v.hands ≢ []) (none_also : v.also ≡ [])
+      (idle' : u.stage ≡ Idle) (unshut' : u.shut ≡ []) (none_also' : u.also ≡ []) where
     seat1 : IsSeat callers opening a id v
     seat1 = r.seats id v at
 
@@ -176,7 +178,7 @@ module _ {T Q A : Type 0} (step : T → Q → A → T → Type 0) (fits : List T
     both_seat = let n = longer_is v.past u.past a.log seat1.past seat2.past in record {
       opened = λ _. seat1.opened some_hand;
       stage = tt;
-      shut = λ k x e. absurd (let l = inside v.shut k x e in let z = ap length open in omega arith);
+      shut = λ k x e. absurd (let l = inside v.shut k x e in let z = ap length unshut in omega arith);
       past = seat1.past;
       also = seat2.past;
       hands = owns_both callers a.log a.owner owner1 id other 0 v.hands u.hands (λ n is. owner1_given n is)
@@ -228,14 +230,14 @@ module _ {T Q A : Type 0} (step : T → Q → A → T → Type 0) (fits : List T
           (λ t. inr (stays1 (a.holder i (a.served i)) (HasTurn i (a.served i) x)
             (λ h. idle_has_no_turn v.stage i (a.served i) x idle h) (λ h. idle_has_no_turn u.stage i (a.served i) x idle' h) t)) (r.lodged i x e);
       tickets = λ i q l after before. stays1 (a.holder i q) (Awaits (a.served i) i q)
-          (λ h. awaits_nothing v (a.served i) i q idle open h) (λ h. awaits_nothing u (a.served i) i q idle' open' h) (r.tickets i q l after before);
+          (λ h. awaits_nothing v (a.served i) i q idle unshut h) (λ h. awaits_nothing u (a.served i) i q idle' unshut' h) (r.tickets i q l after before);
       seats = seats_set mid other u spent_view there1 (λ j w. IsSeat callers opening b1 j w) spent_seat
           (λ j w ne e. seats_set s.views id v both at (λ j w. (j ≢ other) → IsSeat callers opening b1 j w) (λ _. both_seat) (λ j w ne e ne'. others1 j w ne ne' (r.seats j w e)) j w e ne);
     }
 
   pub joins : (id : ℕ) (v : View T Q A) (other : ℕ) (u : View T Q A) → v.stage ≡ Idle → v.shut ≡ [] → v.hands ≢ [] → v.also ≡ [] → u.stage ≡ Idle → u.shut ≡ [] → u.also ≡ []
       → Joins (InOrder step fits opening callers) id v other u (joined_view v u) spent_view
-  joins id v other u idle open some_hand none_also idle' open' none_also' s o at apart there' = let there = sym (set_else s.views id other (joined_view v u) apart) ∙ there' in record {
-    account = b1 s o.account o.holds id v at other u apart there idle open some_hand none_also idle' open' none_also';
-    holds = joined_holds s o.account o.holds id v at other u apart there idle open some_hand none_also idle' open' none_also';
+  joins id v other u idle unshut some_hand none_also idle' unshut' none_also' s o at apart there' = let there = sym (set_else s.views id other (joined_view v u) apart) ∙ there' in record {
+    account = b1 s o.account o.holds id v at other u apart there idle unshut some_hand none_also idle' unshut' none_also';
+    holds = joined_holds s o.account o.holds id v at other u apart there idle unshut some_hand none_also idle' unshut' none_also';
   }

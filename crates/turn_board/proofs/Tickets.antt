@@ -12,7 +12,7 @@ use Rattle.turn_board.specs.declared.lane.Lane.{Lane}
 use Rattle.turn_board.specs.declared.view.Stage.{Stage}
 use Rattle.turn_board.specs.declared.view.Stage.TheVariants.{Idle, Queued, Turn}
 use Rattle.turn_board.specs.declared.view.View.{View}
-use Rattle.turn_board.specs.Hands.{Owns}
+use Rattle.turn_board.specs.Hands.{first_number, Owns}
 use Rattle.turn_board.specs.Rule.{Account, AreCounts, Awaits, HasTicket, HasTurn, IsDrawn, IsInOrder, IsSeat, IsShutAt, Knows, SomeSeat, ticket_word, turn_word}
 use Rattle.turn_board.proofs.Pigeons.{pigeons}
 use Rattle.turn_board.proofs.Places.{put, put_here, put_else}
@@ -68,10 +68,6 @@ module _ {T Q A : Type 0} (callers : ℕ) (opening : List T) where
     knows_stays b shut Idle tickets turn kn = tt
     knows_stays b shut (Queued k p) tickets turn kn = tickets k p kn
     knows_stays b shut (Turn k p x) tickets turn kn = let t = turn k p x kn.0 kn.1 kn.2 in (tickets k p kn.0, t.0, t.1)
-
-abbrev first_number : {Q A : Type 0} → List (Hand Q A) → ℕ
-first_number [] = 0
-first_number (h ∷ hs) = h.number
 
 first_owned : {Q A : Type 0} (callers : ℕ) (log : List (Event Q A)) (owner : ℕ → ℕ) (j low : ℕ) (hs : List (Hand Q A)) → hs ≢ [] → Owns callers log owner j low hs
     → (first_number hs < callers) × (owner (first_number hs) ≡ j)

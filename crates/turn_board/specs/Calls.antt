@@ -4,9 +4,24 @@ use mathlib.Core.List.{IsPrefix}
 use mathlib.Core.Option.{some}
 use lib.ListN.{get_elem?}
 use Rattle.turn_board.specs.declared.history.Event.{Event}
+use Rattle.turn_board.specs.declared.history.Hand.{Hand}
 use Rattle.turn_board.specs.declared.view.View.{View}
 use Rattle.turn_board.specs.History.{of_cell, of_caller, longer, Leads, AllFitAfter, IsRun}
-use Rattle.turn_board.specs.Hands.{number_of, merged, with_made, event_of, Makes, FitsFirst}
+use Rattle.turn_board.specs.Hands.{fresh, number_of, with_made, event_of, Makes, FitsFirst}
+use Rattle.turn_board.specs.Rising.{merged}
+
+module _ {T Q A : Type 0} where
+  -- The first pass, with all callers. There is no history yet.
+  pub record IsFirst (callers : ℕ) (cells : List T) (v : View T Q A) : Type 0 where
+    pub hands : v.hands ≡ fresh 0 callers
+    pub past : v.past ≡ []
+    pub opening : v.opening ≡ cells
+
+  -- The pass has these callers, and knows what the other knew.
+  pub record HasPart (part : List (Hand Q A)) (v w : View T Q A) : Type 0 where
+    pub hands : w.hands ≡ part
+    pub past : w.past ≡ v.past
+    pub opening : w.opening ≡ v.opening
 
 module _ {T Q A : Type 0} (fits : List T → ℕ → List (Event Q A) → ℕ → Q → Type 0) where
   -- The pass may make this call next.

@@ -1,23 +1,17 @@
 -- The callers of a pass, each with its own calls.
-use Rattle.std.specs.Prelude.{◌≡◌, ℕ, cond, ltb, suc, zero, ◌<◌, ◌≤◌, List, [], ◌∷◌, ◌++◌, Option, Some, None}
+use Rattle.std.specs.Prelude.{◌≡◌, ℕ, suc, zero, ◌<◌, ◌≤◌, List, [], ◌∷◌, ◌++◌, Option, Some, None}
 use Rattle.turn_board.specs.declared.history.Event.{Event}
 use Rattle.turn_board.specs.declared.history.Hand.{Hand}
 use Rattle.turn_board.specs.History.{event, of_caller}
 
-module _ {X : Type 0} (key : X → ℕ) where
-  -- One more item in a list that rises by the key.
-  abbrev pub placed : X → List X → List X
-  placed x [] = x ∷ []
-  placed x (y ∷ ys) = cond (ltb (key x) (key y)) (x ∷ y ∷ ys) (y ∷ placed x ys)
-
-  -- The items of both lists, in a list that rises by the key.
-  abbrev pub merged : List X → List X → List X
-  merged xs [] = xs
-  merged xs (y ∷ ys) = merged (placed y xs) ys
-
 module _ {Q A : Type 0} where
   abbrev pub number_of : Hand Q A → ℕ
   number_of h = h.number
+
+  -- The least number, which a pass with these callers acts as.
+  abbrev pub first_number : List (Hand Q A) → ℕ
+  first_number [] = 0
+  first_number (h ∷ hs) = h.number
 
   -- So many callers with no calls, from a number on.
   abbrev pub fresh : ℕ → ℕ → List (Hand Q A)

@@ -8,7 +8,8 @@ use Rattle.turn_board.specs.declared.view.Stage.{Stage}
 use Rattle.turn_board.specs.declared.view.Stage.TheVariants.{Idle, Queued, Turn}
 use Rattle.turn_board.specs.declared.view.View.{View}
 use Rattle.turn_board.specs.History.{longer, IsRun}
-use Rattle.turn_board.specs.Hands.{number_of, merged, with_made, Makes, FitsFirst}
+use Rattle.turn_board.specs.Hands.{number_of, with_made, Makes, FitsFirst}
+use Rattle.turn_board.specs.Rising.{merged}
 use Rattle.turn_board.specs.Rule.{ticket_word}
 
 module _ {T Q A : Type 0} where

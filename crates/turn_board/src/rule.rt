@@ -25,3 +25,12 @@ impl<C: Cells> TableRule<Lane<C::Cell>, View<C::Cell, C::Call, C::Answer>, Openi
 
     ghost first = { λ key. newcomer key.cells.value.items key.callers };
 }
+
+impl<T> Drop for Opening<T> {
+    fn drop(self) {
+        let Self {
+            cells: _,
+            callers: _,
+        } = self;
+    }
+}

@@ -1,0 +1,116 @@
+-- From the steps of a split and of a gather to what they promise.
+use Rattle.std.proofs.Common.{◌≡◌, ℕ, zero, suc, ◌+◌, ◌-◌, ◌<◌, ◌≤◌, ◌≢◌, List, [], ◌∷◌, ◌++◌, length, take, drop, map, sym, refl, ap, ◌∙◌, subst, arith}
+use mathlib.Core.List.{reverse}
+use Rattle.atomic_table.specs.Table.{Me}
+use Rattle.turn_board.specs.declared.history.Event.{Event}
+use Rattle.turn_board.specs.declared.history.Hand.{Hand}
+use Rattle.turn_board.specs.declared.lane.Lane.{Lane}
+use Rattle.turn_board.specs.declared.view.View.{View}
+use Rattle.turn_board.specs.Calls.{HasPart, IsGathered}
+use Rattle.turn_board.specs.Hands.{number_of}
+use Rattle.turn_board.specs.Lanes.{value_of, values_of}
+use Rattle.turn_board.specs.Rising.{itself, merged}
+use Rattle.turn_board.specs.Seats.{IsIdle}
+use Rattle.turn_board.specs.Steps.{first_part, last_part, joined_view, settled_view, HasSettled}
+use Rattle.turn_board.proofs.Chains.{length_merged, map_merged, reverse_first}
+use Rattle.turn_board.proofs.Serving.{some_long}
+
+module _ {Q A : Type 0} where
+  some_of : (hs : List (Hand Q A)) (n : ℕ) → length hs ≡ n → 0 < n → hs ≢ []
+  some_of hs n long some_n none_left = let z = ap length none_left in omega arith
+
+  first_length : (n : ℕ) (hs : List (Hand Q A)) → n ≤ length hs → length (take n hs) ≡ n
+  first_length zero hs le = refl
+  first_length (suc n) [] le = absurd (omega arith)
+  first_length (suc n) (h ∷ hs) le = ap suc (first_length n hs (omega arith))
+
+  pub last_length : (n : ℕ) (hs : List (Hand Q A)) → length (drop n hs) ≡ length hs - n
+  last_length zero hs = omega arith
+  last_length (suc n) [] = omega arith
+  last_length (suc n) (h ∷ hs) = let r = last_length n hs in omega arith
+
+  pub merged_some : (hs gs : List (Hand Q A)) → hs ≢ [] → merged number_of hs gs ≢ []
+  merged_some hs gs ne = let l = some_long hs ne in some_of (merged number_of hs gs) (length hs + length gs) (length_merged hs gs) (omega arith)
+
+module _ {T Q A : Type 0} where
+  module _ (v : View T Q A) (m : Me (Lane T) (View T Q A)) (n : ℕ) where
+    pub first_idle : m ≡ (first_part n v, []) → v.also ≡ [] → 0 < n → n ≤ length v.hands → IsIdle m
+    first_idle e none_also some_n le = record {
+      stage = ap (λ (z : Me (Lane T) (View T Q A)). z.0.stage) e;
+      slots = ap (λ (z : Me (Lane T) (View T Q A)). z.1) e;
+      hands = some_of m.0.hands n (ap (λ (z : Me (Lane T) (View T Q A)). length z.0.hands) e ∙ first_length n v.hands le) some_n;
+      also = ap (λ (z : Me (Lane T) (View T Q A)). z.0.also) e ∙ none_also;
+    }
+
+    pub first_count : m ≡ (first_part n v, []) → n ≤ length v.hands → length m.0.hands ≡ n
+    first_count e le = ap (λ (z : Me (Lane T) (View T Q A)). length z.0.hands) e ∙ first_length n v.hands le
+
+    pub first_has : m ≡ (first_part n v, []) → HasPart (take n v.hands) v m.0
+    first_has e = record {
+      hands = ap (λ (z : Me (Lane T) (View T Q A)). z.0.hands) e;
+      past = ap (λ (z : Me (Lane T) (View T Q A)). z.0.past) e;
+      opening = ap (λ (z : Me (Lane T) (View T Q A)). z.0.opening) e;
+    }
+
+    pub last_idle : m ≡ (last_part n v, []) → v.also ≡ [] → n < length v.hands → IsIdle m
+    last_idle e none_also lt = record {
+      stage = ap (λ (z : Me (Lane T) (View T Q A)). z.0.stage) e;
+      slots = ap (λ (z : Me (Lane T) (View T Q A)). z.1) e;
+      hands = some_of m.0.hands (length v.hands - n) (ap (λ (z : Me (Lane T) (View T Q A)). length z.0.hands) e ∙ last_length n v.hands) (omega arith);
+      also = ap (λ (z : Me (Lane T) (View T Q A)). z.0.also) e ∙ none_also;
+    }
+
+    pub last_count : m ≡ (last_part n v, []) → length m.0.hands ≡ length v.hands - n
+    last_count e = ap (λ (z : Me (Lane T) (View T Q A)). length z.0.hands) e ∙ last_length n v.hands
+
+    pub last_has : m ≡ (last_part n v, []) → HasPart (drop n v.hands) v m.0
+    last_has e = record {
+      hands = ap (λ (z : Me (Lane T) (View T Q A)). z.0.hands) e;
+      past = ap (λ (z : Me (Lane T) (View T Q A)). z.0.past) e;
+      opening = ap (λ (z : Me (Lane T) (View T Q A)). z.0.opening) e;
+    }
+
+  module _ (step : T → Q → A → T → Type 0) (fits : List T → ℕ → List (Event Q A) → ℕ → Q → Type 0) (v u : View T Q A) (m m' : Me (Lane T) (View T Q A)) (cs : List (ℕ × Lane T))
+      (e : m ≡ (joined_view v u, cs)) (settled : HasSettled step fits m m') where
+    told : HasSettled step fits (joined_view v u, cs) m'
+    told = subst (λ (z : Me (Lane T) (View T Q A)). HasSettled step fits z m') e settled
+
+    pub gathered : IsGathered step fits v u m'.0
+    gathered = let h = told in record {
+      past = ap (λ (z : View T Q A). z.past) h.view;
+      hands = ap (λ (z : View T Q A). z.hands) h.view;
+      opening = ap (λ (z : View T Q A). z.opening) h.view;
+      first = h.first;
+      second = h.second;
+      run = h.run;
+      own = h.own;
+    }
+
+    pub gathered_idle : cs ≡ [] → v.hands ≢ [] → IsIdle m'
+    gathered_idle none_held some_hand = let h = told in record {
+      stage = ap (λ (z : View T Q A). z.stage) h.view;
+      slots = h.slots ∙ none_held;
+      hands = λ z. merged_some v.hands u.hands some_hand (sym (ap (λ (z : View T Q A). z.hands) h.view) ∙ z);
+      also = ap (λ (z : View T Q A). z.also) h.view;
+    }
+
+    pub gathered_shut : m'.0.shut ≡ v.shut
+    gathered_shut = let h = told in ap (λ (z : View T Q A). z.shut) h.view
+
+    pub gathered_numbers : map number_of m'.0.hands ≡ merged itself (map number_of v.hands) (map number_of u.hands)
+    gathered_numbers = let h = told in ap (λ (z : View T Q A). map number_of z.hands) h.view ∙ map_merged v.hands u.hands
+
+    pub gathered_count : length m'.0.hands ≡ length v.hands + length u.hands
+    gathered_count = let h = told in ap (λ (z : View T Q A). length z.hands) h.view ∙ length_merged v.hands u.hands
+
+    pub gathered_few : length v.hands + length u.hands < 65536
+    gathered_few = let h = told in let few = h.few in let n = gathered_count in omega arith
+
+module _ {T : Type 0} where
+  values_snoc : (ls : List (Lane T)) (l : Lane T) → values_of (ls ++ l ∷ []) ≡ values_of ls ++ l.value ∷ []
+  values_snoc [] l = refl
+  values_snoc (x ∷ ls) l = ap (λ t. x.value ∷ t) (values_snoc ls l)
+
+  pub values_reversed : (ls : List (Lane T)) → values_of (reverse ls) ≡ reverse (values_of ls)
+  values_reversed [] = refl
+  values_reversed (l ∷ ls) = ap values_of (reverse_first l ls) ∙ (values_snoc (reverse ls) l ∙ (ap (λ t. t ++ l.value ∷ []) (values_reversed ls) ∙ sym (reverse_first l.value (values_of ls))))
