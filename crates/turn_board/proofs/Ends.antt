@@ -19,7 +19,7 @@ use Rattle.turn_board.specs.History.{event, of_cell, of_caller, longer, Leads, A
 use Rattle.turn_board.specs.Hands.{number_of, fresh, with_made, event_of, Makes, Owns, FitsFirst}
 use Rattle.turn_board.specs.Rising.{placed, merged}
 use Rattle.turn_board.specs.Rule.{Account, AreCounts, Awaits, HasTicket, HasTurn, InOrder, IsDrawn, IsHome, IsInOrder, IsLogOf, IsSeat, IsShutAt, Knows, SomeSeat, newcomer, ticket_word, turn_word}
-use Rattle.std.specs.Prelude.{replicate}
+use Rattle.std.specs.Prelude.{Bool, false, replicate}
 use Rattle.atomic_table.proofs.Lists.{at_map}
 use Rattle.turn_board.specs.Calls.{IsShut}
 use Rattle.turn_board.specs.Lanes.{value_of, values_of}
@@ -123,7 +123,21 @@ module _ {T Q A : Type 0} (step : T → Q → A → T → Type 0) (fits : List T
       same_length [] = refl
       same_length (l ∷ ls) = ap suc (same_length ls)
 
-pub zero_at : (n k : ℕ) → get_or (replicate n 0) k 0 ≡ 0
-zero_at zero k = refl
-zero_at (suc n) zero = refl
-zero_at (suc n) (suc k) = zero_at n k
+pub zero_at : (n k z : ℕ) → get_or (replicate n z) k z ≡ z
+zero_at zero k z = refl
+zero_at (suc n) zero z = refl
+zero_at (suc n) (suc k) z = zero_at n k z
+
+pub replicate_length : (n z : ℕ) → length (replicate n z) ≡ n
+replicate_length zero z = refl
+replicate_length (suc n) z = ap suc (replicate_length n z)
+
+pub set_false : (l : List Bool) (i : ℕ) → get_or (set l i false) i false ≡ false
+set_false [] i = refl
+set_false (b ∷ l) zero = refl
+set_false (b ∷ l) (suc i) = set_false l i
+
+pub take_at : {X : Type 0} (l : List X) (i : ℕ) (x : X) → get_elem? l i ≡ some x → take (suc i) l ≡ take i l ++ x ∷ []
+take_at [] i x e = absurd (some-ne-none x (sym e))
+take_at (y ∷ l) zero x e = λ t. some-injective y x e t ∷ []
+take_at (y ∷ l) (suc i) x e = ap (λ t. y ∷ t) (take_at l i x e)

@@ -9,10 +9,11 @@ use Rattle.turn_board.specs.declared.view.View.{View}
 use Rattle.turn_board.specs.Calls.{HasPart, IsGathered}
 use Rattle.turn_board.specs.Hands.{number_of}
 use Rattle.turn_board.specs.Lanes.{value_of, values_of}
-use Rattle.turn_board.specs.Rising.{itself, merged}
+use Rattle.turn_board.specs.Rising.{itself, merged, numbers_from}
+use Rattle.turn_board.specs.Rule.{newcomer}
 use Rattle.turn_board.specs.Seats.{IsIdle}
 use Rattle.turn_board.specs.Steps.{first_part, last_part, joined_view, settled_view, HasSettled}
-use Rattle.turn_board.proofs.Chains.{length_merged, map_merged, reverse_first}
+use Rattle.turn_board.proofs.Chains.{length_fresh, length_merged, map_fresh, map_merged, reverse_first}
 use Rattle.turn_board.proofs.Serving.{some_long}
 
 module _ {Q A : Type 0} where
@@ -114,3 +115,21 @@ module _ {T : Type 0} where
   pub values_reversed : (ls : List (Lane T)) → values_of (reverse ls) ≡ reverse (values_of ls)
   values_reversed [] = refl
   values_reversed (l ∷ ls) = ap values_of (reverse_first l ls) ∙ (values_snoc (reverse ls) l ∙ (ap (λ t. t ++ l.value ∷ []) (values_reversed ls) ∙ sym (reverse_first l.value (values_of ls))))
+
+module _ {T Q A : Type 0} (opening : List T) (callers : ℕ) (m : Me (Lane T) (View T Q A)) (e : m ≡ (newcomer opening callers, [])) where
+  pub new_count : length m.0.hands ≡ callers
+  new_count = ap (λ (z : Me (Lane T) (View T Q A)). length z.0.hands) e ∙ length_fresh Q A callers 0
+
+  pub new_idle : 0 < callers → IsIdle m
+  new_idle some = record {
+    stage = ap (λ (z : Me (Lane T) (View T Q A)). z.0.stage) e;
+    slots = ap (λ (z : Me (Lane T) (View T Q A)). z.1) e;
+    hands = some_of m.0.hands callers new_count some;
+    also = ap (λ (z : Me (Lane T) (View T Q A)). z.0.also) e;
+  }
+
+  pub new_shut : m.0.shut ≡ []
+  new_shut = ap (λ (z : Me (Lane T) (View T Q A)). z.0.shut) e
+
+  pub new_numbers : map number_of m.0.hands ≡ numbers_from 0 callers
+  new_numbers = ap (λ (z : Me (Lane T) (View T Q A)). map number_of z.0.hands) e ∙ map_fresh Q A callers 0

@@ -1,6 +1,7 @@
 use Rattle.std.proofs.Common.{sym, ap, ◌∙◌, subst}
 use Rattle.std.specs.Mem.Slots.{slots_items}
 use Rattle.turn_board.specs.Calls.{IsShut}
+use Rattle.turn_board.specs.Lanes.{values_of}
 use Rattle.turn_board.proofs.Ends.{closes, shut_is}
 use Rattle.turn_board.proofs.board.Board.shut.Goals as goal
 
@@ -12,4 +13,4 @@ returns g c =
     let closed = closes step fits opening callers c.keep_all.new.seat.id m'.0 (slots_items c.close_with.result.words) lanes kept.stage (c.keep_all.ensures.all ∙ b.counted) c.close_with.ensures.values.2 in
     let shut = shut_is step fits opening callers m.0 m'.0 lanes kept.past kept.hands closed in
     subst (λ cells. IsShut step fits callers opening c.args.pass.seat.me.0 cells) (sym c.empty.ensures)
-    (subst (λ seat. IsShut step fits callers opening seat.me.0 _) c.into_parts-seat.ensures.seat shut)
+    (subst (λ v. IsShut step fits callers opening v (values_of lanes)) (ap (λ s. s.me.0) c.into_parts-seat.ensures.seat) shut)
