@@ -18,7 +18,6 @@ use Rattle.turn_board.specs.declared.view.View.{View}
 use Rattle.turn_board.specs.History.{of_cell, of_caller, longer, Leads, AllFitAfter, IsRun}
 use Rattle.turn_board.specs.Hands.{Makes, Owns, FitsFirst}
 use Rattle.turn_board.specs.Rule.{Account, AreCounts, Awaits, HasTicket, HasTurn, InOrder, IsDrawn, IsHome, IsInOrder, IsSeat, IsShutAt, Knows, SomeSeat, ticket_word, turn_word}
-
 use Rattle.turn_board.specs.Steps.{at_stage, HasDrawn}
 use Rattle.turn_board.proofs.Places.{put, put_here, put_else, seat_stays, seats_set, set_at}
 use Rattle.turn_board.proofs.Tickets.{drawn_ticket, idle_has_none, idle_has_no_turn, knows_stays, one_more_ticket}
@@ -44,7 +43,7 @@ module _ {T Q A : Type 0} (step : T → Q → A → T → Type 0) (fits : List T
     theirs : (i q : ℕ) → q < a.drawn i → b.holder i q ≡ a.holder i q
     theirs i q l = dite (ℕ_discrete i k)
         (λ e. let ne : q ≢ p = λ is. let same = ap a.drawn e in omega arith in
-          ap (λ f. f q) (put_here a.holder k i (put (a.holder k) p id) e) ∙ (put_else (a.holder k) p q id ne ∙ ap (λ n. a.holder n q) (sym e)))
+        ap (λ f. f q) (put_here a.holder k i (put (a.holder k) p id) e) ∙ (put_else (a.holder k) p q id ne ∙ ap (λ n. a.holder n q) (sym e)))
         (λ ne. ap (λ f. f q) (put_else a.holder k i (put (a.holder k) p id) ne))
 
     drawn_at : (i : ℕ) → i ≡ k → b.drawn i ≡ suc p
@@ -91,18 +90,18 @@ module _ {T Q A : Type 0} (step : T → Q → A → T → Type 0) (fits : List T
     lodged : (i : ℕ) (x : T) → get_elem? a.values i ≡ some x → IsHome s.homes i x ⊎ SomeSeat views (b.holder i (a.served i)) (HasTurn i (a.served i) x)
     lodged i x e = ⊎_elim (λ (h : IsHome s.homes i x). inl h)
         (λ (t : SomeSeat s.views (a.holder i (a.served i)) (HasTurn i (a.served i) x)).
-          let seat = r.seats (a.holder i (a.served i)) t.0 t.1 in
-          let d = drawn_ticket callers opening a (a.holder i (a.served i)) t.0.shut i (a.served i) t.0.stage seat.stage (subst (HasTicket i (a.served i)) (sym t.2) (refl, refl)) in
-          inr (subst (λ j. SomeSeat views j (HasTurn i (a.served i) x)) (sym (theirs i (a.served i) d.before))
-            (seat_stays s.views id me.0 w at (a.holder i (a.served i)) (HasTurn i (a.served i) x) (HasTurn i (a.served i) x)
-            (λ h. absurd (idle_has_no_turn me.0.stage i (a.served i) x idle h)) (λ u h. h) t)))
+        let seat = r.seats (a.holder i (a.served i)) t.0 t.1 in
+        let d = drawn_ticket callers opening a (a.holder i (a.served i)) t.0.shut i (a.served i) t.0.stage seat.stage (subst (HasTicket i (a.served i)) (sym t.2) (refl, refl)) in
+        inr (subst (λ j. SomeSeat views j (HasTurn i (a.served i) x)) (sym (theirs i (a.served i) d.before))
+        (seat_stays s.views id me.0 w at (a.holder i (a.served i)) (HasTurn i (a.served i) x) (HasTurn i (a.served i) x)
+        (λ h. absurd (idle_has_no_turn me.0.stage i (a.served i) x idle h)) (λ u h. h) t)))
         (r.lodged i x e)
 
     tickets : (i q : ℕ) → i < length opening → a.served i ≤ q → q < b.drawn i → SomeSeat views (b.holder i q) (Awaits (a.served i) i q)
     tickets i q l after before = ⊎_elim
         (λ (old : q < a.drawn i). subst (λ j. SomeSeat views j (Awaits (a.served i) i q)) (sym (theirs i q old))
-          (seat_stays s.views id me.0 w at (a.holder i q) (Awaits (a.served i) i q) (Awaits (a.served i) i q)
-          (λ h. (⊎_elim (λ (m : HasTicket i q me.0.stage). absurd (idle_has_none i q me.0.stage idle m)) (λ m. inr m) h.0, h.1)) (λ u h. h) (r.tickets i q l after old)))
+        (seat_stays s.views id me.0 w at (a.holder i q) (Awaits (a.served i) i q) (Awaits (a.served i) i q)
+        (λ h. (⊎_elim (λ (m : HasTicket i q me.0.stage). absurd (idle_has_none i q me.0.stage idle m)) (λ m. inr m) h.0, h.1)) (λ u h. h) (r.tickets i q l after old)))
         (λ (new : (i ≡ k) × (q ≡ p)). (w, ap (get_elem? views) (ap (λ (n : ℕ × ℕ). b.holder n.0 n.1) (λ z. (new.0 z, new.1 z)) ∙ mine) ∙ set_at s.views id me.0 w at, (inl (sym new.0, sym new.1), some_hand)))
         (older i q before)
 

@@ -93,11 +93,11 @@ module _ {T Q A : Type 0} (step : T → Q → A → T → Type 0) (fits : List T
         log_of = r.log;
         slots = λ k x e. ⊎_elim (λ (h : IsHome s.homes k x). (h.0, slots_at k h.0 h.1, h.2))
             (λ (t : SomeSeat s.views (a.holder k (a.served k)) (HasTurn k (a.served k) x)).
-              let l = r.log in let long = l.long in let i = inside a.values k x e in
-              let y = there v.shut k (omega arith) in
-              let d = seat.shut k y.0 y.1 in
-              let same : t.0 ≡ v = some-injective t.0 v (sym t.1 ∙ (ap (get_elem? s.views) d.holder ∙ at)) in
-              absurd (idle_has_no_turn v.stage k (a.served k) x idle (ap (λ (w : View T Q A). w.stage) (sym same) ∙ t.2)))
+            let l = r.log in let long = l.long in let i = inside a.values k x e in
+            let y = there v.shut k (omega arith) in
+            let d = seat.shut k y.0 y.1 in
+            let same : t.0 ≡ v = some-injective t.0 v (sym t.1 ∙ (ap (get_elem? s.views) d.holder ∙ at)) in
+            absurd (idle_has_no_turn v.stage k (a.served k) x idle (ap (λ (w : View T Q A). w.stage) (sym same) ∙ t.2)))
             (r.lodged k x e);
         past = seat.past;
         own = owns_makes callers a.log a.owner id 0 v.hands seat.hands;

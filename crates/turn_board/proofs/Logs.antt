@@ -92,8 +92,11 @@ module _ {T Q A : Type 0} (fits : List T → ℕ → List (Event Q A) → ℕ �
   pub fit_more : (before es : List (Event Q A)) (e : Event Q A) → AllFitAfter fits opening before es
       → fits opening e.caller (of_caller e.caller (before ++ es)) e.cell e.call → AllFitAfter fits opening before (es ++ e ∷ [])
   fit_more before [] e all f = (subst (λ l. fits opening e.caller (of_caller e.caller l) e.cell e.call) (append-nil before) f, tt)
-  fit_more before (d ∷ es) e all f = (all.0, fit_more (before ++ d ∷ []) es e all.1
-      (subst (λ l. fits opening e.caller (of_caller e.caller l) e.cell e.call) (sym (append_assoc before (d ∷ []) es)) f))
+  fit_more before (d ∷ es) e all f = (
+    all.0,
+    fit_more (before ++ d ∷ []) es e all.1
+        (subst (λ l. fits opening e.caller (of_caller e.caller l) e.cell e.call) (sym (append_assoc before (d ∷ []) es)) f),
+  )
 
   pub fit_front : (before es more : List (Event Q A)) → AllFitAfter fits opening before (es ++ more) → AllFitAfter fits opening before es
   fit_front before [] more all = tt

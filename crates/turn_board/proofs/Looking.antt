@@ -18,7 +18,6 @@ use Rattle.turn_board.specs.declared.view.View.{View}
 use Rattle.turn_board.specs.History.{of_cell, of_caller, longer, Leads, AllFitAfter, IsRun}
 use Rattle.turn_board.specs.Hands.{Makes, Owns, FitsFirst}
 use Rattle.turn_board.specs.Rule.{Account, AreCounts, Awaits, HasTicket, HasTurn, InOrder, IsDrawn, IsHome, IsInOrder, IsSeat, IsShutAt, Knows, SomeSeat, ticket_word, turn_word}
-
 use Rattle.turn_board.specs.Steps.{at_stage, HasCome, LookedAt, Looks, HasShut, ShutAt, Shuts, shut_view}
 use Rattle.turn_board.proofs.Places.{at_end, inside, there, seat_stays, seats_set, set_at}
 use Rattle.turn_board.proofs.Tickets.{queued_has_no_turn, queued_ticket, turn_came}
@@ -55,9 +54,9 @@ module _ {T Q A : Type 0} (step : T → Q → A → T → Type 0) (fits : List T
     home : a.served k ≡ p → IsHome s.homes k value.0
     home now = ⊎_elim (λ (h : IsHome s.homes k value.0). h)
         (λ (t : SomeSeat s.views (a.holder k (a.served k)) (HasTurn k (a.served k) value.0)). let d = ticket in
-          let is : a.holder k (a.served k) ≡ id = ap (a.holder k) now ∙ d.holder in
-          let same : t.0 ≡ me.0 = some-injective t.0 me.0 (sym t.1 ∙ (ap (get_elem? s.views) is ∙ at)) in
-          absurd (queued_has_no_turn me.0.stage k p k (a.served k) value.0 queued (ap (λ (v : View T Q A). v.stage) (sym same) ∙ t.2)))
+        let is : a.holder k (a.served k) ≡ id = ap (a.holder k) now ∙ d.holder in
+        let same : t.0 ≡ me.0 = some-injective t.0 me.0 (sym t.1 ∙ (ap (get_elem? s.views) is ∙ at)) in
+        absurd (queued_has_no_turn me.0.stage k p k (a.served k) value.0 queued (ap (λ (v : View T Q A). v.stage) (sym same) ∙ t.2)))
         (r.lodged k value.0 value.1)
 
     module _ (now : a.served k ≡ p) where
@@ -85,14 +84,14 @@ module _ {T Q A : Type 0} (step : T → Q → A → T → Type 0) (fits : List T
       lodged : (i : ℕ) (x : T) → get_elem? a.values i ≡ some x → IsHome (set s.homes k none) i x ⊎ SomeSeat (set s.views id w) (a.holder i (a.served i)) (HasTurn i (a.served i) x)
       lodged i x e = dite (ℕ_discrete i k)
           (λ is. let d = ticket in
-            let mine : a.holder i (a.served i) ≡ id = ap (λ n. a.holder n (a.served n)) is ∙ (ap (a.holder k) now ∙ d.holder) in
-            let same : lane.value ≡ x = some-injective lane.value x (sym held ∙ (ap (get_elem? a.values) (sym is) ∙ e)) in
-            let turn : Turn k p lane.value ≡ Turn i (a.served i) x = λ z. Turn (sym is z) ((sym now ∙ ap a.served (sym is)) z) (same z) in
-            inr (w, ap (get_elem? (set s.views id w)) mine ∙ set_at s.views id me.0 w at, turn))
+          let mine : a.holder i (a.served i) ≡ id = ap (λ n. a.holder n (a.served n)) is ∙ (ap (a.holder k) now ∙ d.holder) in
+          let same : lane.value ≡ x = some-injective lane.value x (sym held ∙ (ap (get_elem? a.values) (sym is) ∙ e)) in
+          let turn : Turn k p lane.value ≡ Turn i (a.served i) x = λ z. Turn (sym is z) ((sym now ∙ ap a.served (sym is)) z) (same z) in
+          inr (w, ap (get_elem? (set s.views id w)) mine ∙ set_at s.views id me.0 w at, turn))
           (λ ne. ⊎_elim (λ (h : IsHome s.homes i x). inl (h.0, set_else s.homes k i none ne ∙ h.1, h.2))
-            (λ t. inr (seat_stays s.views id me.0 w at (a.holder i (a.served i)) (HasTurn i (a.served i) x) (HasTurn i (a.served i) x)
-              (λ h. absurd (queued_has_no_turn me.0.stage k p i (a.served i) x queued h)) (λ u h. h) t))
-            (r.lodged i x e))
+          (λ t. inr (seat_stays s.views id me.0 w at (a.holder i (a.served i)) (HasTurn i (a.served i) x) (HasTurn i (a.served i) x)
+          (λ h. absurd (queued_has_no_turn me.0.stage k p i (a.served i) x queued h)) (λ u h. h) t))
+          (r.lodged i x e))
 
       taken : IsInOrder step fits opening callers record { words = s.words; homes = set s.homes k none; views = set s.views id w } a
       taken = record {
@@ -167,7 +166,7 @@ module _ {T Q A : Type 0} (step : T → Q → A → T → Type 0) (fits : List T
           behind = r.behind;
           lodged = λ i y e. ⊎_elim (λ (h : IsHome s.homes i y). inl h)
               (λ t. inr (seat_stays s.views id me.0 v at (a.holder i (a.served i)) (HasTurn i (a.served i) y) (HasTurn i (a.served i) y)
-                (λ h. absurd (queued_has_no_turn me.0.stage k p i (a.served i) y queued h)) (λ u h. h) t))
+              (λ h. absurd (queued_has_no_turn me.0.stage k p i (a.served i) y queued h)) (λ u h. h) t))
               (r.lodged i y e);
           tickets = λ i q l after before. seat_stays s.views id me.0 v at (a.holder i q) (Awaits (a.served i) i q) (Awaits (a.served i) i q) (shut_awaits i q) (λ u h. h) (r.tickets i q l after before);
           seats = seats_set s.views id me.0 v at (λ j u. IsSeat callers opening a j u) shut_ours (λ j u _ e. r.seats j u e);
@@ -180,7 +179,7 @@ module _ {T Q A : Type 0} (step : T → Q → A → T → Type 0) (fits : List T
       → Allows (InOrder step fits opening callers) slots id me (turn_word k) (λ n. n) (Looks can fits (table_step slots (turn_word k) 0 0 none) me)
   looks can safe slots id k p me queued some_hand s o _ at _ = let a = o.account in let r = o.holds in let n : ℕ = get_or s.words (turn_word k) 0 in dite (ℕ_discrete n (p % 2 ^ 64))
       (λ hit. let now = came s a r id k p me at queued some_hand hit in let lane' = lane s a r id k p me at queued some_hand now in
-        let w' = w s a r id k p me at queued some_hand now in (
+      let w' = w s a r id k p me at queued some_hand now in (
         w',
         takes k lane',
         (home s a r id k p me at queued some_hand now).1,

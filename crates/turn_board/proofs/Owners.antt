@@ -88,7 +88,6 @@ module _ {Q A : Type 0} where
         go later true is = let lt = ltb-true h.number x.number is in (from, below, mine, made, (omega arith, o.1, o.2, o.3, o.4))
         go later false is = let ge = ltb-false h.number x.number is in let ne = lacks.0 in (o.0, o.1, o.2, o.3, later (omega (arith, ne)))
 
-
   makes_placed : (past : List (Event Q A)) (h : Hand Q A) (hs : List (Hand Q A)) → of_caller h.number past ≡ h.made → Makes past hs → Makes past (placed number_of h hs)
   makes_placed past h [] made m = (made, tt)
   makes_placed past h (x ∷ xs) made m = go (makes_placed past h xs made m.1) (ltb h.number x.number)

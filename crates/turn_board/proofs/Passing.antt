@@ -19,7 +19,6 @@ use Rattle.turn_board.specs.History.{event, of_cell, of_caller, longer, Leads, A
 use Rattle.turn_board.specs.Hands.{number_of, fresh, with_made, event_of, Makes, Owns, FitsFirst}
 use Rattle.turn_board.specs.Rising.{placed, merged}
 use Rattle.turn_board.specs.Rule.{Account, AreCounts, Awaits, HasTicket, HasTurn, InOrder, IsDrawn, IsHome, IsInOrder, IsLogOf, IsSeat, IsShutAt, Knows, SomeSeat, newcomer, ticket_word, turn_word}
-
 use Rattle.turn_board.specs.Steps.{after_call, HasJoined, PassesOn}
 use Rattle.turn_board.proofs.Logs.{fit_more, leads_more, longer_nothing, by_caller, by_other, off_cell, on_cell, prefix_more}
 use Rattle.turn_board.proofs.Looking.{run_of}
@@ -126,12 +125,12 @@ module _ {T Q A : Type 0} (step : T → Q → A → T → Type 0) (fits : List T
           (subst (λ (t : ℕ × Q). fits opening e.caller (of_caller e.caller a.log) t.0 t.1) (λ z. (sym on z, sym asked z)) n.fit);
       leads = λ i y z is is'. dite (ℕ_discrete i k)
           (λ here. let same : lane.value ≡ z = some-injective lane.value z
-              (sym (set_here a.values k lane.value (let d = known.0 in let n = l.long in let c = d.cell in omega arith)) ∙ (ap (get_elem? values) (sym here) ∙ is')) in
-            let at_cell : i ≡ e.cell = here ∙ sym on in
-            let before = l.leads k y x (ap (get_elem? opening) (sym here) ∙ is) known.2 in
-            let grows : of_cell i log ≡ of_cell k a.log ++ e ∷ [] = ap (λ n. of_cell n log) at_cell ∙ (on_cell a.log e ∙ ap (λ n. of_cell n a.log ++ e ∷ []) on) in
-            subst (λ es. Leads step y es z) (sym grows) (leads_more step (of_cell k a.log) y x z e before
-              (subst (λ (t : Q × A × T). step x t.0 t.1 t.2) (λ u. (sym asked u, sym answered u, same u)) stepped_so)))
+          (sym (set_here a.values k lane.value (let d = known.0 in let n = l.long in let c = d.cell in omega arith)) ∙ (ap (get_elem? values) (sym here) ∙ is')) in
+          let at_cell : i ≡ e.cell = here ∙ sym on in
+          let before = l.leads k y x (ap (get_elem? opening) (sym here) ∙ is) known.2 in
+          let grows : of_cell i log ≡ of_cell k a.log ++ e ∷ [] = ap (λ n. of_cell n log) at_cell ∙ (on_cell a.log e ∙ ap (λ n. of_cell n a.log ++ e ∷ []) on) in
+          subst (λ es. Leads step y es z) (sym grows) (leads_more step (of_cell k a.log) y x z e before
+          (subst (λ (t : Q × A × T). step x t.0 t.1 t.2) (λ u. (sym asked u, sym answered u, same u)) stepped_so)))
           (λ ne. subst (λ es. Leads step y es z) (sym (off_cell a.log e i (λ q. ne (q ∙ on)))) (l.leads i y z is (sym (value_else i ne) ∙ is')));
       others = λ n le. let nx = next in let bl = nx.below in by_other a.log e n (λ z. omega arith) ∙ l.others n le;
     }
@@ -139,7 +138,7 @@ module _ {T Q A : Type 0} (step : T → Q → A → T → Type 0) (fits : List T
     turns : (i : ℕ) → i < length opening → length (of_cell i log) ≡ b.served i
     turns i l = dite (ℕ_discrete i k)
         (λ here. let grows : of_cell i log ≡ of_cell k a.log ++ e ∷ [] = ap (λ n. of_cell n log) (here ∙ sym on) ∙ (on_cell a.log e ∙ ap (λ n. of_cell n a.log ++ e ∷ []) on) in
-          ap length grows ∙ (one_longer (of_cell k a.log) ∙ (ap suc (let d = known.0 in r.turns k d.cell) ∙ sym (served_here i here))))
+        ap length grows ∙ (one_longer (of_cell k a.log) ∙ (ap suc (let d = known.0 in r.turns k d.cell) ∙ sym (served_here i here))))
         (λ ne. ap length (off_cell a.log e i (λ q. ne (q ∙ on))) ∙ (r.turns i l ∙ sym (served_else i ne)))
       where
         one_longer : (l : List (Event Q A)) → length (l ++ e ∷ []) ≡ suc (length l)
@@ -154,28 +153,37 @@ module _ {T Q A : Type 0} (step : T → Q → A → T → Type 0) (fits : List T
     lodged : (i : ℕ) (y : T) → get_elem? values i ≡ some y → IsHome (set s.homes k (some lane)) i y ⊎ SomeSeat (set s.views id w) (a.holder i (b.served i)) (HasTurn i (b.served i) y)
     lodged i y is = dite (ℕ_discrete i k)
         (λ here. let d = known.0 in let c = d.cell in let n = r.slots in let l = r.log in let m = l.long in
-          inl (lane, ap (get_elem? (set s.homes k (some lane))) here ∙ set_here s.homes k (some lane) (omega arith),
-            some-injective lane.value y (sym (set_here a.values k lane.value (omega arith)) ∙ (ap (get_elem? values) (sym here) ∙ is))))
+        inl (
+          lane,
+          ap (get_elem? (set s.homes k (some lane))) here ∙ set_here s.homes k (some lane) (omega arith),
+          some-injective lane.value y (sym (set_here a.values k lane.value (omega arith)) ∙ (ap (get_elem? values) (sym here) ∙ is)),
+        ))
         (λ ne. ⊎_elim (λ (h : IsHome s.homes i y). inl (h.0, set_else s.homes k i (some lane) ne ∙ h.1, h.2))
-          (λ t. inr (subst (λ n. SomeSeat (set s.views id w) (a.holder i n) (HasTurn i n y)) (sym (served_else i ne))
-            (seat_stays s.views id v w at (a.holder i (a.served i)) (HasTurn i (a.served i) y) (HasTurn i (a.served i) y)
-            (λ h. absurd (ne (sym (turn_ticket v.stage k p i (a.served i) x turn (subst (HasTicket i (a.served i)) (sym h) (refl, refl))).0))) (λ u h. h) t)))
-          (r.lodged i y (sym (value_else i ne) ∙ is)))
+        (λ t. inr (subst (λ n. SomeSeat (set s.views id w) (a.holder i n) (HasTurn i n y)) (sym (served_else i ne))
+        (seat_stays s.views id v w at (a.holder i (a.served i)) (HasTurn i (a.served i) y) (HasTurn i (a.served i) y)
+        (λ h. absurd (ne (sym (turn_ticket v.stage k p i (a.served i) x turn (subst (HasTicket i (a.served i)) (sym h) (refl, refl))).0))) (λ u h. h) t)))
+        (r.lodged i y (sym (value_else i ne) ∙ is)))
 
     tickets : (i q : ℕ) → i < length opening → b.served i ≤ q → q < a.drawn i → SomeSeat (set s.views id w) (a.holder i q) (Awaits (b.served i) i q)
     tickets i q l after before = dite (ℕ_discrete i k)
         (λ here. let is = served_here i here in let same = ap a.served here in
-          seat_stays s.views id v w at (a.holder i q) (Awaits (a.served i) i q) (Awaits (b.served i) i q)
-          (λ h. (⊎_elim (λ (m : HasTicket i q v.stage). let t = turn_ticket v.stage k p i q x turn m in let e' = t.1 in let was = now in absurd (omega arith))
-              (λ (m : (i < length v.shut) × (q ≡ a.served i)). let e' = m.1 in absurd (omega arith)) h.0, hands_left v.hands h.1))
-          (λ u h. (⊎_elim (λ (m : HasTicket i q u.stage). inl m) (λ (m : (i < length u.shut) × (q ≡ a.served i)). let e' = m.1 in absurd (omega arith)) h.0, h.1))
-          (r.tickets i q l (omega arith) before))
+        seat_stays s.views id v w at (a.holder i q) (Awaits (a.served i) i q) (Awaits (b.served i) i q)
+        (λ h. (
+          ⊎_elim (λ (m : HasTicket i q v.stage). let t = turn_ticket v.stage k p i q x turn m in let e' = t.1 in let was = now in absurd (omega arith))
+              (λ (m : (i < length v.shut) × (q ≡ a.served i)). let e' = m.1 in absurd (omega arith)) h.0,
+          hands_left v.hands h.1,
+        ))
+        (λ u h. (⊎_elim (λ (m : HasTicket i q u.stage). inl m) (λ (m : (i < length u.shut) × (q ≡ a.served i)). let e' = m.1 in absurd (omega arith)) h.0, h.1))
+        (r.tickets i q l (omega arith) before))
         (λ ne. let is = served_else i ne in
-          seat_stays s.views id v w at (a.holder i q) (Awaits (a.served i) i q) (Awaits (b.served i) i q)
-          (λ h. (⊎_elim (λ (m : HasTicket i q v.stage). absurd (ne (sym (turn_ticket v.stage k p i q x turn m).0)))
-              (λ (m : (i < length v.shut) × (q ≡ a.served i)). inr (m.0, m.1 ∙ sym is)) h.0, hands_left v.hands h.1))
-          (λ u h. subst (λ n. Awaits n i q u) (sym is) h)
-          (r.tickets i q l (omega arith) before))
+        seat_stays s.views id v w at (a.holder i q) (Awaits (a.served i) i q) (Awaits (b.served i) i q)
+        (λ h. (
+          ⊎_elim (λ (m : HasTicket i q v.stage). absurd (ne (sym (turn_ticket v.stage k p i q x turn m).0)))
+              (λ (m : (i < length v.shut) × (q ≡ a.served i)). inr (m.0, m.1 ∙ sym is)) h.0,
+          hands_left v.hands h.1,
+        ))
+        (λ u h. subst (λ n. Awaits n i q u) (sym is) h)
+        (r.tickets i q l (omega arith) before))
       where
         hands_left : (hs : List (Hand Q A)) → hs ≢ [] → with_made hs e ≢ []
         hands_left [] ne none_left = ne refl
@@ -184,7 +192,7 @@ module _ {T Q A : Type 0} (step : T → Q → A → T → Type 0) (fits : List T
     others : (j : ℕ) (u : View T Q A) → j ≢ id → IsSeat callers opening a j u → IsSeat callers opening b j u
     others j u other t =
         let away : (i q : ℕ) → a.holder i q ≡ j → a.served i ≡ q → i ≢ k = λ i q h is here.
-            other (sym h ∙ (ap (λ (n : ℕ × ℕ). a.holder n.0 n.1) (λ z. (here z, (sym is ∙ ap a.served here) z)) ∙ mine)) in record {
+        other (sym h ∙ (ap (λ (n : ℕ × ℕ). a.holder n.0 n.1) (λ z. (here z, (sym is ∙ ap a.served here) z)) ∙ mine)) in record {
           opened = t.opened;
           stage = knows_stays callers opening a j b u.shut u.stage
               (λ i q d. record {

@@ -21,9 +21,9 @@ moved_below c m n below last apart = dite (ℕ_discrete n c)
 moved_same : (c m a b : ℕ) → a ≢ m → b ≢ m → moved c m a ≡ moved c m b → a ≡ b
 moved_same c m a b na nb e = dite (ℕ_discrete a c)
     (λ ea. dite (ℕ_discrete b c) (λ eb. ea ∙ sym eb)
-        (λ neb. absurd (nb (sym (sym (moved_hit c m a ea) ∙ (e ∙ moved_miss c m b neb))))))
+    (λ neb. absurd (nb (sym (sym (moved_hit c m a ea) ∙ (e ∙ moved_miss c m b neb))))))
     (λ nea. dite (ℕ_discrete b c) (λ eb. absurd (na (sym (moved_miss c m a nea) ∙ (e ∙ moved_hit c m b eb))))
-        (λ neb. sym (moved_miss c m a nea) ∙ (e ∙ moved_miss c m b neb)))
+    (λ neb. sym (moved_miss c m a nea) ∙ (e ∙ moved_miss c m b neb)))
 
 pub pigeons : (c n : ℕ) (f : (i : ℕ) → i < n → ℕ) → ((i : ℕ) (l : i < n) → f i l < c) → ((i j : ℕ) (l : i < n) (m : j < n) → f i l ≡ f j m → i ≡ j) → n ≤ c
 pigeons zero zero f below apart = omega arith
@@ -35,6 +35,6 @@ pigeons (suc c) (suc n) f below apart =
     let m : ℕ = f n last in
     let differs : (i : ℕ) (l : i < n) → f i (up i l) ≢ m = λ i l e. let is = apart i n (up i l) last e in omega arith in
     let r = pigeons c n (λ i l. moved c m (f i (up i l)))
-        (λ i l. moved_below c m (f i (up i l)) (below i (up i l)) (below n last) (differs i l))
-        (λ i j l k e. apart i j (up i l) (up j k) (moved_same c m (f i (up i l)) (f j (up j k)) (differs i l) (differs j k) e)) in
+    (λ i l. moved_below c m (f i (up i l)) (below i (up i l)) (below n last) (differs i l))
+    (λ i j l k e. apart i j (up i l) (up j k) (moved_same c m (f i (up i l)) (f j (up j k)) (differs i l) (differs j k) e)) in
     omega arith

@@ -187,9 +187,9 @@ module _ {T Q A : Type 0} (step : T → Q → A → T → Type 0) (fits : List T
           seat2.hands;
       own = makes_merged (longer v.past u.past) v.hands u.hands
           (makes_between callers a.log a.owner id 0 v.hands v.past (longer v.past u.past) n.first n.within
-            (subst (λ l. Makes l v.hands) (ap (longer v.past) none_also ∙ longer_nothing v.past) seat1.own) seat1.hands)
+          (subst (λ l. Makes l v.hands) (ap (longer v.past) none_also ∙ longer_nothing v.past) seat1.own) seat1.hands)
           (makes_between callers a.log a.owner other 0 u.hands u.past (longer v.past u.past) n.second n.within
-            (subst (λ l. Makes l u.hands) (ap (longer u.past) none_also' ∙ longer_nothing u.past) seat2.own) seat2.hands);
+          (subst (λ l. Makes l u.hands) (ap (longer u.past) none_also' ∙ longer_nothing u.past) seat2.own) seat2.hands);
     }
 
     spent_seat : IsSeat callers opening b1 other spent_view
@@ -228,7 +228,7 @@ module _ {T Q A : Type 0} (step : T → Q → A → T → Type 0) (fits : List T
       behind = r.behind;
       lodged = λ i x e. ⊎_elim (λ (h : IsHome s.homes i x). inl h)
           (λ t. inr (stays1 (a.holder i (a.served i)) (HasTurn i (a.served i) x)
-            (λ h. idle_has_no_turn v.stage i (a.served i) x idle h) (λ h. idle_has_no_turn u.stage i (a.served i) x idle' h) t)) (r.lodged i x e);
+          (λ h. idle_has_no_turn v.stage i (a.served i) x idle h) (λ h. idle_has_no_turn u.stage i (a.served i) x idle' h) t)) (r.lodged i x e);
       tickets = λ i q l after before. stays1 (a.holder i q) (Awaits (a.served i) i q)
           (λ h. awaits_nothing v (a.served i) i q idle unshut h) (λ h. awaits_nothing u (a.served i) i q idle' unshut' h) (r.tickets i q l after before);
       seats = seats_set mid other u spent_view there1 (λ j w. IsSeat callers opening b1 j w) spent_seat

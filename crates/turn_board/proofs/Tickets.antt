@@ -55,10 +55,10 @@ module _ {T Q A : Type 0} (callers : ℕ) (opening : List T) where
     pub one_ticket : (v : View T Q A) (k p q : ℕ) → IsSeat callers opening a j v → Awaits (a.served k) k p v → Awaits (a.served k) k q v → p ≡ q
     one_ticket v k p q s x y = ⊎_elim
         (λ (h : HasTicket k p v.stage). ⊎_elim (λ (h' : HasTicket k q v.stage). same_ticket k p q v.stage h h')
-          (λ (m : (k < length v.shut) × (q ≡ a.served k)). let d = drawn_ticket v.shut k p v.stage s.stage h in let b = d.behind in let i = m.0 in absurd (omega arith)) y.0)
+        (λ (m : (k < length v.shut) × (q ≡ a.served k)). let d = drawn_ticket v.shut k p v.stage s.stage h in let b = d.behind in let i = m.0 in absurd (omega arith)) y.0)
         (λ (m : (k < length v.shut) × (p ≡ a.served k)). ⊎_elim
-          (λ (h' : HasTicket k q v.stage). let d = drawn_ticket v.shut k q v.stage s.stage h' in let b = d.behind in let i = m.0 in absurd (omega arith))
-          (λ (m' : (k < length v.shut) × (q ≡ a.served k)). m.1 ∙ sym m'.1) y.0) x.0
+        (λ (h' : HasTicket k q v.stage). let d = drawn_ticket v.shut k q v.stage s.stage h' in let b = d.behind in let i = m.0 in absurd (omega arith))
+        (λ (m' : (k < length v.shut) × (q ≡ a.served k)). m.1 ∙ sym m'.1) y.0) x.0
 
     -- what the seat knows stays so under another account, where its tickets and its turn do
     pub knows_stays : (b : Account T Q A) (shut : List T) (st : Stage T)
@@ -119,7 +119,7 @@ module _ (cells : ℕ) (words : List ℕ) (served drawn : ℕ → ℕ) (k : ℕ)
     wide = length-set words (ticket_word k) n ∙ c.wide;
     tickets = λ i l. dite (ℕ_discrete i k)
         (λ e. ap (λ (m : ℕ). get_or (set words (ticket_word k) n) (ticket_word m) 0) e ∙ (get_or-set_same words (ticket_word k) n 0 (omega arith)
-            ∙ (more_of (drawn k) (get_or words (ticket_word k) 0) (c.tickets k inside) ∙ ap (λ (m : ℕ). m % 2 ^ 64) (sym (put_here drawn k i (suc (drawn k)) e)))))
+        ∙ (more_of (drawn k) (get_or words (ticket_word k) 0) (c.tickets k inside) ∙ ap (λ (m : ℕ). m % 2 ^ 64) (sym (put_here drawn k i (suc (drawn k)) e)))))
         (λ ne. get_or-set_other words (ticket_word k) (ticket_word i) n 0 (λ e. ne (omega arith)) ∙ (c.tickets i l ∙ ap (λ (m : ℕ). m % 2 ^ 64) (sym (put_else drawn k i (suc (drawn k)) ne))));
     turns = λ i l. get_or-set_other words (ticket_word k) (turn_word i) n 0 (λ e. omega arith) ∙ c.turns i l;
   }
@@ -130,6 +130,6 @@ module _ (cells : ℕ) (words : List ℕ) (served drawn : ℕ → ℕ) (k : ℕ)
     tickets = λ i l. get_or-set_other words (turn_word k) (ticket_word i) n 0 (λ e. omega arith) ∙ c.tickets i l;
     turns = λ i l. dite (ℕ_discrete i k)
         (λ e. ap (λ (m : ℕ). get_or (set words (turn_word k) n) (turn_word m) 0) e ∙ (get_or-set_same words (turn_word k) n 0 (omega arith)
-            ∙ (more_of (served k) (get_or words (turn_word k) 0) (c.turns k inside) ∙ ap (λ (m : ℕ). m % 2 ^ 64) (sym (put_here served k i (suc (served k)) e)))))
+        ∙ (more_of (served k) (get_or words (turn_word k) 0) (c.turns k inside) ∙ ap (λ (m : ℕ). m % 2 ^ 64) (sym (put_here served k i (suc (served k)) e)))))
         (λ ne. get_or-set_other words (turn_word k) (turn_word i) n 0 (λ e. ne (omega arith)) ∙ (c.turns i l ∙ ap (λ (m : ℕ). m % 2 ^ 64) (sym (put_else served k i (suc (served k)) ne))));
   }

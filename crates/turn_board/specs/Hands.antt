@@ -1,5 +1,5 @@
 -- The callers of a pass, each with its own calls.
-use Rattle.std.specs.Prelude.{◌≡◌, ℕ, suc, zero, ◌<◌, ◌≤◌, List, [], ◌∷◌, ◌++◌, Option, Some, None}
+use Rattle.std.specs.Prelude.{◌≡◌, ℕ, suc, zero, ◌-◌, ◌<◌, ◌≤◌, List, [], ◌∷◌, ◌++◌, length, take, drop, Option, Some, None}
 use Rattle.turn_board.specs.declared.history.Event.{Event}
 use Rattle.turn_board.specs.declared.history.Hand.{Hand}
 use Rattle.turn_board.specs.History.{event, of_caller}
@@ -12,6 +12,13 @@ module _ {Q A : Type 0} where
   abbrev pub first_number : List (Hand Q A) → ℕ
   first_number [] = 0
   first_number (h ∷ hs) = h.number
+
+  -- All callers but the last, so many, and these last.
+  abbrev pub all_but : ℕ → List (Hand Q A) → List (Hand Q A)
+  all_but count hs = take (length hs - count) hs
+
+  abbrev pub last_of : ℕ → List (Hand Q A) → List (Hand Q A)
+  last_of count hs = drop (length hs - count) hs
 
   -- So many callers with no calls, from a number on.
   abbrev pub fresh : ℕ → ℕ → List (Hand Q A)

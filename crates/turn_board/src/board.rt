@@ -10,8 +10,6 @@ mod close;
 mod open;
 mod share;
 
-pub use open::NoMemory;
-
 use crate::bell::Bell;
 use crate::cells::Cells;
 use crate::lane::Lane;
@@ -19,6 +17,7 @@ use crate::plays::{Draw, Look, Naming, PassOn};
 use crate::rule::{Opening, Order};
 use crate::view::View;
 use atomic_table::{Seat, Table};
+pub use open::NoMemory;
 use std::alloc::Global;
 use std::hint::spin_loop;
 use std::snapshot::Snapshot;
@@ -30,7 +29,13 @@ const LOOKS: u32 = 300;
 
 /// Cells that threads work on, each call at its turn. Only `shut` ends a board.
 pub struct Board<C: Cells> {
-    table: Table<Lane<C::Cell>, View<C::Cell, C::Call, C::Answer>, Opening<C::Cell>, Order<C>, Global>,
+    table: Table<
+        Lane<C::Cell>,
+        View<C::Cell, C::Call, C::Answer>,
+        Opening<C::Cell>,
+        Order<C>,
+        Global,
+    >,
     cells: u32,
     room: Vec<C::Cell>,
     bells: Vec<Bell>,

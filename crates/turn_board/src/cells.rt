@@ -8,7 +8,9 @@ ghost use Rattle.turn_board.specs.History.{Leads, of_cell, of_caller, IsRun};
 /// The cells of a board, and the calls on them.
 pub trait Cells {
     type Cell;
+
     type Call;
+
     type Answer;
 
     /// The cell before a call, the call, its answer, and a cell that it may leave.

@@ -38,9 +38,7 @@ impl Chain {
     fn empty() -> Chain
         ensures { result ≡ [] }
     {
-        Chain {
-            link: Link::End,
-        }
+        Chain { link: Link::End }
     }
 
     /// So many numbers, from 0 on.

@@ -26,7 +26,11 @@ impl<C: Cells> Pass<C> {
     // Its numbers, how many they are, and its seat.
     pub(crate) fn into_parts(
         self,
-    ) -> (Chain, u32, Seat<Lane<C::Cell>, View<C::Cell, C::Call, C::Answer>>)
+    ) -> (
+        Chain,
+        u32,
+        Seat<Lane<C::Cell>, View<C::Cell, C::Call, C::Answer>>,
+    )
         ensures numbers { (result.0 ≡ self.numbers) × (result.1 ≡ self.count) }
         ensures seat { result.2 ≡ self.seat }
     {

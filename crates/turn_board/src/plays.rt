@@ -47,8 +47,7 @@ pub(crate) struct PassOn<C, E> {
 }
 
 impl<C: Cells, E: Naming<C::Call, C::Answer>> Play<Lane<C::Cell>, View<C::Cell, C::Call, C::Answer>>
-    for PassOn<C, E>
-{
+    for PassOn<C, E> {
     ghost then = { PassesOn C.step C.fits E.event };
 }
 

@@ -19,8 +19,7 @@ pub struct Order<C> {
 }
 
 impl<C: Cells> TableRule<Lane<C::Cell>, View<C::Cell, C::Call, C::Answer>, Opening<C::Cell>>
-    for Order<C>
-{
+    for Order<C> {
     ghost holds = { λ key. InOrder C.step C.fits key.cells.value.items key.callers };
 
     ghost first = { λ key. newcomer key.cells.value.items key.callers };

@@ -14,7 +14,9 @@ pub struct Counters;
 
 impl Cells for Counters {
     type Cell = u64;
+
     type Call = Ask;
+
     type Answer = u64;
 
     ghost step = { Counts };

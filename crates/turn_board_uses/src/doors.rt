@@ -21,7 +21,9 @@ pub struct Doors;
 
 impl Cells for Doors {
     type Cell = Door;
+
     type Call = Push;
+
     type Answer = bool;
 
     ghost step = { Moves };

@@ -3,10 +3,9 @@
 
 mod counters;
 mod doors;
-mod working;
-
 #[cfg(test)]
 mod tests;
+mod working;
 
 pub use counters::{Ask, Counters};
 pub use doors::{Door, Doors, Push};

@@ -97,9 +97,7 @@ impl<C: Cells> Board<C> {
         ensures table { seat.new.table_id ≡ seat.old.table_id }
         ensures looked { ShutAt result seat.old.me seat.new.me seat.old.me.0.stage }
     {
-        self.table
-            .shared
-            .load::<Shut>(seat, 16 * cell as usize + 1)
+        self.table.shared.load::<Shut>(seat, 16 * cell as usize + 1)
     }
 }
 

@@ -1,6 +1,7 @@
 //! Passes are split and gathered, and callers rest until they are rung.
-ghost use Rattle.std.specs.Prelude.{◌≡◌, ◌<◌, ◌≤◌, ◌≢◌, [], ◌+◌, ◌-◌, length, take, drop};
+ghost use Rattle.std.specs.Prelude.{◌≡◌, ◌<◌, ◌≤◌, ◌≢◌, [], length};
 ghost use Rattle.turn_board.specs.Calls.{IsGathered, HasPart};
+ghost use Rattle.turn_board.specs.Hands.{all_but, last_of};
 ghost use Rattle.turn_board.specs.Passes.{callers_of, hands_of, view_of, IsPassOf};
 ghost use Rattle.turn_board.specs.Seats.{IsIdle};
 ghost use Rattle.turn_board.specs.Steps.{first_part, last_part, HasSettled};
@@ -22,8 +23,8 @@ impl<C: Cells> Board<C> {
         requires some { 0 < give }
         requires spare { give < length (hands_of pass.old) }
         ensures passes { IsPassOf self.now pass.new × IsPassOf self.now result }
-        ensures kept { HasPart (take (length (hands_of pass.old) - give) (hands_of pass.old)) (view_of pass.old) (view_of pass.new) }
-        ensures given { HasPart (drop (length (hands_of pass.old) - give) (hands_of pass.old)) (view_of pass.old) (view_of result) }
+        ensures kept { HasPart (all_but give (hands_of pass.old)) (view_of pass.old) (view_of pass.new) }
+        ensures given { HasPart (last_of give (hands_of pass.old)) (view_of pass.old) (view_of result) }
     {
         let keep = pass.count - give;
         let seat = self.split_seat::<Brand>(&mut pass.seat, keep);
@@ -63,9 +64,7 @@ impl<C: Cells> Board<C> {
         ensures gathered { IsGathered C.step C.fits (view_of pass.old) (view_of other) (view_of pass.new) }
     {
         let (numbers, count, seat) = other.into_parts();
-        self.table
-            .shared
-            .join_seat::<Glue>(&mut pass.seat, seat);
+        self.table.shared.join_seat::<Glue>(&mut pass.seat, seat);
         self.settle(&mut pass.seat);
         pass.numbers.merge(numbers);
         pass.count += count;

@@ -10,7 +10,7 @@ pub pass_on-requires-clause-turn : goal.pass_on-requires-clause-turn
 pass_on-requires-clause-turn g c =
     subst (λ q. HasAnswered g.C.Cells.step c.args.cell q c.apply-answer.result c.apply-answer.new.seat.me) (sym c.of-asked.ensures)
     (answers g.C.Cells.step g.C.Cells.can g.C.Cells.fits c.args.cell c.args.call c.apply-answer.result c.args.pass.now.seat.me c.take_turn.new.seat.me c.apply-answer.new.seat.me
-      c.take_turn.ensures.turn c.apply-answer.ensures.view c.apply-answer.ensures.stepped)
+    c.take_turn.ensures.turn c.apply-answer.ensures.view c.apply-answer.ensures.stepped)
 
 pub returns-clause-called : goal.returns-clause-called
 returns-clause-called g c = let t = c.take_turn.ensures.turn in let s = t.served in

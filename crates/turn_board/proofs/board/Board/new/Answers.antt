@@ -8,7 +8,7 @@ pub new-requires : goal.new-requires
 new-requires g c =
     let opening = c.of-2.result.value.items in let words = c.as_slice.result.now in let n : ℕ = c.len-count.result in
     let same = ap (λ v. v.items) c.of-2.ensures in
-    let many : n ≡ length c.args.cells.items = first_of (c.len-count.ensures, search rules, grind (arith, common_steps)) in
+    let many : n ≡ length c.args.cells.items = first_of (search rules, grind (arith, common_steps)) in
     let e = c.as_slice.ensures.value ∙ c.in-Ok.ensures.words in
     opens g.C.Cells.step g.C.Cells.fits opening c.args.callers words c.into_lanes-lanes.result.0.items c.requires.few_callers
     (ap length e ∙ (replicate_length (16 * n) 0 ∙ ap (λ k. 16 * k) (many ∙ ap length (sym same))))

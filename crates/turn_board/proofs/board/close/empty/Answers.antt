@@ -19,8 +19,8 @@ loop-i-preserved g c =
     let next : i + 1 ≡ suc i = omega arith in (
       (λ k above within. let within' = o.2 in ap (λ f. get_or f k false) o.1 ∙ (get_or-set_other filled i k false false (λ e. omega arith) ∙ inv.0 k (omega arith) (omega arith))),
       (λ k l. ap (λ f. get_or f k false) o.1 ∙ dite (ℕ_discrete k i)
-        (λ e. ap (λ n. get_or (set filled i false) n false) e ∙ set_false filled i)
-        (λ ne. get_or-set_other filled i k false false ne ∙ inv.1 k (omega (arith, ne)))),
+          (λ e. ap (λ n. get_or (set filled i false) n false) e ∙ set_false filled i)
+          (λ ne. get_or-set_other filled i k false false ne ∙ inv.1 k (omega (arith, ne)))),
       o.0 ∙ inv.2,
       o.2 ∙ inv.3,
       c.push_reserved.ensures.items ∙ ((λ t. inv.4 t ++ c.into_value.ensures t ∷ []) ∙ (sym (take_at (values_of items) i (c.take.result).value value) ∙ ap (λ n. take n (values_of items)) (sym next))),
