@@ -1,5 +1,5 @@
 -- The checksum of each hot call, by the data that it worked on.
-use Rattle.std.specs.Prelude.{◌≡◌, ◌⊎◌, ℕ, ◌+◌, ◌-◌, ◌%◌, ◌^◌, List, length, map, unsigned_abs}
+use Rattle.std.specs.Prelude.{◌≡◌, ◌⊎◌, ℕ, ◌+◌, ◌-◌, ◌%◌, ◌^◌, Bool, List, [], filter, length, map, unsigned_abs, is_none, Option, Some, None}
 use Rattle.std.specs.List.{sum_by, range_with_len}
 use Rattle.std.specs.Option.{option_map_or}
 use Rattle.cube_values.specs.declared.entry.Entry.{Entry}
@@ -10,6 +10,9 @@ use Rattle.cube_language.specs.declared.piece.ScriptFault.{ScriptFault}
 use Rattle.cube_language.specs.declared.piece.Piece.{Piece}
 use Rattle.cube_language.specs.Pieces.{IsScript, HasScriptFault}
 use Rattle.names_dict.specs.Dictionaries.{Dictionary, number_of}
+use Rattle.cube_language.specs.declared.decl.Decl.{Decl}
+use Rattle.csv_load.specs.FileRecords.{Fields, record_fault}
+use Rattle.csv_load.specs.Loads.{Load, TakesRecord}
 use Rattle.purge_plan.specs.Purged.{spared_bits, purged_entries}
 
 -- Of a script: how many statements it has, or 0 where it is refused.
@@ -40,3 +43,20 @@ table_sum table = sum_by line_sum table % 2 ^ 64
 -- Of jobs 0, 1, .., so many: each job and `more`, in 64 bits.
 abbrev pub answers_sum : ℕ → ℕ → ℕ
 answers_sum jobs more = sum_by (λ answer. answer) (map (λ job. job + more) (range_with_len 0 jobs)) % 2 ^ 64
+
+-- Of records: how many there are, in 64 bits.
+abbrev pub records_sum : List Fields → ℕ
+records_sum records = length records % 2 ^ 64
+
+-- A record is a row of a cube.
+abbrev pub is_row : Decl → Fields → Bool
+is_row decl fields = is_none (record_fault decl fields)
+
+-- Of records and a cube: how many are rows, in 64 bits.
+abbrev pub rows_sum : Decl → List Fields → ℕ
+rows_sum decl records = length (filter (is_row decl) records) % 2 ^ 64
+
+-- A load takes its next record, which is a row or not, or has none left.
+abbrev pub TakesRow : Load → Load → Option Bool → Type 0
+TakesRow old new None = old.left ≡ []
+TakesRow old new (Some found) = TakesRecord old new × (found ≡ is_row new.decl new.fields)

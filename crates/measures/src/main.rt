@@ -4,6 +4,7 @@
 
 mod groups;
 mod line;
+mod loads;
 mod mails;
 mod names;
 mod request;
@@ -14,6 +15,7 @@ mod work;
 
 use groups::Fold;
 use line::Line;
+use loads::{LoadStep, Records};
 use mails::Deliver;
 use names::{Encode, Lookup};
 use request::{HotPath, Request, asked_for};
@@ -28,7 +30,7 @@ use work::{Measured, measure};
 #[cfg(test)]
 mod tests;
 
-const USAGE: &str = "usage: measures [--time] split|encode|lookup|visible|plan|fold|mail N";
+const USAGE: &str = "usage: measures [--time] split|encode|lookup|visible|plan|fold|mail|records|load_step N";
 
 /// The words after the program's name, and none where a word is not UTF-8. The error is want of memory.
 fn words<R: Env + AllocGlobal>(rt: &R) -> io::Result<Vec<String>> {
@@ -50,6 +52,8 @@ fn ran(rt: &HostRuntime, request: &Request) -> io::Result<Measured> {
         HotPath::Plan => measure::<Plan, HostRuntime>(rt, rt.alloc(), items),
         HotPath::Fold => measure::<Fold, HostRuntime>(rt, rt.alloc(), items),
         HotPath::Mail => measure::<Deliver, HostRuntime>(rt, rt.alloc(), items),
+        HotPath::Records => measure::<Records, HostRuntime>(rt, rt.alloc(), items),
+        HotPath::LoadStep => measure::<LoadStep, HostRuntime>(rt, rt.alloc(), items),
     }
 }
 

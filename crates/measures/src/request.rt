@@ -20,6 +20,10 @@ pub(crate) enum HotPath {
     Fold,
     /// A job through a mail and its answer back.
     Mail,
+    /// `Source::read` of the records of a file.
+    Records,
+    /// `Loader::step` over the same records.
+    LoadStep,
 }
 
 impl HotPath {
@@ -35,6 +39,8 @@ impl HotPath {
             "plan" => Some(HotPath::Plan),
             "fold" => Some(HotPath::Fold),
             "mail" => Some(HotPath::Mail),
+            "records" => Some(HotPath::Records),
+            "load_step" => Some(HotPath::LoadStep),
             _ => None,
         }
     }
@@ -52,6 +58,8 @@ impl HotPath {
             HotPath::Plan => 10_000_000,
             HotPath::Fold => 1_000_000_000,
             HotPath::Mail => 1_000_000_000,
+            HotPath::Records => 10_000_000,
+            HotPath::LoadStep => 10_000_000,
         }
     }
 
@@ -67,6 +75,8 @@ impl HotPath {
             HotPath::Plan => "entries purged",
             HotPath::Fold => "rows folded",
             HotPath::Mail => "jobs mailed",
+            HotPath::Records => "records read",
+            HotPath::LoadStep => "records loaded",
         }
     }
 }

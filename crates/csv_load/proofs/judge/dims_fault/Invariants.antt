@@ -1,0 +1,10 @@
+use Rattle.std.proofs.Common.{◌≡◌, ◌++◌, drop}
+use Rattle.csv.specs.Records.{fields_of}
+use Rattle.csv_load.specs.FileRecords.{coords_of, dims_fault}
+use Rattle.csv_load.proofs.judge.dims_fault.Given as goal
+
+abbrev pub invariant-dims : goal.invariant-dims
+invariant-dims l = record {
+  fault : dims_fault (drop l.i l.dims) (drop l.i (fields_of l.read)) ≡ dims_fault l.dims (fields_of l.read);
+  coords : l.coords.items ++ coords_of (drop l.i l.dims) (drop l.i (fields_of l.read)) ≡ coords_of l.dims (fields_of l.read);
+}

@@ -1,0 +1,65 @@
+-- What a load has read, and what each of its steps does.
+-- Source: this project's own.
+use Rattle.std.specs.Prelude.{◌≡◌, ℕ, ◌+◌, ◌<◌, true, List, [], ◌∷◌, length, get_or, drop, ℤ, None, Some, IsUtf8, Option}
+use Rattle.cube_language.specs.declared.bad_row.BadRow.{BadRow}
+use Rattle.cube_language.specs.declared.decl.Decl.{Decl}
+use Rattle.cube_language.specs.declared.decl.DimDecl.{DimDecl}
+use Rattle.cube_values.specs.declared.row.Row.{Row}
+use Rattle.csv_load.specs.FileRecords.{Fields, coords_of, numbers_of, record_fault, records_of, row_of}
+use Rattle.csv_load.specs.declared.step.Step.{Step}
+use Rattle.csv_load.specs.declared.step.Step.TheVariants as step
+use Rattle.csv_load.specs.declared.step.Record.{Record}
+use Rattle.csv_load.specs.declared.step.Record.TheVariants as rec
+
+-- A load of records into a cube: how many it has read, the fields, coordinates and metrics of the last, and the
+-- records that are left.
+pub record Load : Type 0 where
+  pub decl : Decl
+  pub number : ℕ
+  pub fields : Fields
+  pub coords : List ℕ
+  pub metrics : List ℤ
+  pub left : List Fields
+
+-- A load of a file at its beginning.
+pub record Begins (load : Load) (decl : Decl) (bytes : List ℕ) : Type 0 where
+  pub cube : load.decl ≡ decl
+  pub none : load.number ≡ 0
+  pub all : load.left ≡ records_of bytes
+
+-- A load takes its next record and counts it.
+pub record TakesRecord (old new : Load) : Type 0 where
+  pub cube : new.decl ≡ old.decl
+  pub count : new.number ≡ old.number + 1
+  pub next : old.left ≡ new.fields ∷ new.left
+
+-- Each field of a dimension of texts is UTF-8.
+abbrev pub AreTexts : List DimDecl → Fields → Type 0
+AreTexts (dim ∷ dims) (field ∷ fields) = (dim.text ≡ true → IsUtf8 field) × AreTexts dims fields
+AreTexts dims fields = Unit {0}
+
+-- The record read last is a row, of which these are the coordinates and the metrics.
+pub record IsRow (decl : Decl) (fields : Fields) (coords : List ℕ) (metrics : List ℤ) : Type 0 where
+  pub fits : record_fault decl fields ≡ None
+  pub texts : AreTexts decl.dims fields
+  pub coordinates : coords ≡ coords_of decl.dims fields
+  pub numbers : metrics ≡ numbers_of (drop (length decl.dims) fields)
+
+-- What a step answers of the record that it took.
+abbrev pub IsJudged : Decl → Fields → List ℕ → List ℤ → Step → Type 0
+IsJudged decl fields coords metrics step.Good = IsRow decl fields coords metrics
+IsJudged decl fields coords metrics (step.Bad fault) = record_fault decl fields ≡ Some fault
+IsJudged decl fields coords metrics step.End = ⊥
+
+-- A step takes a record and judges it, or there is none left.
+abbrev pub IsStep : Load → Load → Step → Type 0
+IsStep old new step.End = (old.left ≡ []) × (new.left ≡ [])
+IsStep old new answer = TakesRecord old new × IsJudged new.decl new.fields new.coords new.metrics answer
+
+-- The next record as a value: a row or why it is none, with its number.
+abbrev pub IsNext : Load → Load → Record → Type 0
+IsNext old new rec.End = (old.left ≡ []) × (new.left ≡ [])
+IsNext old new (rec.Good number row) =
+    TakesRecord old new × (number ≡ new.number) × (record_fault new.decl new.fields ≡ None) × (row ≡ row_of new.decl new.fields)
+IsNext old new (rec.Bad number reason) =
+    TakesRecord old new × (number ≡ new.number) × (record_fault new.decl new.fields ≡ Some reason)
