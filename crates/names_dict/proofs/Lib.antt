@@ -1,2 +1,5 @@
 pub mod NewCubes
 pub mod Places
+pub mod Chains
+pub mod Searches
+pub mod Indexes

@@ -1,1 +1,3 @@
 pub mod Dictionaries
+pub mod KnownTexts
+pub mod TextIndex
