@@ -15,7 +15,7 @@ mod work;
 use groups::Fold;
 use line::Line;
 use mails::Deliver;
-use names::{Encode, Lookup};
+use names::{Encode, Familiar, Lookup};
 use request::{HotPath, Request, asked_for};
 use scripts::Split;
 use std::io::ErrorKind;
@@ -28,7 +28,7 @@ use work::{Measured, measure};
 #[cfg(test)]
 mod tests;
 
-const USAGE: &str = "usage: measures [--time] split|encode|lookup|visible|plan|fold|mail N";
+const USAGE: &str = "usage: measures [--time] split|encode|lookup|known|visible|plan|fold|mail N";
 
 /// The words after the program's name, and none where a word is not UTF-8. The error is want of memory.
 fn words<R: Env + AllocGlobal>(rt: &R) -> io::Result<Vec<String>> {
@@ -46,6 +46,7 @@ fn ran(rt: &HostRuntime, request: &Request) -> io::Result<Measured> {
         HotPath::Split => measure::<Split, HostRuntime>(rt, rt.alloc(), items),
         HotPath::Encode => measure::<Encode, HostRuntime>(rt, rt.alloc(), items),
         HotPath::Lookup => measure::<Lookup, HostRuntime>(rt, rt.alloc(), items),
+        HotPath::Known => measure::<Familiar, HostRuntime>(rt, rt.alloc(), items),
         HotPath::Visible => measure::<Visible, HostRuntime>(rt, rt.alloc(), items),
         HotPath::Plan => measure::<Plan, HostRuntime>(rt, rt.alloc(), items),
         HotPath::Fold => measure::<Fold, HostRuntime>(rt, rt.alloc(), items),

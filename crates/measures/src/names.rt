@@ -1,12 +1,12 @@
 //! Names in a dictionary.
 
 ghost use Rattle.std.specs.Prelude.{◌≡◌, ◌-◌, ◌^◌, length, map, string_bytes, IfOk};
-ghost use Rattle.measures.specs.Checksums.{numbers_sum};
+ghost use Rattle.measures.specs.Checksums.{numbers_sum, codes_sum};
 ghost use Rattle.measures.specs.Encoded.{encoded, empty};
 
 use crate::seed::{below, seeded};
 use crate::work::Work;
-use names_dict::Dict;
+use names_dict::{Dict, Known};
 use std::alloc::{AllocError, Global};
 
 /// How often each name stands among the names, in the mean.
@@ -94,5 +94,48 @@ impl Work for Lookup {
         ensures { IfOk result (λ sum. sum ≡ numbers_sum self.old.dict (map string_bytes self.old.names.items)) }
     {
         Ok(numbers_sum(&self.dict, self.names.as_slice()))
+    }
+}
+
+/// The sum of the codes of names, counted from 1.
+fn codes_sum(known: &Known, names: &[String]) -> u64
+    ensures { result ≡ codes_sum known.now (map string_bytes names.now) }
+{
+    let mut sum: u64 = 0;
+    let mut left = names;
+    'names: while let [name, rest @ ..] = left {
+        sum = sum.wrapping_add(match known.find(name.as_bytes()) {
+            Some(n) => u64::from(n) + 1,
+            None => 0,
+        });
+        left = rest;
+    }
+    sum
+}
+
+/// Names, and what is known of them by their dictionary.
+#[derive(Drop)]
+pub(crate) struct Familiar {
+    known: Known,
+    names: Vec<String>,
+}
+
+impl Work for Familiar {
+    fn prepared(alloc: Global, items: u32) -> Result<Familiar, AllocError> {
+        let names = names(alloc, items)?;
+        let dict = dictionary(alloc, names.as_slice())?;
+        let mut known = Known::new(alloc);
+        for name in names.as_slice() {
+            let code = dict.find(name.as_str()).unwrap_or(0);
+            known.learn(name.as_bytes(), code)?;
+        }
+        Ok(Familiar { known, names })
+    }
+
+    /// The checksum is the sum of the codes that are found, and 1 for each.
+    fn work(&mut self, _alloc: Global) -> Result<u64, AllocError>
+        ensures { IfOk result (λ sum. sum ≡ codes_sum self.old.known (map string_bytes self.old.names.items)) }
+    {
+        Ok(codes_sum(&self.known, self.names.as_slice()))
     }
 }

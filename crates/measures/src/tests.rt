@@ -4,7 +4,7 @@
 use crate::groups::Fold;
 use crate::line::Line;
 use crate::mails::Deliver;
-use crate::names::{Encode, Lookup};
+use crate::names::{Encode, Familiar, Lookup};
 use crate::request::{HotPath, Request, asked_for};
 use crate::scripts::Split;
 use crate::vectors::{Plan, Visible};
@@ -100,6 +100,7 @@ fn checksums(rt: HostRuntime) -> Result<(), Fail> {
     assert_eq!(rt; checksum::<Split>(rt.alloc())?, 1_000);
     assert_eq!(rt; checksum::<Encode>(rt.alloc())?, 101);
     assert_eq!(rt; checksum::<Lookup>(rt.alloc())?, 49_542);
+    assert_eq!(rt; checksum::<Familiar>(rt.alloc())?, 49_542);
     assert_eq!(rt; checksum::<Visible>(rt.alloc())?, 40_000);
     assert_eq!(rt; checksum::<Plan>(rt.alloc())?, 10_401);
     assert_eq!(rt; checksum::<Fold>(rt.alloc())?, 8_001_016);

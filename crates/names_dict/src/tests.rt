@@ -4,7 +4,7 @@ ghost use Rattle.std.specs.Prelude.{IfOk};
 ghost use Rattle.cube_values.specs.Shapes.{IsSoundCube};
 ghost use Rattle.names_dict.specs.Dictionaries.{IsTextDimension};
 
-use crate::{Code, Dict, Dicts};
+use crate::{Code, Dict, Dicts, Known};
 use cube_values::{CubeShape, Flags, Shape, Size, Sizes};
 use std::alloc::{AllocError, Global};
 use std::test::Fail;
@@ -141,5 +141,23 @@ fn names_by_cubes(rt: HostRuntime) -> Result<(), Fail> {
     }
     assert!(rt; dicts.copy_from(0, 0, 0)?.len() == 2);
     assert!(rt; dicts.copy_from(9, 9, 0)?.is_empty());
+    Ok(())
+}
+
+/// Texts of every length up to 99 bytes; the second time each is known already.
+#[test]
+fn known_texts(rt: HostRuntime) -> Result<(), Fail> {
+    let mut known = Known::new(rt.alloc());
+    assert_eq!(rt; known.find(b""), None);
+    let bytes = [b'a'; 100];
+    for n in 0..200u32 {
+        let length = (n % 100) as usize;
+        known.learn(&bytes[..length], n)?;
+    }
+    for n in 0..100u32 {
+        assert_eq!(rt; known.find(&bytes[..n as usize]), Some(n));
+    }
+    assert_eq!(rt; known.find(&bytes), None);
+    assert_eq!(rt; known.find(b"b"), None);
     Ok(())
 }
