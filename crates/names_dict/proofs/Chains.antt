@@ -23,7 +23,8 @@ last_alike size below b last old new same h = record {
 pub none_chained : (size n : ℕ) (places : List TextPlace) → size ≤ n → AreChained size places (replicate n 0) 0
 none_chained size n places h = record {
   heads_last = λ b l.
-      let e : get_or (replicate n 0) b 0 ≡ 0 = get_or-replicate n b 0 0 (omega arith) in
+      let zeros : List ℕ = replicate n 0 in
+      let e : get_or zeros b 0 ≡ 0 = get_or-replicate n b 0 0 (omega arith) in
       record {
         within = omega (arith, e);
         here = λ k f. absurd (omega (arith, e, f));

@@ -4,7 +4,7 @@ use Rattle.std.specs.List.{IsDistinct}
 use Rattle.std.specs.Str.{bytes_eq}
 use Rattle.std.proofs.lemmas.Cmp.{nat_list_eq_equiv}
 use Rattle.std.proofs.lemmas.List.{get_or-map, length-map, length-drop, map_push, drop-append-le, take-append-le, take_all, drop_all}
-use Rattle.std.proofs.lemmas.List.Elements.{All-head, All-tail, All-map, All-push, All-weaker}
+use Rattle.std.proofs.lemmas.List.Elements.{All-nil, All-head, All-tail, All-map, All-push, All-weaker}
 use Rattle.std.proofs.lemmas.Map.Keys.{IsDistinct-push}
 use Rattle.names_dict.specs.declared.text_index.TextIndex.{TextIndex}
 use Rattle.names_dict.specs.declared.text_index.TextPlace.{TextPlace}
@@ -28,19 +28,32 @@ through bytes (p ∷ places) = ap (λ (ks : List KnownText). known_at bytes p �
 pub alike_known : (bytes : List ℕ) (old new : List TextPlace) → AreAlike old new → map (known_at bytes) new ≡ map (known_at bytes) old
 alike_known bytes old new alike = sym (through bytes new) ∙ ap (map (known_at bytes)) alike ∙ through bytes old
 
-pub rechained : (old new : TextIndex) → IsIndex old → new.bytes.items ≡ old.bytes.items → AreAlike old.places.items new.places.items → IsFairSize (length new.heads.items)
-    → AreChained (length new.heads.items) new.places.items new.heads.items (length new.places.items) → IsIndex new × (known_of new ≡ known_of old)
-rechained old new good bytes alike size chained =
-    let known : known_of new ≡ known_of old = (λ i. map (known_at (bytes i)) new.places.items) ∙ alike_known old.bytes.items old.places.items new.places.items alike in (
-      record {
-        placed = subst (λ (bs : List ℕ). All (IsPlaced bs) new.places.items) (sym bytes) (alike_placed old.bytes.items old.places.items new.places.items alike good.placed);
-        once = subst HasEachOnce (sym known) good.once;
-        empty = λ e. absurd (omega (arith, e, size.some));
-        size = λ _. size;
-        chained = λ _. chained;
-      },
-      known,
-    )
+pub none_index : (index : TextIndex) → index.places.items ≡ [] → index.heads.items ≡ [] → IsIndex index
+none_index index places heads = record {
+  placed = subst (All (IsPlaced index.bytes.items)) (sym places) (All-nil (IsPlaced index.bytes.items));
+  once = subst (λ (ps : List TextPlace). HasEachOnce (map (known_at index.bytes.items) ps)) (sym places) none_once;
+  empty = λ e. places;
+  size = λ h. absurd (omega (arith, h, ap length heads));
+  chained = λ h. absurd (omega (arith, h, ap length heads));
+}
+  where
+    none_once : IsDistinct bytes_eq []
+    unfolding IsDistinct
+    none_once = tt
+
+module _ (old new : TextIndex) (places : List TextPlace) (heads : List ℕ) (bytes_are : new.bytes.items ≡ old.bytes.items) (places_are : new.places.items ≡ places) (heads_are : new.heads.items ≡ heads)
+    (alike : AreAlike old.places.items places) where
+  pub rechained_known : known_of new ≡ known_of old
+  rechained_known = (λ i. map (known_at (bytes_are i)) (places_are i)) ∙ alike_known old.bytes.items old.places.items places alike
+
+  pub rechained : IsIndex old → IsFairSize (length heads) → AreChained (length heads) places heads (length places) → IsIndex new
+  rechained good size chained = record {
+    placed = coe 1 0 (i. All (IsPlaced (bytes_are i)) (places_are i)) (alike_placed old.bytes.items old.places.items places alike good.placed);
+    once = subst HasEachOnce (sym rechained_known) good.once;
+    empty = λ e. absurd (omega (arith, e, ap length heads_are, size.some));
+    size = λ _. subst (λ (hs : List ℕ). IsFairSize (length hs)) (sym heads_are) size;
+    chained = λ _. coe 1 0 (i. AreChained (length (heads_are i)) (places_are i) (heads_are i) (length (places_are i))) chained;
+  }
 
 -- ---- one text more
 
@@ -99,17 +112,23 @@ module _ (old : TextIndex) (good : IsIndex old) (text : List ℕ) (p : TextPlace
   pub ready : AreChained (length old.heads.items) places old.heads.items (length old.places.items)
   ready = still_chained (length old.heads.items) (length old.places.items) old.places.items places old.heads.items (front_place old.places.items p) (good.chained some)
 
-  pub added : (new : TextIndex) → new.bytes.items ≡ bytes → AreAlike places new.places.items → length new.heads.items ≡ length old.heads.items
-      → AreChained (length old.heads.items) new.places.items new.heads.items (length old.places.items + 1) → IsIndex new × (known_of new ≡ with_text (known_of old) text p.code)
-  added new same alike long chained =
-      let now : known_of new ≡ known = (λ i. map (known_at (same i)) new.places.items) ∙ alike_known bytes places new.places.items alike ∙ all_known in
-      let count : length old.places.items + 1 ≡ length new.places.items = omega (arith, alike_long places new.places.items alike, length-append old.places.items (p ∷ [])) in (
+  module _ (new : TextIndex) (all : List TextPlace) (heads : List ℕ) (bytes_are : new.bytes.items ≡ bytes) (places_are : new.places.items ≡ all) (heads_are : new.heads.items ≡ heads)
+      (alike : AreAlike places all) where
+    now : known_of new ≡ known
+    now = (λ i. map (known_at (bytes_are i)) (places_are i)) ∙ alike_known bytes places all alike ∙ all_known
+
+    pub added_known : known_of new ≡ with_text (known_of old) text p.code
+    added_known = now ∙ with_text_is
+
+    pub added : length heads ≡ length old.heads.items → AreChained (length old.heads.items) all heads (length old.places.items + 1) → IsIndex new
+    added long chained =
+        let count : length old.places.items + 1 ≡ length all = omega (arith, alike_long places all alike, length-append old.places.items (p ∷ [])) in
         record {
-          placed = subst (λ (bs : List ℕ). All (IsPlaced bs) new.places.items) (sym same) (alike_placed bytes places new.places.items alike all_placed);
+          placed = coe 1 0 (i. All (IsPlaced (bytes_are i)) (places_are i)) (alike_placed bytes places all alike all_placed);
           once = subst HasEachOnce (sym now) once;
-          empty = λ e. absurd (omega (arith, e, long, some));
-          size = λ _. subst IsFairSize (sym long) (good.size some);
-          chained = λ _. subst (λ (n : ℕ). AreChained n new.places.items new.heads.items (length new.places.items)) (sym long) (subst (AreChained (length old.heads.items) new.places.items new.heads.items) count chained);
-        },
-        now ∙ with_text_is,
-      )
+          empty = λ e. absurd (omega (arith, e, ap length heads_are, long, some));
+          size = λ _. subst (λ (hs : List ℕ). IsFairSize (length hs)) (sym heads_are) (subst IsFairSize (sym long) (good.size some));
+          chained = λ _.
+              coe 1 0 (i. AreChained (length (heads_are i)) (places_are i) (heads_are i) (length (places_are i)))
+              (subst (λ (n : ℕ). AreChained n all heads (length all)) (sym long) (subst (AreChained (length old.heads.items) all heads) count chained));
+        }

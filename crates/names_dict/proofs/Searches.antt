@@ -1,6 +1,7 @@
 -- How a text is found along a chain, and what an index knows with one text more.
 use Rattle.std.proofs.Common.{◌≡◌, ◌≢◌, ◌⊎◌, inl, inr, ℕ, zero, suc, ◌+◌, ◌-◌, ◌<◌, ◌≤◌, Bool, true, false, cond, ◌||◌, Option, Some, None, List, [], ◌∷◌, ◌++◌, length, length-append, map, take, drop, get_or, All, refl, sym, ap, ◌∙◌, subst, ⊎_elim, arith, append_assoc}
 use Rattle.std.specs.List.{IsDistinct, AllByRecursion, list_any}
+use Rattle.std.specs.Int.{w64, from_le_bytes}
 use Rattle.std.specs.Str.{bytes_eq}
 use Rattle.std.proofs.lemmas.Bool.{cases_Bool, false≢true}
 use Rattle.std.proofs.lemmas.Cmp.{nat_list_eq_equiv}
@@ -24,6 +25,18 @@ state_short state (a ∷ b ∷ c ∷ d ∷ e ∷ []) h = refl
 state_short state (a ∷ b ∷ c ∷ d ∷ e ∷ f ∷ []) h = refl
 state_short state (a ∷ b ∷ c ∷ d ∷ e ∷ f ∷ g ∷ []) h = refl
 state_short state (a ∷ b ∷ c ∷ d ∷ e ∷ f ∷ g ∷ i ∷ rest) h = absurd (omega arith)
+
+-- eight bytes are a word
+pub state_eight : (state : ℕ) (bytes : List ℕ) → 8 ≤ length bytes → state_after state bytes ≡ state_after (mixed_state state (from_le_bytes w64 (take 8 bytes))) (drop 8 bytes)
+state_eight state [] h = absurd (omega arith)
+state_eight state (a ∷ []) h = absurd (omega arith)
+state_eight state (a ∷ b ∷ []) h = absurd (omega arith)
+state_eight state (a ∷ b ∷ c ∷ []) h = absurd (omega arith)
+state_eight state (a ∷ b ∷ c ∷ d ∷ []) h = absurd (omega arith)
+state_eight state (a ∷ b ∷ c ∷ d ∷ e ∷ []) h = absurd (omega arith)
+state_eight state (a ∷ b ∷ c ∷ d ∷ e ∷ f ∷ []) h = absurd (omega arith)
+state_eight state (a ∷ b ∷ c ∷ d ∷ e ∷ f ∷ g ∷ []) h = absurd (omega arith)
+state_eight state (a ∷ b ∷ c ∷ d ∷ e ∷ f ∷ g ∷ i ∷ rest) h = refl
 
 -- ---- the codes of texts
 

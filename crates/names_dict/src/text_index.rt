@@ -57,6 +57,16 @@ fn last_word(bytes: &[u8]) -> u64
     word
 }
 
+/// Eight bytes as a word, the lowest first.
+fn word_of(bytes: &[u8]) -> u64
+    requires { length bytes.now ≡ 8 }
+    ensures { result ≡ from_le_bytes w64 bytes.now }
+{
+    u64::from_le_bytes([
+        bytes[0], bytes[1], bytes[2], bytes[3], bytes[4], bytes[5], bytes[6], bytes[7],
+    ])
+}
+
 /// The hash of a text.
 #[tactic(auto, unfolding(crate::specs::TextIndex::hash_of))]
 fn hash_of(text: &[u8]) -> u32
@@ -64,8 +74,9 @@ fn hash_of(text: &[u8]) -> u32
 {
     let mut state: u64 = 0;
     let mut left = text;
-    'words: while let [a, b, c, d, e, f, g, h, rest @ ..] = left {
-        state = mixed_state(state, u64::from_le_bytes([*a, *b, *c, *d, *e, *f, *g, *h]));
+    'words: while left.len() >= 8 {
+        let (word, rest) = left.split_at(8);
+        state = mixed_state(state, word_of(word));
         left = rest;
     }
     (mixed_state(state, last_word(left)) / (1 << 32)) as u32
@@ -101,7 +112,8 @@ fn chain_all(places: &mut [TextPlace], heads: &mut [usize])
     requires none { heads.old ≡ replicate (length heads.old) 0 }
     ensures long { length heads.new ≡ length heads.old }
     ensures alike { AreAlike places.old places.new }
-    ensures chained { AreChained (length heads.old) places.new heads.new (length places.new) }
+    ensures size { IsFairSize (length heads.new) }
+    ensures chained { AreChained (length heads.new) places.new heads.new (length places.new) }
 {
     'places: for i in 0..places.len() {
         chain(places, heads, i);

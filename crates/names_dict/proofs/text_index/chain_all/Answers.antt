@@ -22,8 +22,12 @@ places-preserved c =
     let inv = c.places.invariant in
     (c.chain.ensures.long ∙ inv.0, c.chain.ensures.alike ∙ inv.1, subst (λ (n : ℕ). AreChained n c.chain.new.places c.chain.new.heads (c.places.i + 1)) inv.0 c.chain.ensures.chained)
 
+pub returns-clause-size : goal.returns-clause-size
+returns-clause-size c = subst IsFairSize (sym c.places.invariant.0) c.requires.size
+
 pub returns-clause-chained : goal.returns-clause-chained
 returns-clause-chained c =
     let inv = c.places.invariant in
     let all : c.places.i ≡ length c.places.places = omega (arith, alike_long c.args.places.now c.places.places inv.1) in
-    subst (AreChained (length c.args.heads.now) c.places.places c.places.heads) all inv.2
+    subst (λ (n : ℕ). AreChained n c.places.places c.places.heads (length c.places.places)) (sym inv.0)
+    (subst (AreChained (length c.args.heads.now) c.places.places c.places.heads) all inv.2)
