@@ -6,3 +6,11 @@ pub mod JournalLines
 pub mod Refusals
 pub mod Replies
 pub mod WholeText
+pub mod SessionStates
+pub mod RunInputs
+pub mod Groups
+pub mod Loads
+pub mod Operations
+pub mod Outcomes
+pub mod Merge
+pub mod SessionReplies
