@@ -14,3 +14,4 @@ pub mod Operations
 pub mod Outcomes
 pub mod Merge
 pub mod SessionReplies
+pub mod FinalNames

@@ -5,7 +5,7 @@ use Rattle.std.specs.List.{list_any, list_all, flat_map}
 use Rattle.std.specs.Option.{option_and_then, option_map_or}
 use Rattle.cube_language.specs.declared.decl.Decl.{Decl}
 use Rattle.cube_language.specs.declared.statement.Statement.{Statement}
-use Rattle.cube_language.specs.declared.statement.Statement.TheVariants.{Select, Insert, Load, Delete, Flush, Watch}
+use Rattle.cube_language.specs.declared.statement.Statement.TheVariants.{Select, Insert, Load, Delete, Flush, CreateCube, Watch}
 use Rattle.cube_journal.specs.declared.journal_entry.JournalEntry.{JournalEntry}
 use Rattle.cube_journal.specs.declared.journal_entry.JournalEntry.TheVariants as entry
 use Rattle.cube_journal.specs.declared.refusal.Refusal.{Refusal}
@@ -28,20 +28,46 @@ asked_with input journal session statement sentence = record {
   file = input.file session statement;
 }
 
--- The statement speaks of a cube of this name.
-abbrev pub Names : Asked → List ℕ → Type 0
-Names a name = option_and_then cube_name (statement_said a.sentence) ≡ Some name
-
 -- The entries of a statement begin with a refusal of this number.
 abbrev pub begins_refused : ℕ → List JournalEntry → Bool
 begins_refused code (entry.Refused session statement found ∷ later) = found == code
 begins_refused code entries = false
 
+abbrev pub is_load : Statement → Bool
+is_load (Load cube path reject) = true
+is_load statement = false
+
+abbrev pub stores_rows : Statement → Bool
+stores_rows (Insert cube rows) = true
+stores_rows statement = is_load statement
+
+-- A statement that needs a cube.
+abbrev pub needs_cube : Statement → Bool
+needs_cube (Select items cube conds group having order limit) = true
+needs_cube (Delete cube conds) = true
+needs_cube (Watch items cube conds group) = true
+needs_cube statement = stores_rows statement
+
+-- A statement that needs a cube of this name was refused with 2.
+pub record IsToldUnknown (a : Asked) (entries : List JournalEntry) (name : List ℕ) : Type 0 where
+  pub statement : Statement
+  pub says : a.sentence ≡ Says statement
+  pub needs : needs_cube statement ≡ true
+  pub named : cube_name statement ≡ Some name
+  pub entry : begins_refused 2 entries ≡ true
+
+-- A CREATE CUBE of this name was refused with this number.
+pub record IsToldOfCubes (a : Asked) (entries : List JournalEntry) (name : List ℕ) (code : ℕ) : Type 0 where
+  pub decl : Decl
+  pub says : a.sentence ≡ Says (CreateCube decl)
+  pub named : decl.name ≡ name
+  pub entry : begins_refused code entries ≡ true
+
 -- A refusal that speaks of the list of cubes is told by the journal, which is legal.
 abbrev pub IsTold : Asked → List JournalEntry → Refusal → Type 0
-IsTold a entries (refusal.UnknownCube name) = Names a name × (begins_refused 2 entries ≡ true)
-IsTold a entries (refusal.CubeExists name) = Names a name × (begins_refused 19 entries ≡ true)
-IsTold a entries refusal.TooManyCubes = begins_refused 21 entries ≡ true
+IsTold a entries (refusal.UnknownCube name) = IsToldUnknown a entries name
+IsTold a entries (refusal.CubeExists name) = IsToldOfCubes a entries name 19
+IsTold a entries refusal.TooManyCubes = (name : List ℕ) × IsToldOfCubes a entries name 21
 IsTold a entries r = ⊥
 
 -- The statement meets this refusal.
@@ -55,14 +81,6 @@ MeetsNoneBefore place a entries = (r : Refusal) → order_of r < place → Meets
 -- It meets none.
 abbrev pub MeetsNone : Asked → List JournalEntry → Type 0
 MeetsNone a entries = (r : Refusal) → Meets a entries r → ⊥
-
-abbrev pub is_load : Statement → Bool
-is_load (Load cube path reject) = true
-is_load statement = false
-
-abbrev pub stores_rows : Statement → Bool
-stores_rows (Insert cube rows) = true
-stores_rows statement = is_load statement
 
 -- How a statement with these entries may end: with the first refusal that it meets, or done; with what the shards, the
 -- store and the shelf may say instead; and with want of memory always.
@@ -90,13 +108,6 @@ round_is_due (suc n) before entries =
 abbrev pub RoundFollows : ℕ → ℕ → Bool → List JournalEntry → Type 0
 RoundFollows session statement true entries = LeavesRound session statement entries
 RoundFollows session statement false entries = entries ≡ []
-
--- A statement that needs its cube: it is not refused before its cube is looked for.
-abbrev pub needs_cube : Statement → Bool
-needs_cube (Select items cube conds group having order limit) = true
-needs_cube (Delete cube conds) = true
-needs_cube (Watch items cube conds group) = true
-needs_cube statement = stores_rows statement
 
 abbrev pub looks_for_cube : Outcome → Bool
 looks_for_cube None = true
