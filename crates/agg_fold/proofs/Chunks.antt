@@ -1,8 +1,9 @@
 -- Lists of equal chunks, one for each key, and a change of one of them.
-use Rattle.std.proofs.Common.{◌≡◌, ℕ, zero, suc, ◌+◌, ◌*◌, ◌≤◌, false, Some, List, [], ◌∷◌, ◌++◌, length, map, take, drop, set, slice_get, refl, sym, ap, ◌∙◌, subst, append_assoc, length-append, arith}
+use Rattle.std.proofs.Common.{◌≡◌, ℕ, zero, suc, ◌+◌, ◌*◌, ◌≤◌, false, ◌||◌, Some, List, [], ◌∷◌, ◌++◌, length, map, take, drop, set, slice_get, refl, sym, ap, ◌∙◌, subst, append_assoc, length-append, arith}
 use Rattle.std.specs.List.{flat_map, IsDistinct, AllByRecursion}
 use Rattle.std.specs.Str.{bytes_eq}
 use Rattle.std.proofs.lemmas.List.{take_at}
+use Rattle.agg_fold.specs.Places.{is_among}
 use Rattle.std.proofs.lemmas.Cmp.{nat_list_eq_equiv}
 use Rattle.std.proofs.lemmas.Map.Keys.{IsDistinct-head, IsDistinct-tail}
 
@@ -15,6 +16,13 @@ pub apart_from : (key other : List ℕ) (keys : List (List ℕ)) (p : ℕ) → A
 apart_from key other [] p h at = absurd (cc)
 apart_from key other (k ∷ keys) zero h at = nat_list_eq_equiv.symm key other ∙ ap (bytes_eq other) (cc) ∙ h.0
 apart_from key other (k ∷ keys) (suc p) h at = apart_from key other keys p h.1 at
+
+-- a key is not among those in front of its place
+pub fresh : (keys : List (List ℕ)) (h : ℕ) (key : List ℕ) → IsDistinct bytes_eq keys → slice_get keys h ≡ Some key → is_among (take h keys) key ≡ false
+fresh [] h key once at = absurd (cc)
+fresh (k ∷ keys) zero key once at = refl
+fresh (k ∷ keys) (suc h) key once at =
+    λ i. apart_from key k keys h (IsDistinct-head bytes_eq k keys once) at i || fresh keys h key (IsDistinct-tail bytes_eq k keys once) at i
 
 module _ {Y : Type 0} (key : List ℕ) (f g : List ℕ → Y) (agree : AgreeBut key f g) where
   map_apart : (keys : List (List ℕ)) → AllByRecursion (λ k. bytes_eq key k ≡ false) keys → map f keys ≡ map g keys

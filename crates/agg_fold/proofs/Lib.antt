@@ -1,12 +1,15 @@
-pub mod Kept
 pub mod Lists
+pub mod Tallying
+pub mod Told
 pub mod Places
 pub mod Chunks
+pub mod Permuted
 pub mod Standing
-pub mod Quotients
 pub mod Order
 pub mod Parted
+pub mod GroupRows
 pub mod Lines
 pub mod Runs
 pub mod RunLines
 pub mod NamedGroups
+pub mod WorkedRows

@@ -22,11 +22,11 @@ use Rattle.cube_values.specs.declared.row.Row.{Row}
 use Rattle.cube_values.specs.declared.table.Field.TheVariants as field
 use Rattle.cube_values.specs.declared.value.Value.{Value}
 use Rattle.cube_values.specs.declared.value.Value.TheVariants.{Int}
-use Rattle.agg_fold.specs.Cells.{number_at, numbers_of, lowest, highest, cell_of, number_for}
-use Rattle.agg_fold.specs.Coded.{IsRowOf, coded_key, metrics_with, value_for, values_for, row_for}
+use Rattle.agg_fold.specs.Tallies.{number_at, numbers_of, lowest, highest, tally_of, number_for}
+use Rattle.agg_fold.specs.Coded.{IsQueryRow, coded_key, metrics_with, value_for, values_for, row_for}
 use Rattle.agg_fold.specs.Places.{is_among}
-use Rattle.agg_fold.specs.Tables.{line_of, line_kept}
-use Rattle.agg_fold.proofs.Parted.{metrics_among, length_parted, cell_parted}
+use Rattle.agg_fold.specs.Tables.{line_of, line_of_tallies}
+use Rattle.agg_fold.proofs.Parted.{metrics_among, length_parted, tally_parted}
 use Rattle.agg_fold.specs.Lines.{decoded_key, key_field, field_for}
 
 -- ---- what a key stands for
@@ -68,7 +68,7 @@ high_enough n h = omega (arith, ints, clamps)
 
 pub item_is : (lists : List (List (List ℕ))) (group : List ℕ) (values : List Value) (row : CodedRow) (rows : List CodedRow) (item : BoundItem)
     → key_of group (row_for lists row) ≡ values → IsSoundItem group (length row.metrics) item → FitsSigned w64 (number_for item row.metrics)
-    → let metrics = map (λ (r : CodedRow). r.metrics) (row ∷ rows) in item_of (map (row_for lists) (row ∷ rows)) item ≡ field_for group values (length metrics) item (cell_of metrics item)
+    → let metrics = map (λ (r : CodedRow). r.metrics) (row ∷ rows) in item_of (map (row_for lists) (row ∷ rows)) item ≡ field_for group values (length metrics) item (tally_of metrics item)
 item_is lists group values row rows (Group dim) e sound fit =
     sym (key_field_is group (row_for lists row) dim (list_any-from_Contains nat_eq_equiv dim group sound)) ∙ ap (λ (v : List Value). key_field group v dim) e
 item_is lists group values row rows Count e sound fit = ap (λ (n : ℕ). field.Whole (pos n)) (length-map (row ∷ rows) (row_for lists) ∙ sym (length-map (row ∷ rows) (λ (r : CodedRow). r.metrics)))
@@ -104,18 +104,18 @@ module _ (lists : List (List (List ℕ))) (query : BoundQuery) (values : List Va
       at true = refl
       at false = refl
 
-  items_are : (rows : List CodedRow) → 0 < length (map (λ (r : CodedRow). r.metrics) rows) → All (IsRowOf query) rows → All (λ row. key_of query.group (row_for lists row) ≡ values) rows
-      → map (item_of (map (row_for lists) rows)) query.items ≡ line_kept query values (map (λ (r : CodedRow). r.metrics) rows)
+  items_are : (rows : List CodedRow) → 0 < length (map (λ (r : CodedRow). r.metrics) rows) → All (IsQueryRow query) rows → All (λ row. key_of query.group (row_for lists row) ≡ values) rows
+      → map (item_of (map (row_for lists) rows)) query.items ≡ line_of_tallies query values (map (λ (r : CodedRow). r.metrics) rows)
   items_are [] some taken same = absurd (omega arith)
   items_are (row ∷ rows) some taken same =
-      let first = All-head (IsRowOf query) row rows taken in
+      let first = All-head (IsQueryRow query) row rows taken in
       map_agree _ _ query.items (λ k d h. item_is lists query.group values row rows (get_or query.items k d) (All-head (λ r. key_of query.group (row_for lists r) ≡ values) row rows same) (first.sound.items k d h) (first.fit k d h))
 
-  pub line_is : (rows : List CodedRow) → IsDistinct bytes_eq ks → All (IsRowOf query) rows → All Agrees rows → 0 < length (flat_map (metrics_with query.group rows) ks)
-      → line_of lists query rows values ≡ line_kept query values (flat_map (metrics_with query.group rows) ks)
+  pub line_is : (rows : List CodedRow) → IsDistinct bytes_eq ks → All (IsQueryRow query) rows → All Agrees rows → 0 < length (flat_map (metrics_with query.group rows) ks)
+      → line_of lists query rows values ≡ line_of_tallies query values (flat_map (metrics_with query.group rows) ks)
   line_is rows once taken agree some =
       let n : length (flat_map (metrics_with query.group rows) ks) ≡ length (metrics_among query.group rows ks) = length_parted query.group rows ks once in
       ap (λ (rs : List Row). map (item_of rs) query.items) (rows_with rows agree)
-      ∙ items_are (filter has rows) (omega arith) (All-filter has (IsRowOf query) rows taken)
+      ∙ items_are (filter has rows) (omega arith) (All-filter has (IsQueryRow query) rows taken)
       (λ k d h. (same_values (key_of query.group (row_for lists (get_or (filter has rows) k d))) values).0 (All-filter has Agrees rows agree k d h ∙ filter_passes has rows k d h))
-      ∙ (λ i. map (λ item. field_for query.group values (sym n i) item (sym (cell_parted query.group rows ks once item) i)) query.items)
+      ∙ (λ i. map (λ item. field_for query.group values (sym n i) item (sym (tally_parted query.group rows ks once item) i)) query.items)

@@ -22,11 +22,11 @@ use Rattle.cube_values.specs.Answer.{key_of, keys_of, with_key, item_of, table_o
 use Rattle.cube_values.specs.Values.{values_cmp}
 use Rattle.agg_fold.specs.declared.finish.Named.{Named}
 use Rattle.agg_fold.specs.declared.groups.Groups.{Groups}
-use Rattle.agg_fold.specs.Coded.{IsRowOf, coded_key, metrics_with, row_for}
+use Rattle.agg_fold.specs.Coded.{IsQueryRow, coded_key, metrics_with, row_for}
 use Rattle.agg_fold.specs.Lines.{decoded_key, empty_field}
 use Rattle.agg_fold.specs.Places.{is_among}
-use Rattle.agg_fold.specs.Standing.{StandFor}
-use Rattle.agg_fold.specs.Tables.{named_from, key_at, values_of, AreSorted, IsIn, AreNamed, ends, line_of, lines_of}
+use Rattle.agg_fold.specs.Standing.{StandsFor}
+use Rattle.agg_fold.specs.Tables.{named_from, key_at, values_of, AreSorted, IsIn, AreNamed, distinct_values, line_of, lines_of}
 use Rattle.agg_fold.proofs.Lines.{key_is}
 use Rattle.agg_fold.proofs.Order.{values_total, Rising, rising_same, keys_rising, from_keys, to_keys, ends_rising, from_ends, to_ends}
 use Rattle.agg_fold.proofs.Runs.{in_values}
@@ -178,16 +178,16 @@ contains_from_in (y ∷ xs) x (inl e) = (0, omega arith, sym e)
 contains_from_in (y ∷ xs) x (inr i) = let c = contains_from_in xs x i in (suc c.0, omega (arith, c.1), c.2)
 
 -- each row has its group among these
-abbrev pub HasGroup : List ℕ → List (List ℕ) → List Named → CodedRow → Type 0
-HasGroup group keys named row = IsIn (coded_key group row.coords) (map (key_at keys) named)
+abbrev pub HasNamed : List ℕ → List (List ℕ) → List Named → CodedRow → Type 0
+HasNamed group keys named row = IsIn (coded_key group row.coords) (map (key_at keys) named)
 
-pub rows_named : (lists : List (List (List ℕ))) (query : BoundQuery) (rows : List CodedRow) (groups : Groups) → StandFor query rows groups → All (HasGroup query.group groups.keys (named_from lists query.group 0 groups.keys groups.counts.items)) rows
+pub rows_named : (lists : List (List (List ℕ))) (query : BoundQuery) (rows : List CodedRow) (groups : Groups) → StandsFor query rows groups → All (HasNamed query.group groups.keys (named_from lists query.group 0 groups.keys groups.counts.items)) rows
 rows_named lists query rows groups s j d h =
     let key = coded_key query.group (get_or rows j d).coords in
     let at = among_place groups.keys key (s.named j d h) in
     let f = λ (k : List ℕ). length (metrics_with query.group rows k) in
     named_has lists query.group groups.keys groups.counts.items 0 groups.keys groups.counts.items (λ i x e. (λ k. slice_get groups.keys (zero-add i k)) ∙ e) at.0 key (f key) at.1
-    (ap (λ (xs : List ℕ). slice_get xs at.0) s.kept.counts ∙ slice_get-map f groups.keys at.0 ∙ ap (option_map f) at.1) (some_metrics query.group rows j d h)
+    (ap (λ (xs : List ℕ). slice_get xs at.0) s.totals.counts ∙ slice_get-map f groups.keys at.0 ∙ ap (option_map f) at.1) (some_metrics query.group rows j d h)
 
 above_from : (x : Named) (ys : List Named) → ((k : ℕ) → k < length ys → is_lt (values_cmp (get_or ys k x).values x.values) ≡ false) → AllByRecursion (λ w. is_lt (values_cmp w x.values) ≡ false) (values_of ys)
 above_from x [] h = tt
@@ -197,14 +197,14 @@ sorted_from : (xs : List Named) → ((i j : ℕ) (d : Named) → i ≤ j → j <
 sorted_from [] h = tt
 sorted_from (x ∷ xs) h = (above_from x xs (λ k l. h 0 (suc k) x (omega arith) (omega arith)), sorted_from xs (λ i j d l k. h (suc i) (suc j) d (omega arith) (omega arith)))
 
-pub named_sorted : (lists : List (List (List ℕ))) (query : BoundQuery) (rows : List CodedRow) (groups : Groups) (ns : List Named) → StandFor query rows groups → IsPermutation (named_from lists query.group 0 groups.keys groups.counts.items) ns → IsSortedBy (λ x y. is_lt (values_cmp x.values y.values)) ns
-    → AreNamed lists query rows groups ns × All (HasGroup query.group groups.keys ns) rows
+pub named_sorted : (lists : List (List (List ℕ))) (query : BoundQuery) (rows : List CodedRow) (groups : Groups) (ns : List Named) → StandsFor query rows groups → IsPermutation (named_from lists query.group 0 groups.keys groups.counts.items) ns → IsSortedBy (λ x y. is_lt (values_cmp x.values y.values)) ns
+    → AreNamed lists query rows groups ns × All (HasNamed query.group groups.keys ns) rows
 named_sorted lists query rows groups ns s moved sorted =
     let keys = groups.keys in
     let counts = groups.counts.items in
     let old = named_from lists query.group 0 keys counts in
     let named = All-permutation (IsNamed lists query.group keys counts) old ns moved (All-from_recursion (IsNamed lists query.group keys counts) old (named_all lists query.group keys counts 0 keys counts (λ i x e. (λ k. slice_get keys (zero-add i k)) ∙ e) (λ i x e. (λ k. slice_get counts (zero-add i k)) ∙ e))) in
-    let has : All (HasGroup query.group keys ns) rows = λ j d h. in_from_contains (map (key_at keys) ns) _ (Contains-permutation (map (key_at keys) old) (map (key_at keys) ns) _ (IsPermutation-map (key_at keys) old ns moved) (contains_from_in (map (key_at keys) old) _ (rows_named lists query rows groups s j d h))) in (
+    let has : All (HasNamed query.group keys ns) rows = λ j d h. in_from_contains (map (key_at keys) ns) _ (Contains-permutation (map (key_at keys) old) (map (key_at keys) ns) _ (IsPermutation-map (key_at keys) old ns moved) (contains_from_in (map (key_at keys) old) _ (rows_named lists query rows groups s j d h))) in (
       record {
         within = λ k d h. (named k d h).0;
         some = λ k d h. (named k d h).1;
@@ -218,9 +218,9 @@ named_sorted lists query rows groups ns s moved sorted =
 
 -- ---- the table
 
-no_rows : (group : List ℕ) (keys : List (List ℕ)) (ns : List Named) → ns ≡ [] → (rows : List CodedRow) → All (HasGroup group keys ns) rows → rows ≡ []
+no_rows : (group : List ℕ) (keys : List (List ℕ)) (ns : List Named) → ns ≡ [] → (rows : List CodedRow) → All (HasNamed group keys ns) rows → rows ≡ []
 no_rows group keys ns none [] has = refl
-no_rows group keys ns none (row ∷ rows) has = absurd (subst (λ (ms : List Named). IsIn (coded_key group row.coords) (map (key_at keys) ms)) none (All-head (HasGroup group keys ns) row rows has))
+no_rows group keys ns none (row ∷ rows) has = absurd (subst (λ (ms : List Named). IsIn (coded_key group row.coords) (map (key_at keys) ms)) none (All-head (HasNamed group keys ns) row rows has))
 
 items_empty : (items : List BoundItem) → map empty_field items ≡ map (item_of []) items
 items_empty [] = refl
@@ -231,44 +231,44 @@ items_empty (Min m ∷ items) = λ i. item_of [] (Min m) ∷ items_empty items i
 items_empty (Max m ∷ items) = λ i. item_of [] (Max m) ∷ items_empty items i
 items_empty (Avg m ∷ items) = λ i. item_of [] (Avg m) ∷ items_empty items i
 
-ends_are : (vs ks : List (List Value)) → AreSorted vs → Rising ks → ((u : List Value) → IsIn u vs → IsIn u ks) → ((u : List Value) → IsIn u ks → IsIn u vs) → ends vs ≡ ks
+ends_are : (vs ks : List (List Value)) → AreSorted vs → Rising ks → ((u : List Value) → IsIn u vs → IsIn u ks) → ((u : List Value) → IsIn u ks → IsIn u vs) → distinct_values vs ≡ ks
 ends_are [] ks s r f g = rising_same [] ks tt r f g
-ends_are (v ∷ vs) ks s r f g = rising_same (ends (v ∷ vs)) ks (ends_rising v vs s) r (λ u i. f u (from_ends u v vs i)) (λ u i. to_ends u v vs (g u i))
+ends_are (v ∷ vs) ks s r f g = rising_same (distinct_values (v ∷ vs)) ks (ends_rising v vs s) r (λ u i. f u (from_ends u v vs i)) (λ u i. to_ends u v vs (g u i))
 
 module _ (lists : List (List (List ℕ))) (query : BoundQuery) where
   abbrev keys_in : List CodedRow → List (List Value)
   keys_in rows = map (key_of query.group) (map (row_for lists) rows)
 
-  row_key : (rows : List CodedRow) (k : List ℕ) → All (IsRowOf query) rows → 0 < length (metrics_with query.group rows k) → IsIn (decoded_key lists query.group k) (keys_in rows)
+  row_key : (rows : List CodedRow) (k : List ℕ) → All (IsQueryRow query) rows → 0 < length (metrics_with query.group rows k) → IsIn (decoded_key lists query.group k) (keys_in rows)
   row_key [] k taken h = absurd (omega arith)
   row_key (row ∷ rows) k taken h =
       ⊎_elim
-      (λ same. inl (ap (decoded_key lists query.group) (sym ((bytes_eq-Decides (coded_key query.group row.coords) k).0 same)) ∙ key_is lists query.group row (All-head (IsRowOf query) row rows taken).sound.group))
-      (λ differ. inr (row_key rows k (All-tail (IsRowOf query) row rows taken) (subst (λ (b : Bool). 0 < length (map (λ (r : CodedRow). r.metrics) (cond b (row ∷ rest) rest))) differ h)))
+      (λ same. inl (ap (decoded_key lists query.group) (sym ((bytes_eq-Decides (coded_key query.group row.coords) k).0 same)) ∙ key_is lists query.group row (All-head (IsQueryRow query) row rows taken).sound.group))
+      (λ differ. inr (row_key rows k (All-tail (IsQueryRow query) row rows taken) (subst (λ (b : Bool). 0 < length (map (λ (r : CodedRow). r.metrics) (cond b (row ∷ rest) rest))) differ h)))
       (cases_Bool (bytes_eq (coded_key query.group row.coords) k))
     where
       rest : List CodedRow
       rest = filter (λ r. bytes_eq (coded_key query.group r.coords) k) rows
 
-  key_row : (keys : List (List ℕ)) (ns : List Named) → All (λ n. n.values ≡ decoded_key lists query.group (key_at keys n)) ns → (rows : List CodedRow) → All (IsRowOf query) rows → All (HasGroup query.group keys ns) rows → (u : List Value) → IsIn u (keys_in rows) → IsIn u (values_of ns)
+  key_row : (keys : List (List ℕ)) (ns : List Named) → All (λ n. n.values ≡ decoded_key lists query.group (key_at keys n)) ns → (rows : List CodedRow) → All (IsQueryRow query) rows → All (HasNamed query.group keys ns) rows → (u : List Value) → IsIn u (keys_in rows) → IsIn u (values_of ns)
   key_row keys ns values [] taken has u i = absurd i
   key_row keys ns values (row ∷ rows) taken has u (inl e) =
-      subst (λ (w : List Value). IsIn w (values_of ns)) (key_is lists query.group row (All-head (IsRowOf query) row rows taken).sound.group ∙ sym e)
-      (in_values (key_at keys) (decoded_key lists query.group) ns (coded_key query.group row.coords) values (All-head (HasGroup query.group keys ns) row rows has))
-  key_row keys ns values (row ∷ rows) taken has u (inr i) = key_row keys ns values rows (All-tail (IsRowOf query) row rows taken) (All-tail (HasGroup query.group keys ns) row rows has) u i
+      subst (λ (w : List Value). IsIn w (values_of ns)) (key_is lists query.group row (All-head (IsQueryRow query) row rows taken).sound.group ∙ sym e)
+      (in_values (key_at keys) (decoded_key lists query.group) ns (coded_key query.group row.coords) values (All-head (HasNamed query.group keys ns) row rows has))
+  key_row keys ns values (row ∷ rows) taken has u (inr i) = key_row keys ns values rows (All-tail (IsQueryRow query) row rows taken) (All-tail (HasNamed query.group keys ns) row rows has) u i
 
-  value_row : (rows : List CodedRow) (groups : Groups) → StandFor query rows groups → (ns : List Named) → All (λ n. n.place < length groups.keys) ns → All (λ n. 0 < unwrap_or (slice_get groups.counts.items n.place) 0) ns
+  value_row : (rows : List CodedRow) (groups : Groups) → StandsFor query rows groups → (ns : List Named) → All (λ n. n.place < length groups.keys) ns → All (λ n. 0 < unwrap_or (slice_get groups.counts.items n.place) 0) ns
       → All (λ n. n.values ≡ decoded_key lists query.group (key_at groups.keys n)) ns → (u : List Value) → IsIn u (values_of ns) → IsIn u (keys_in rows)
   value_row rows groups s [] within some values u i = absurd i
   value_row rows groups s (n ∷ ns) within some values u (inl e) =
       let k = key_at groups.keys n in
-      let count = count_at query.items (metrics_with query.group rows) groups s.kept n.place k (place_key groups.keys n (All-head (λ m. m.place < length groups.keys) n ns within)) 0 in
+      let count = count_at query.items (metrics_with query.group rows) groups s.totals n.place k (place_key groups.keys n (All-head (λ m. m.place < length groups.keys) n ns within)) 0 in
       subst (λ (w : List Value). IsIn w (keys_in rows)) (sym (e ∙ All-head (λ m. m.values ≡ decoded_key lists query.group (key_at groups.keys m)) n ns values))
       (row_key rows k s.taken (omega (arith, All-head (λ m. 0 < unwrap_or (slice_get groups.counts.items m.place) 0) n ns some, unwrap_or-slice_get groups.counts.items n.place 0, count)))
   value_row rows groups s (n ∷ ns) within some values u (inr i) =
       value_row rows groups s ns (All-tail (λ m. m.place < length groups.keys) n ns within) (All-tail (λ m. 0 < unwrap_or (slice_get groups.counts.items m.place) 0) n ns some) (All-tail (λ m. m.values ≡ decoded_key lists query.group (key_at groups.keys m)) n ns values) u i
 
-  pub table_is : (rows : List CodedRow) (groups : Groups) (ns : List Named) → StandFor query rows groups → AreNamed lists query rows groups ns → All (HasGroup query.group groups.keys ns) rows → (query.group ≡ [] → 0 < length ns)
+  pub table_is : (rows : List CodedRow) (groups : Groups) (ns : List Named) → StandsFor query rows groups → AreNamed lists query rows groups ns → All (HasNamed query.group groups.keys ns) rows → (query.group ≡ [] → 0 < length ns)
       → lines_of lists query rows ns ≡ table_of query.group query.items (map (row_for lists) rows)
   table_is rows groups ns s r has some = ap (map (line_of lists query rows)) (at query.group refl)
     where
@@ -298,7 +298,7 @@ module _ (lists : List (List (List ℕ))) (query : BoundQuery) where
           only (inl e) = inl (sym e)
           only (inr j) = absurd j
 
-      at : (g : List ℕ) → query.group ≡ g → ends (values_of ns) ≡ keys_of g (map (row_for lists) rows)
+      at : (g : List ℕ) → query.group ≡ g → distinct_values (values_of ns) ≡ keys_of g (map (row_for lists) rows)
       at [] e =
           let only = λ (u : List Value) (i : IsIn u (values_of ns)). none query.group e rows u (to u i) in
           ends_are (values_of ns) ([] ∷ []) r.sorted (tt, tt) only (λ u i. empty u i (first ns (some e) only))
@@ -313,7 +313,7 @@ module _ (lists : List (List (List ℕ))) (query : BoundQuery) where
           (λ u i. to_keys u [] ws (subst (IsIn u) same (to u i)))
           (λ u i. back u (subst (IsIn u) (sym same) (fold_in ws u i)))
 
-  pub empty_table : (rows : List CodedRow) (groups : Groups) (ns : List Named) → All (HasGroup query.group groups.keys ns) rows → ns ≡ [] → query.group ≡ []
+  pub empty_table : (rows : List CodedRow) (groups : Groups) (ns : List Named) → All (HasNamed query.group groups.keys ns) rows → ns ≡ [] → query.group ≡ []
       → map empty_field query.items ∷ [] ≡ table_of query.group query.items (map (row_for lists) rows)
   empty_table rows groups ns has none e =
       let is_empty : rows ≡ [] = no_rows query.group groups.keys ns none rows has in

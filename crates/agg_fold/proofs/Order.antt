@@ -1,4 +1,4 @@
--- The order of keys by their values: lists that rise, and the ends of runs.
+-- The order of keys by their values: lists that rise, and the distinct_values of runs.
 use Rattle.std.proofs.Common.{◌≡◌, ◌⊎◌, inl, inr, Bool, true, false, cond, List, [], ◌∷◌, fold, refl, sym, ap, ◌∙◌, subst}
 use Rattle.std.specs.Cmp.{IsTotalOrder}
 use Rattle.std.specs.List.{AllByRecursion}
@@ -13,7 +13,7 @@ use Rattle.cube_values.specs.SameValues.{same_values}
 use Rattle.cube_values.specs.Values.{value_cmp, values_cmp, values_eq}
 use Rattle.cube_values.specs.declared.value.Value.{Value}
 use Rattle.cube_values.specs.declared.value.Value.TheVariants.{Text, Int}
-use Rattle.agg_fold.specs.Tables.{AreSorted, IsIn, ends}
+use Rattle.agg_fold.specs.Tables.{AreSorted, IsIn, distinct_values}
 
 antisymm : (x y : Value) → value_cmp x y ≡ ordering_reverse (value_cmp y x)
 antisymm (Int a) (Int b) = int_cmp_total.antisymm a b
@@ -178,13 +178,13 @@ to_keys u ks [] i = absurd i
 to_keys u ks (w ∷ ws) (inl e) = subst (λ (x : List Value). IsIn x (fold with_key (with_key ks w) ws)) (sym e) (kept_key w (with_key ks w) ws (key_in ks w))
 to_keys u ks (w ∷ ws) (inr i) = to_keys u (with_key ks w) ws i
 
--- ---- the ends of runs
+-- ---- the distinct_values of runs
 
-ends_all : (P : List Value → Type 0) (v : List Value) (vs : List (List Value)) → AllByRecursion P (v ∷ vs) → AllByRecursion P (ends (v ∷ vs))
+ends_all : (P : List Value → Type 0) (v : List Value) (vs : List (List Value)) → AllByRecursion P (v ∷ vs) → AllByRecursion P (distinct_values (v ∷ vs))
 ends_all P v [] h = h
 ends_all P v (w ∷ vs) h = at (ends_all P w vs h.1) (values_eq v w)
   where
-    at : AllByRecursion P (ends (w ∷ vs)) → (b : Bool) → AllByRecursion P (cond b (ends (w ∷ vs)) (v ∷ ends (w ∷ vs)))
+    at : AllByRecursion P (distinct_values (w ∷ vs)) → (b : Bool) → AllByRecursion P (cond b (distinct_values (w ∷ vs)) (v ∷ distinct_values (w ∷ vs)))
     at rest true = rest
     at rest false = (h.0, rest)
 
@@ -211,28 +211,28 @@ all_later v w vs s differ =
     let first = next_less v w s.0.0 differ in
     (first, all_weaker (λ u. is_lt (values_cmp u w) ≡ false) (λ u. values_cmp v u ≡ Less) (λ u. later v w u first) vs s.1.0)
 
-pub ends_rising : (v : List Value) (vs : List (List Value)) → AreSorted (v ∷ vs) → Rising (ends (v ∷ vs))
+pub ends_rising : (v : List Value) (vs : List (List Value)) → AreSorted (v ∷ vs) → Rising (distinct_values (v ∷ vs))
 ends_rising v [] s = (tt, tt)
 ends_rising v (w ∷ vs) s = at (ends_rising w vs s.1) (values_eq v w) refl
   where
-    at : Rising (ends (w ∷ vs)) → (b : Bool) → values_eq v w ≡ b → Rising (cond b (ends (w ∷ vs)) (v ∷ ends (w ∷ vs)))
+    at : Rising (distinct_values (w ∷ vs)) → (b : Bool) → values_eq v w ≡ b → Rising (cond b (distinct_values (w ∷ vs)) (v ∷ distinct_values (w ∷ vs)))
     at rest true e = rest
     at rest false e = (ends_all (λ u. values_cmp v u ≡ Less) w vs (all_later v w vs s e), rest)
 
-pub from_ends : (u v : List Value) (vs : List (List Value)) → IsIn u (ends (v ∷ vs)) → IsIn u (v ∷ vs)
+pub from_ends : (u v : List Value) (vs : List (List Value)) → IsIn u (distinct_values (v ∷ vs)) → IsIn u (v ∷ vs)
 from_ends u v [] i = i
 from_ends u v (w ∷ vs) i = at (λ j. from_ends u w vs j) (values_eq v w) i
   where
-    at : (IsIn u (ends (w ∷ vs)) → IsIn u (w ∷ vs)) → (b : Bool) → IsIn u (cond b (ends (w ∷ vs)) (v ∷ ends (w ∷ vs))) → IsIn u (v ∷ w ∷ vs)
+    at : (IsIn u (distinct_values (w ∷ vs)) → IsIn u (w ∷ vs)) → (b : Bool) → IsIn u (cond b (distinct_values (w ∷ vs)) (v ∷ distinct_values (w ∷ vs))) → IsIn u (v ∷ w ∷ vs)
     at rest true i = inr (rest i)
     at rest false (inl e) = inl e
     at rest false (inr i) = inr (rest i)
 
-pub to_ends : (u v : List Value) (vs : List (List Value)) → IsIn u (v ∷ vs) → IsIn u (ends (v ∷ vs))
+pub to_ends : (u v : List Value) (vs : List (List Value)) → IsIn u (v ∷ vs) → IsIn u (distinct_values (v ∷ vs))
 to_ends u v [] i = i
 to_ends u v (w ∷ vs) i = at (λ j. to_ends u w vs j) (values_eq v w) refl i
   where
-    at : (IsIn u (w ∷ vs) → IsIn u (ends (w ∷ vs))) → (b : Bool) → values_eq v w ≡ b → IsIn u (v ∷ w ∷ vs) → IsIn u (cond b (ends (w ∷ vs)) (v ∷ ends (w ∷ vs)))
+    at : (IsIn u (w ∷ vs) → IsIn u (distinct_values (w ∷ vs))) → (b : Bool) → values_eq v w ≡ b → IsIn u (v ∷ w ∷ vs) → IsIn u (cond b (distinct_values (w ∷ vs)) (v ∷ distinct_values (w ∷ vs)))
     at rest true e (inl k) = rest (inl (k ∙ (same_values v w).0 e))
     at rest true e (inr i) = rest i
     at rest false e (inl k) = inl k

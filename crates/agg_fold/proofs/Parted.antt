@@ -12,8 +12,8 @@ use Rattle.std.proofs.lemmas.Slice.Eq.{bytes_eq-Decides}
 use Rattle.cube_values.specs.declared.query.BoundItem.{BoundItem}
 use Rattle.cube_values.specs.declared.query.BoundItem.TheVariants.{Group, Count, Sum, Min, Max, Avg}
 use Rattle.cube_values.specs.declared.row.CodedRow.{CodedRow}
-use Rattle.agg_fold.specs.declared.cell.Cell.TheVariants.{Total, Least, Greatest}
-use Rattle.agg_fold.specs.Cells.{number_at, numbers_of, lowest, highest, cell_of}
+use Rattle.agg_fold.specs.declared.tally.Tally.TheVariants.{Total, Least, Greatest}
+use Rattle.agg_fold.specs.Tallies.{number_at, numbers_of, lowest, highest, tally_of}
 use Rattle.agg_fold.specs.Coded.{coded_key, metrics_with}
 use Rattle.agg_fold.specs.Places.{is_among}
 
@@ -21,7 +21,7 @@ use Rattle.agg_fold.specs.Places.{is_among}
 abbrev pub metrics_among : List ℕ → List CodedRow → List (List ℕ) → List (List ℤ)
 metrics_among group rows ks = map (λ row. row.metrics) (filter (λ row. is_among ks (coded_key group row.coords)) rows)
 
-head_absent : (k : List ℕ) (ks : List (List ℕ)) → AllByRecursion (λ y. bytes_eq k y ≡ false) ks → is_among ks k ≡ false
+pub head_absent : (k : List ℕ) (ks : List (List ℕ)) → AllByRecursion (λ y. bytes_eq k y ≡ false) ks → is_among ks k ≡ false
 head_absent k [] h = refl
 head_absent k (y ∷ ks) h = λ i. h.0 i || head_absent k ks h.1 i
 
@@ -82,17 +82,6 @@ counted : (n : ℕ) (ms : List (List ℤ)) → fold (λ (m : ℕ) (x : List ℤ)
 counted n [] = omega arith
 counted n (m ∷ ms) = counted (n + 1) ms ∙ omega arith
 
-pub length_parted : (group : List ℕ) (rows : List CodedRow) (ks : List (List ℕ)) → IsDistinct bytes_eq ks → length (flat_map (metrics_with group rows) ks) ≡ length (metrics_among group rows ks)
-length_parted group rows ks once =
-    omega (arith, counted 0 (flat_map (metrics_with group rows) ks), counted 0 (metrics_among group rows ks), parted (λ (m : ℕ) (x : List ℤ). m + 1) (λ a x y. refl) group rows ks once 0)
-
-folds_parted : (f : ℤ → ℤ → ℤ) → ((a x y : ℤ) → f (f a x) y ≡ f (f a y) x) → (a : ℤ) (m : ℕ) (group : List ℕ) (rows : List CodedRow) (ks : List (List ℕ)) → IsDistinct bytes_eq ks
-    → fold f a (numbers_of m (flat_map (metrics_with group rows) ks)) ≡ fold f a (numbers_of m (metrics_among group rows ks))
-folds_parted f comm a m group rows ks once =
-    fold-map f (number_at m) a (flat_map (metrics_with group rows) ks)
-    ∙ parted (λ (b : ℤ) (x : List ℤ). f b (number_at m x)) (λ b x y. comm b (number_at m x) (number_at m y)) group rows ks once a
-    ∙ sym (fold-map f (number_at m) a (metrics_among group rows ks))
-
 add_comm : (a x y : ℤ) → (a +ℤ x) +ℤ y ≡ (a +ℤ y) +ℤ x
 add_comm a x y = omega (arith, ints)
 
@@ -102,10 +91,31 @@ min_comm a x y = omega (arith, ints, clamps)
 max_comm : (a x y : ℤ) → int_max (int_max a x) y ≡ int_max (int_max a y) x
 max_comm a x y = omega (arith, ints, clamps)
 
-pub cell_parted : (group : List ℕ) (rows : List CodedRow) (ks : List (List ℕ)) → IsDistinct bytes_eq ks → (item : BoundItem) → cell_of (flat_map (metrics_with group rows) ks) item ≡ cell_of (metrics_among group rows ks) item
-cell_parted group rows ks once (Group dim) = refl
-cell_parted group rows ks once Count = refl
-cell_parted group rows ks once (Sum m) = ap Total (folds_parted ◌+ℤ◌ add_comm (pos 0) m group rows ks once)
-cell_parted group rows ks once (Min m) = ap Least (folds_parted int_min min_comm highest m group rows ks once)
-cell_parted group rows ks once (Max m) = ap Greatest (folds_parted int_max max_comm lowest m group rows ks once)
-cell_parted group rows ks once (Avg m) = ap Total (folds_parted ◌+ℤ◌ add_comm (pos 0) m group rows ks once)
+-- two lists of rows over which all folds agree in which the order counts for nothing
+module _ (ms ns : List (List ℤ)) (agree : (B : Type 0) (F : B → List ℤ → B) → ((a : B) (x y : List ℤ) → F (F a x) y ≡ F (F a y) x) → (a : B) → fold F a ms ≡ fold F a ns) where
+  same_length : length ms ≡ length ns
+  same_length = omega (arith, counted 0 ms, counted 0 ns, agree ℕ (λ (m : ℕ) (x : List ℤ). m + 1) (λ a x y. refl) 0)
+
+  same_numbers : (f : ℤ → ℤ → ℤ) → ((a x y : ℤ) → f (f a x) y ≡ f (f a y) x) → (a : ℤ) (m : ℕ) → fold f a (numbers_of m ms) ≡ fold f a (numbers_of m ns)
+  same_numbers f comm a m =
+      fold-map f (number_at m) a ms
+      ∙ agree ℤ (λ (b : ℤ) (x : List ℤ). f b (number_at m x)) (λ b x y. comm b (number_at m x) (number_at m y)) a
+      ∙ sym (fold-map f (number_at m) a ns)
+
+  same_tally : (item : BoundItem) → tally_of ms item ≡ tally_of ns item
+  same_tally (Group dim) = refl
+  same_tally Count = refl
+  same_tally (Sum m) = ap Total (same_numbers ◌+ℤ◌ add_comm (pos 0) m)
+  same_tally (Min m) = ap Least (same_numbers int_min min_comm highest m)
+  same_tally (Max m) = ap Greatest (same_numbers int_max max_comm lowest m)
+  same_tally (Avg m) = ap Total (same_numbers ◌+ℤ◌ add_comm (pos 0) m)
+
+  pub tally_folded : (length ms ≡ length ns) × ((item : BoundItem) → tally_of ms item ≡ tally_of ns item)
+  tally_folded = (same_length, same_tally)
+
+module _ (group : List ℕ) (rows : List CodedRow) (ks : List (List ℕ)) (once : IsDistinct bytes_eq ks) where
+  pub length_parted : length (flat_map (metrics_with group rows) ks) ≡ length (metrics_among group rows ks)
+  length_parted = (tally_folded (flat_map (metrics_with group rows) ks) (metrics_among group rows ks) (λ B F comm a. parted F comm group rows ks once a)).0
+
+  pub tally_parted : (item : BoundItem) → tally_of (flat_map (metrics_with group rows) ks) item ≡ tally_of (metrics_among group rows ks) item
+  tally_parted = (tally_folded (flat_map (metrics_with group rows) ks) (metrics_among group rows ks) (λ B F comm a. parted F comm group rows ks once a)).1

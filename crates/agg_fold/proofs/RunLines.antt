@@ -17,11 +17,11 @@ use Rattle.cube_values.specs.declared.value.Value.{Value}
 use Rattle.cube_values.specs.Values.{values_cmp}
 use Rattle.agg_fold.specs.declared.finish.Named.{Named}
 use Rattle.agg_fold.specs.declared.groups.Groups.{Groups}
-use Rattle.agg_fold.specs.Cells.{number_for, AreFew}
-use Rattle.agg_fold.specs.Coded.{IsRowOf, coded_key, metrics_with}
+use Rattle.agg_fold.specs.Tallies.{number_for, AreFew}
+use Rattle.agg_fold.specs.Coded.{IsQueryRow, coded_key, metrics_with}
 use Rattle.agg_fold.specs.Places.{is_among}
-use Rattle.agg_fold.specs.Standing.{StandFor}
-use Rattle.agg_fold.specs.Tables.{key_at, values_of, AreSorted, IsIn, AreNamed, line_of, lines_of, run_metrics, line_kept, BeginOtherwise, IsRun}
+use Rattle.agg_fold.specs.Standing.{StandsFor}
+use Rattle.agg_fold.specs.Tables.{key_at, values_of, AreSorted, IsIn, AreNamed, line_of, lines_of, run_metrics, line_of_tallies, BeginOtherwise, IsRun}
 use Rattle.agg_fold.proofs.Lines.{line_is}
 use Rattle.agg_fold.proofs.Order.{values_total}
 use Rattle.agg_fold.proofs.Parted.{length_parted, metrics_among}
@@ -44,19 +44,15 @@ all_flat : (P : List ℤ → Type 0) (f : Named → List (List ℤ)) → ((n : N
 all_flat P f h [] = All-nil P
 all_flat P f h (n ∷ ns) = All-append P (f n) (flat_map f ns) (h n) (all_flat P f h ns)
 
-pub few_of_run : (query : BoundQuery) (rows : List CodedRow) (keys : List (List ℕ)) (run : List Named) → length (run_metrics query.group rows keys run) < 2 ^ 63 → All (IsRowOf query) rows → All (λ item. AreFew item (run_metrics query.group rows keys run)) query.items
+pub few_of_run : (query : BoundQuery) (rows : List CodedRow) (keys : List (List ℕ)) (run : List Named) → length (run_metrics query.group rows keys run) < 2 ^ 63 → All (IsQueryRow query) rows → All (λ item. AreFew item (run_metrics query.group rows keys run)) query.items
 few_of_run query rows keys run few taken k d within =
     let fits = λ (m : List ℤ). FitsSigned w64 (number_for (get_or query.items k d) m) in
     record {
       fit = all_flat fits (λ (n : Named). metrics_with query.group rows (key_at keys n))
           (λ n. All-map fits (λ (row : CodedRow). row.metrics) (filter (λ row. bytes_eq (coded_key query.group row.coords) (key_at keys n)) rows)
-          (All-filter (λ row. bytes_eq (coded_key query.group row.coords) (key_at keys n)) (λ row. fits row.metrics) rows (All-weaker (IsRowOf query) (λ row. fits row.metrics) (λ row h. h.fit k d within) rows taken))) run;
+          (All-filter (λ row. bytes_eq (coded_key query.group row.coords) (key_at keys n)) (λ row. fits row.metrics) rows (All-weaker (IsQueryRow query) (λ row. fits row.metrics) (λ row h. h.fit k d within) rows taken))) run;
       few = few;
     }
-
-pub zip_map : {X Y Z : Type 0} (h : X → Y → Z) (f : X → Y) (xs : List X) → map (λ (p : X × Y). h p.0 p.1) (zip xs (map f xs)) ≡ map (λ x. h x (f x)) xs
-zip_map h f [] = refl
-zip_map h f (x ∷ xs) = ap (λ (zs : List _). h x (f x) ∷ zs) (zip_map h f xs)
 
 -- ---- one run
 
@@ -87,14 +83,14 @@ pub run_few : (group : List ℕ) (rows : List CodedRow) (keys : List (List ℕ))
 run_few group rows keys run once =
     omega (arith, ap length (flat_map-map (metrics_with group rows) (key_at keys) run), length_parted group rows (map (key_at keys) run) once, among_few group rows (map (key_at keys) run))
 
-pub run_some : (query : BoundQuery) (rows : List CodedRow) (groups : Groups) (run : List Named) (d : Named) → StandFor query rows groups → All (λ n. n.place < length groups.keys) run → All (λ n. 0 < unwrap_or (slice_get groups.counts.items n.place) 0) run → 0 < length run → 0 < length (run_metrics query.group rows groups.keys run)
+pub run_some : (query : BoundQuery) (rows : List CodedRow) (groups : Groups) (run : List Named) (d : Named) → StandsFor query rows groups → All (λ n. n.place < length groups.keys) run → All (λ n. 0 < unwrap_or (slice_get groups.counts.items n.place) 0) run → 0 < length run → 0 < length (run_metrics query.group rows groups.keys run)
 run_some query rows groups run d s within some h =
     let first = get_or run 0 d in
-    let n = count_at query.items (metrics_with query.group rows) groups s.kept first.place (key_at groups.keys first) (key_here groups.keys first (within 0 d h)) 0 in
+    let n = count_at query.items (metrics_with query.group rows) groups s.totals first.place (key_at groups.keys first) (key_here groups.keys first (within 0 d h)) 0 in
     omega (arith, some 0 d h, unwrap_or-slice_get groups.counts.items first.place 0, n, run_bound query.group rows groups.keys run 0 d h)
 
 module _ (lists : List (List (List ℕ))) (query : BoundQuery) (rows : List CodedRow) (groups : Groups) (ns : List Named) (d : Named) (n : ℕ) (v : List Value)
-    (h : 0 < length ns) (first : v ≡ (get_or ns 0 d).values) (s : StandFor query rows groups) (r : AreNamed lists query rows groups ns) (run : IsRun v ns n) where
+    (h : 0 < length ns) (first : v ≡ (get_or ns 0 d).values) (s : StandsFor query rows groups) (r : AreNamed lists query rows groups ns) (run : IsRun v ns n) where
   low : AllByRecursion (λ w. is_lt (values_cmp w v) ≡ false) (values_of ns)
   low = subst (λ (u : List Value). AllByRecursion (λ w. is_lt (values_cmp w u) ≡ false) (values_of ns)) (sym first) (low_first ns d h r.sorted)
 
@@ -104,7 +100,7 @@ module _ (lists : List (List (List ℕ))) (query : BoundQuery) (rows : List Code
   some_n : 0 < n
   some_n = first_some ns d n h (subst (λ (u : List Value). BeginOtherwise u (drop n ns)) first run.ended)
 
-  pub run_lines_of : lines_of lists query rows ns ≡ line_kept query v (run_metrics query.group rows groups.keys (take n ns)) ∷ lines_of lists query rows (drop n ns)
+  pub run_lines_of : lines_of lists query rows ns ≡ line_of_tallies query v (run_metrics query.group rows groups.keys (take n ns)) ∷ lines_of lists query rows (drop n ns)
   run_lines_of =
       let ks = map (key_at groups.keys) (take n ns) in
       let flat : flat_map (metrics_with query.group rows) ks ≡ run_metrics query.group rows groups.keys (take n ns) = flat_map-map (metrics_with query.group rows) (key_at groups.keys) (take n ns) in
@@ -113,4 +109,4 @@ module _ (lists : List (List (List ℕ))) (query : BoundQuery) (rows : List Code
       ap (map (line_of lists query rows)) (ends_run v n ns some_n run.within run.same run.ended)
       ∙ (λ i. (line_is lists query v ks rows (once_take (key_at groups.keys) n ns r.once) s.taken
       (run_agrees lists query rows groups ns r v n low run s.taken (subst (λ (u : List Value). IsIn u (values_of ns)) (sym first) (first_in ns d h))) (omega (arith, ap length flat, some))
-      ∙ ap (line_kept query v) flat) i ∷ lines_of lists query rows (drop n ns))
+      ∙ ap (line_of_tallies query v) flat) i ∷ lines_of lists query rows (drop n ns))

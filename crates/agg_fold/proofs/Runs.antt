@@ -15,10 +15,10 @@ use Rattle.cube_values.specs.SameValues.{same_values}
 use Rattle.cube_values.specs.Values.{values_cmp, values_eq}
 use Rattle.agg_fold.specs.declared.finish.Named.{Named}
 use Rattle.agg_fold.specs.declared.groups.Groups.{Groups}
-use Rattle.agg_fold.specs.Coded.{IsRowOf, coded_key, row_for}
+use Rattle.agg_fold.specs.Coded.{IsQueryRow, coded_key, row_for}
 use Rattle.agg_fold.specs.Lines.{decoded_key}
 use Rattle.agg_fold.specs.Places.{is_among}
-use Rattle.agg_fold.specs.Tables.{key_at, values_of, AreSorted, IsIn, values_at, AreNamed, ends, BeginOtherwise, IsRun}
+use Rattle.agg_fold.specs.Tables.{key_at, values_of, AreSorted, IsIn, values_at, AreNamed, distinct_values, BeginOtherwise, IsRun}
 use Rattle.agg_fold.proofs.Lines.{Agrees, key_is}
 use Rattle.agg_fold.proofs.Standing.{none_once}
 use Rattle.std.specs.declared.cmp.Ordering.TheVariants.{Less}
@@ -103,25 +103,25 @@ others_from v zero (m ∷ ns) low sorted begin =
 others_from v (suc n) [] low sorted begin = tt
 others_from v (suc n) (m ∷ ns) low sorted begin = others_from v n ns low.1 sorted.1 begin
 
-pub ends_run : (v : List Value) (n : ℕ) (ns : List Named) → 0 < n → n ≤ length ns → All (λ m. m.values ≡ v) (take n ns) → BeginOtherwise v (drop n ns) → ends (values_of ns) ≡ v ∷ ends (values_of (drop n ns))
+pub ends_run : (v : List Value) (n : ℕ) (ns : List Named) → 0 < n → n ≤ length ns → All (λ m. m.values ≡ v) (take n ns) → BeginOtherwise v (drop n ns) → distinct_values (values_of ns) ≡ v ∷ distinct_values (values_of (drop n ns))
 ends_run v zero ns h le same begin = absurd (omega arith)
 ends_run v (suc n) [] h le same begin = absurd (omega arith)
 ends_run v (suc zero) (m ∷ []) h le same begin = λ i. All-head (λ k. k.values ≡ v) m [] same i ∷ []
 ends_run v (suc (suc n)) (m ∷ []) h le same begin = absurd (omega arith)
 ends_run v (suc zero) (m ∷ k ∷ ns) h le same begin =
     let e : m.values ≡ v = All-head (λ j. j.values ≡ v) m [] same in
-    ap (λ (b : Bool). cond b (ends (values_of (k ∷ ns))) (m.values ∷ ends (values_of (k ∷ ns)))) (ap (λ (w : List Value). values_eq w k.values) e ∙ differ v k.values begin)
-    ∙ ap (λ (w : List Value). w ∷ ends (values_of (k ∷ ns))) e
+    ap (λ (b : Bool). cond b (distinct_values (values_of (k ∷ ns))) (m.values ∷ distinct_values (values_of (k ∷ ns)))) (ap (λ (w : List Value). values_eq w k.values) e ∙ differ v k.values begin)
+    ∙ ap (λ (w : List Value). w ∷ distinct_values (values_of (k ∷ ns))) e
 ends_run v (suc (suc n)) (m ∷ k ∷ ns) h le same begin =
     let rest = All-tail (λ j. j.values ≡ v) m (k ∷ take n ns) same in
     let e : m.values ≡ k.values = All-head (λ j. j.values ≡ v) m (k ∷ take n ns) same ∙ sym (All-head (λ j. j.values ≡ v) k (take n ns) rest) in
-    ap (λ (b : Bool). cond b (ends (values_of (k ∷ ns))) (m.values ∷ ends (values_of (k ∷ ns)))) ((same_values m.values k.values).1 e)
+    ap (λ (b : Bool). cond b (distinct_values (values_of (k ∷ ns))) (m.values ∷ distinct_values (values_of (k ∷ ns)))) ((same_values m.values k.values).1 e)
     ∙ ends_run v (suc n) (k ∷ ns) (omega arith) (omega arith) rest begin
 
 -- ---- the rows of a run
 
 module _ (lists : List (List (List ℕ))) (query : BoundQuery) (rows : List CodedRow) (groups : Groups) (ns : List Named) (r : AreNamed lists query rows groups ns) (v : List Value) (n : ℕ)
-    (low : AllByRecursion (λ w. is_lt (values_cmp w v) ≡ false) (values_of ns)) (run : IsRun v ns n) (taken : All (IsRowOf query) rows) where
+    (low : AllByRecursion (λ w. is_lt (values_cmp w v) ≡ false) (values_of ns)) (run : IsRun v ns n) (taken : All (IsQueryRow query) rows) where
   abbrev key : Named → List ℕ
   key = key_at groups.keys
 

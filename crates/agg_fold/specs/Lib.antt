@@ -1,7 +1,8 @@
-pub mod Cells
+pub mod Tallies
 pub mod Places
 pub mod Coded
 pub mod Standing
+pub mod Totals
 pub mod Lines
-pub mod Partials
 pub mod Tables
+pub mod Worked

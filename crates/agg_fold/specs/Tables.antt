@@ -13,9 +13,10 @@ use Rattle.std.specs.List.{AllByRecursion}
 use Rattle.std.specs.Prelude.{false}
 use Rattle.agg_fold.specs.declared.finish.Named.{Named}
 use Rattle.agg_fold.specs.declared.groups.Groups.{Groups}
-use Rattle.agg_fold.specs.Cells.{cell_of}
+use Rattle.agg_fold.specs.Tallies.{tally_of}
 use Rattle.agg_fold.specs.Coded.{coded_key, metrics_with, row_for}
 use Rattle.agg_fold.specs.Lines.{decoded_key, field_for}
+use Rattle.agg_fold.specs.Standing.{StandsFor}
 
 -- The groups that have rows, from a place on.
 abbrev pub named_from : List (List (List ℕ)) → List ℕ → ℕ → List (List ℕ) → List ℕ → List Named
@@ -24,6 +25,10 @@ named_from lists group place (key ∷ keys) [] = []
 named_from lists group place (key ∷ keys) (count ∷ counts) =
     if count == 0 then named_from lists group (place + 1) keys counts
     else record { values = decoded_key lists group key; place = place } ∷ named_from lists group (place + 1) keys counts
+
+-- The groups that have rows.
+abbrev pub groups_named : List (List (List ℕ)) → BoundQuery → Groups → List Named
+groups_named lists query groups = named_from lists query.group 0 groups.keys groups.counts.items
 
 -- The key of a group.
 abbrev pub key_at : List (List ℕ) → Named → List ℕ
@@ -47,21 +52,29 @@ IsIn x (y ∷ ys) = (x ≡ y) ⊎ IsIn x ys
 abbrev pub values_at : List (List (List ℕ)) → List ℕ → CodedRow → List Value
 values_at lists group row = decoded_key lists group (coded_key group row.coords)
 
+-- The group of a row is one of these, or none of them has the values of the row.
+abbrev pub IsCovered : List (List (List ℕ)) → BoundQuery → List (List ℕ) → List Named → CodedRow → Type 0
+IsCovered lists query keys named row =
+    IsIn (coded_key query.group row.coords) (map (key_at keys) named)
+    ⊎ AllByRecursion (λ v. v ≢ values_at lists query.group row) (values_of named)
+
 -- These are groups of rows, sorted by what their keys stand for. Of each row the group is one of them, or
 -- no group with the values of the row is.
-pub record AreNamed (lists : List (List (List ℕ))) (query : BoundQuery) (rows : List CodedRow) (groups : Groups) (named : List Named) : Type 0 where
+pub record AreNamed (lists : List (List (List ℕ))) (query : BoundQuery) (rows : List CodedRow)
+    (groups : Groups) (named : List Named) : Type 0 where
   pub within : All (λ n. n.place < length groups.keys) named
   pub some : All (λ n. 0 < unwrap_or (slice_get groups.counts.items n.place) 0) named
   pub values : All (λ n. n.values ≡ decoded_key lists query.group (key_at groups.keys n)) named
   pub once : IsDistinct bytes_eq (map (key_at groups.keys) named)
-  pub all : All (λ row. IsIn (coded_key query.group row.coords) (map (key_at groups.keys) named) ⊎ AllByRecursion (λ v. v ≢ values_at lists query.group row) (values_of named)) rows
+  pub all : All (IsCovered lists query groups.keys named) rows
   pub sorted : AreSorted (values_of named)
 
 -- The last of each run of equal lists of values.
-abbrev pub ends : List (List Value) → List (List Value)
-ends [] = []
-ends (v ∷ []) = v ∷ []
-ends (v ∷ w ∷ values) = if values_eq v w then ends (w ∷ values) else v ∷ ends (w ∷ values)
+abbrev pub distinct_values : List (List Value) → List (List Value)
+distinct_values [] = []
+distinct_values (v ∷ []) = v ∷ []
+distinct_values (v ∷ w ∷ values) =
+    if values_eq v w then distinct_values (w ∷ values) else v ∷ distinct_values (w ∷ values)
 
 -- The line of a key.
 abbrev pub line_of : List (List (List ℕ)) → BoundQuery → List CodedRow → List Value → List Field
@@ -69,15 +82,40 @@ line_of lists query rows values = map (item_of (rows_of_key query.group (map (ro
 
 -- The lines of groups.
 abbrev pub lines_of : List (List (List ℕ)) → BoundQuery → List CodedRow → List Named → List (List Field)
-lines_of lists query rows named = map (line_of lists query rows) (ends (values_of named))
+lines_of lists query rows named = map (line_of lists query rows) (distinct_values (values_of named))
 
 -- The metrics of the rows of a run.
 abbrev pub run_metrics : List ℕ → List CodedRow → List (List ℕ) → List Named → List (List ℤ)
 run_metrics group rows keys run = flat_map (λ n. metrics_with group rows (key_at keys n)) run
 
--- The line by what is kept.
-abbrev pub line_kept : BoundQuery → List Value → List (List ℤ) → List Field
-line_kept query values metrics = map (λ item. field_for query.group values (length metrics) item (cell_of metrics item)) query.items
+-- The line of rows of one key by their tallies.
+abbrev pub line_of_tallies : BoundQuery → List Value → List (List ℤ) → List Field
+line_of_tallies query values metrics =
+    map (λ item. field_for query.group values (length metrics) item (tally_of metrics item)) query.items
+
+-- The groups stand for some rows, of which these groups are.
+abbrev pub HasNamed : List (List (List ℕ)) → BoundQuery → Groups → List Named → Type 0
+HasNamed lists query groups named =
+    (rows : List CodedRow) × StandsFor query rows groups × AreNamed lists query rows groups named
+
+-- These lines are those of the groups, for any rows of which these groups are.
+abbrev pub AreLines : List (List (List ℕ)) → BoundQuery → Groups → List Named → List (List Field) → Type 0
+AreLines lists query groups named lines =
+    (rows : List CodedRow) → StandsFor query rows groups → AreNamed lists query rows groups named
+    → lines ≡ lines_of lists query rows named
+
+-- Groups stand for rows, and those of a run have some of them.
+pub record HasRun (query : BoundQuery) (rows : List CodedRow) (groups : Groups) (run : List Named) : Type 0 where
+  pub stands : StandsFor query rows groups
+  pub within : All (λ n. n.place < length groups.keys) run
+  pub some : All (λ n. 0 < unwrap_or (slice_get groups.counts.items n.place) 0) run
+  pub few : length (run_metrics query.group rows groups.keys run) ≤ length rows
+
+-- This is the line of a run, for any rows that groups stand for.
+abbrev pub IsRunLine : BoundQuery → Groups → List Value → List Named → List Field → Type 0
+IsRunLine query groups values run line =
+    (rows : List CodedRow) → StandsFor query rows groups
+    → line ≡ line_of_tallies query values (run_metrics query.group rows groups.keys run)
 
 -- The first of these, where there is one, has other values.
 abbrev pub BeginOtherwise : List Value → List Named → Type 0

@@ -1,17 +1,16 @@
 //! The table of groups, by the values of their keys.
 
-ghost use Rattle.std.specs.Prelude.{◌≡◌, ◌++◌, ◌<◌, ◌≤◌, ℕ, [], ◌∷◌, List, All, length, map, take, drop, IfOk, unwrap_or, slice_get};
+ghost use Rattle.std.specs.Prelude.{◌≡◌, ◌<◌, List, length, IfOk};
 ghost use Rattle.cube_values.specs.declared.row.CodedRow.{CodedRow};
-ghost use Rattle.cube_values.specs.Answer.{table_of};
-ghost use Rattle.cube_values.specs.Values.{values_cmp, values_eq};
-ghost use Rattle.agg_fold.specs.Cells.{cell_of};
-ghost use Rattle.agg_fold.specs.Coded.{row_for, texts_for};
-ghost use Rattle.agg_fold.specs.Standing.{StandFor};
-ghost use Rattle.agg_fold.specs.Tables.{named_from, AreNamed, lines_of, run_metrics, line_kept, IsRun};
+ghost use Rattle.cube_values.specs.Values.{values_cmp};
+ghost use Rattle.agg_fold.specs.Coded.{texts_for};
+ghost use Rattle.agg_fold.specs.Standing.{HasRoom, IsTable};
+ghost use Rattle.agg_fold.specs.Tables.{groups_named, HasNamed, AreLines, HasRun, IsRunLine, IsRun};
 
-use crate::cell::{Cell, add_all, chunk};
-use crate::groups::{Groups, push_empty};
+use crate::groups::Groups;
 use crate::line::{decoded_key, empty_line, line_for};
+use crate::tallies::{add_all, chunk, push_empty};
+use crate::tally::Tally;
 use cube_values::{BoundQuery, Line, NameLists, Table, Texts, Value, Values};
 use std::alloc::{AllocError, Global};
 use std::cmp::Ordering;
@@ -41,8 +40,8 @@ pub fn table_for(
     groups: &Groups,
     lists: &[Texts],
 ) -> Result<Table, AllocError>
-    requires { (rows : List CodedRow) × StandFor query.now rows groups.now }
-    ensures { IfOk result (λ table. (rows : List CodedRow) → StandFor query.now rows groups.now → table ≡ table_of query.now.group query.now.items (map (row_for lists.now) rows)) }
+    requires { HasRoom query.now 0 groups.now }
+    ensures { IfOk result (IsTable query.now lists.now groups.now) }
 {
     let mut named = with_rows(alloc, query, groups, lists)?;
     if query.group.is_empty() && named.is_empty() {
@@ -87,8 +86,8 @@ fn with_rows(
     groups: &Groups,
     lists: &[Texts],
 ) -> Result<Vec<Named>, AllocError>
-    requires { (rows : List CodedRow) × StandFor query.now rows groups.now }
-    ensures { IfOk result (λ named. named.items ≡ named_from lists.now query.now.group 0 groups.now.keys groups.now.counts.items) }
+    requires { HasRoom query.now 0 groups.now }
+    ensures { IfOk result (λ named. named.items ≡ groups_named lists.now query.now groups.now) }
 {
     let mut named = Vec::new(alloc);
     'groups: for place in 0..groups.keys.len() {
@@ -111,8 +110,8 @@ fn run_lines(
     lists: &[Texts],
     named: &[Named],
 ) -> Result<Vec<Line>, AllocError>
-    requires { (rows : List CodedRow) × StandFor query.now rows groups.now × AreNamed lists.now query.now rows groups.now named.now }
-    ensures { IfOk result (λ lines. (rows : List CodedRow) → StandFor query.now rows groups.now → AreNamed lists.now query.now rows groups.now named.now → lines.items ≡ lines_of lists.now query.now rows named.now) }
+    requires { HasNamed lists.now query.now groups.now named.now }
+    ensures { IfOk result (λ lines. AreLines lists.now query.now groups.now named.now lines.items) }
 {
     let mut lines = Vec::new(alloc);
     let mut rest = named;
@@ -147,20 +146,20 @@ fn run_line(
     run: &[Named],
 ) -> Result<Line, AllocError>
     requires some { 0 < length run.now }
-    requires held { (rows : List CodedRow) × StandFor query.now rows groups.now × All (λ n. n.place < length groups.now.keys) run.now × All (λ n. 0 < unwrap_or (slice_get groups.now.counts.items n.place) 0) run.now × (length (run_metrics query.now.group rows groups.now.keys run.now) ≤ length rows) }
-    ensures { IfOk result (λ line. (rows : List CodedRow) → StandFor query.now rows groups.now → line ≡ line_kept query.now values.now (run_metrics query.now.group rows groups.now.keys run.now)) }
+    requires held { (rows : List CodedRow) × HasRun query.now rows groups.now run.now }
+    ensures { IfOk result (IsRunLine query.now groups.now values.now run.now) }
 {
     let items = query.items.as_slice();
-    let mut cells: Vec<Cell> = Vec::new(alloc);
-    push_empty(&mut cells, items)?;
+    let mut tallies: Vec<Tally> = Vec::with_capacity(alloc, items.len())?;
+    push_empty(&mut tallies, items);
     let mut count = 0;
     'groups: for group in run {
         count += groups.counts[group.place];
         add_all(
-            cells.as_mut_slice(),
-            chunk(groups.cells.as_slice(), group.place, items.len()),
+            tallies.as_mut_slice(),
+            chunk(groups.tallies.as_slice(), group.place, items.len()),
         );
     }
-    let line = line_for(alloc, query, values, count, cells.as_slice())?;
+    let line = line_for(alloc, query, values, count, tallies.as_slice())?;
     Ok(line)
 }

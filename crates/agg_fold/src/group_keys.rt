@@ -1,30 +1,27 @@
 //! The keys of groups, each with its place.
 
-ghost use Rattle.std.specs.Prelude.{◌≡◌, ◌++◌, ◌<◌, true, false, [], ◌∷◌, length, slice_get, Some, OnOk, OnErr};
+ghost use Rattle.std.specs.Prelude.{◌≡◌, ◌++◌, ◌<◌, true, false, [], ◌∷◌, length, slice_get, Some, IfOk, OnOk, OnErr};
 
-use cube_values::Coords;
+use indexmap::IndexSet;
 use std::alloc::{AllocError, Global};
-use std::collections::HashMap;
 use std::marker::Model;
 
-/// The keys of groups, by coordinates. A key is found without a walk over the others. Contracts see
-/// the list of the keys.
+/// The keys of groups, by coordinates, in the order in which they came. A key is found without a walk over
+/// the others. Contracts see the list of the keys.
 #[derive(Drop)]
 pub struct GroupKeys {
-    keys: Vec<Coords>,
-    places: HashMap<Vec<u32>, usize>,
-    alloc: Global,
+    keys: IndexSet<Vec<u32>>,
 }
 
 impl Model for GroupKeys {
-    ghost use Rattle.std.specs.Prelude.{ℕ, List};
-    ghost use Rattle.agg_fold.specs.Places.{FindsPlaces};
+    ghost use Rattle.std.specs.Prelude.{ℕ, List, map, bytes_eq};
+    ghost use Rattle.std.specs.HashSet.{IsUnique};
 
     ghost Value = { List (List ℕ) };
 
-    ghost view = { λ g. g.keys.items };
+    ghost view = { λ g. map (λ k. k.items) g.keys.keys };
 
-    ghost invariant = { λ g. FindsPlaces g.places g.keys.items };
+    ghost invariant = { λ g. IsUnique (λ x y. bytes_eq x.items y.items) g.keys };
 }
 
 impl GroupKeys {
@@ -35,9 +32,7 @@ impl GroupKeys {
         ensures { result ≡ [] }
     {
         GroupKeys {
-            keys: Vec::new(alloc),
-            places: HashMap::new(alloc),
-            alloc,
+            keys: IndexSet::new(alloc),
         }
     }
 
@@ -53,22 +48,14 @@ impl GroupKeys {
         requires { place < length self.now }
         ensures { slice_get self.now place ≡ Some result.now }
     {
-        self.keys[place].as_slice()
+        self.keys.as_slice()[place].as_slice()
     }
 
     /// The place of a key, None where it is not among the keys.
     pub fn find(&self, key: &[u32]) -> Option<usize>
         ensures { IsPlaceOf self.now key.now result }
     {
-        self.places.get(key).copied()
-    }
-
-    /// The place of a key that is among the keys.
-    pub fn place_of(&self, key: &[u32]) -> usize
-        requires { is_among self.now key.now ≡ true }
-        ensures { slice_get self.now result ≡ Some key.now }
-    {
-        self.find(key).unwrap_or(0)
+        self.keys.get_index_of(key)
     }
 
     /// Adds a key that is not among the keys.
@@ -77,16 +64,19 @@ impl GroupKeys {
         ensures ok { OnOk result (self.new ≡ self.old ++ key.now ∷ []) }
         ensures err { OnErr result (self.new ≡ self.old) }
     {
-        let place = self.keys.len();
-        let listed = Vec::from_slice(self.alloc, key)?;
-        let found = Vec::from_slice(self.alloc, key)?;
-        self.keys.push(Coords::from_vec(listed))?;
-        match self.places.insert(found, place) {
-            Ok(_) => Ok(()),
-            Err(_) => {
-                self.keys.pop();
-                Err(AllocError)
-            }
+        let owned = Vec::from_slice(*self.keys.allocator(), key)?;
+        self.keys.insert(owned)?;
+        Ok(())
+    }
+
+    /// The same keys.
+    pub fn copy(&self) -> Result<GroupKeys, AllocError>
+        ensures { IfOk result (λ keys. keys ≡ self.now) }
+    {
+        let mut keys = GroupKeys::new(*self.keys.allocator());
+        'keys: for place in 0..self.len() {
+            keys.push(self.at(place))?;
         }
+        Ok(keys)
     }
 }

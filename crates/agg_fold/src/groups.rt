@@ -1,23 +1,22 @@
-//! Groups of rows, with what is kept of each.
+//! Groups of rows, with the tallies of each.
 
-ghost use Rattle.std.specs.Prelude.{◌≡◌, ◌++◌, ◌+◌, ◌<◌, ◌^◌, ℕ, ℤ, true, false, IsTrue, [], ◌∷◌, List, All, length, map, take, slice_get, Some, IfOk, OnOk, OnErr, get_or, cond};
-ghost use Rattle.std.specs.List.{IsDistinct};
-ghost use Rattle.std.specs.Str.{bytes_eq};
-ghost use Rattle.cube_values.specs.declared.query.BoundItem.{BoundItem};
-ghost use Rattle.cube_values.specs.declared.row.CodedRow.{CodedRow};
+ghost use Rattle.std.specs.Prelude.{◌≡◌, ◌++◌, ◌+◌, ◌<◌, false, IsTrue, [], ◌∷◌, All, length, IfOk, OnOk, OnErr};
+ghost use Rattle.cube_values.specs.declared.query.BoundQuery.{BoundQuery};
 ghost use Rattle.cube_values.specs.Queries.{IsSoundQuery};
 ghost use Rattle.cube_values.specs.Spans.{span_has};
-ghost use Rattle.agg_fold.specs.Cells.{cell_of, AreFew};
-ghost use Rattle.agg_fold.specs.Coded.{coded_key};
-ghost use Rattle.agg_fold.specs.Places.{is_among};
-ghost use Rattle.agg_fold.specs.Standing.{AreKept, StandFor, HaveRoomFor, changed};
+ghost use Rattle.agg_fold.specs.Tallies.{IsAdditive};
+ghost use Rattle.agg_fold.specs.Coded.{coded_key, coded_row};
+ghost use Rattle.agg_fold.specs.Places.{is_among, IsKeyAt, PlacesStay, group_key};
+ghost use Rattle.agg_fold.specs.Standing.{StandsFor, HasRoom, StandsAlike, IsCopy, Gains, Adds, HasRowsOf, Removes, ArePlaces};
+ghost use Rattle.agg_fold.specs.Totals.{HasTotals, GainsTotals, CanLoseTotals, LosesTotals, CanLoseGroup, LosesGroup, HasEmptyTallies};
 
-use crate::cell::{Cell, add_all_at, add_row_at, chunk};
 use crate::group_keys::GroupKeys;
+use crate::tallies::{add_all_at, add_row_at, chunk, push_empty, take_all_at};
+use crate::tally::Tally;
 use cube_values::{BoundItem, BoundQuery};
 use std::alloc::{AllocError, Global};
 
-/// Groups of rows by their keys. The group at place p has the cells from p times the number of items
+/// Groups of rows by their keys. The group at place p has the tallies from p times the number of items
 /// on, one for each item.
 #[derive(Drop)]
 pub struct Groups {
@@ -26,29 +25,42 @@ pub struct Groups {
     pub keys: GroupKeys,
     /// How many rows each group has.
     pub counts: Vec<u64>,
-    pub cells: Vec<Cell>,
+    pub tallies: Vec<Tally>,
 }
 
 impl Groups {
     /// No groups.
     pub fn new(alloc: Global) -> Groups
-        ensures { (query : BoundQuery) → StandFor query [] result }
+        ensures { (query : BoundQuery) → StandsFor query [] result }
     {
         Groups {
             rows: 0,
             keys: GroupKeys::new(alloc),
             counts: Vec::new(alloc),
-            cells: Vec::new(alloc),
+            tallies: Vec::new(alloc),
         }
+    }
+
+    /// The same groups.
+    pub fn copy(&self, alloc: Global) -> Result<Groups, AllocError>
+        ensures { IfOk result (IsCopy self.now) }
+    {
+        Ok(Groups {
+            rows: self.rows,
+            keys: self.keys.copy()?,
+            counts: Vec::from_slice(alloc, self.counts.as_slice())?,
+            tallies: Vec::from_slice(alloc, self.tallies.as_slice())?,
+        })
     }
 
     /// The place of a key's group, which is made where there is none.
     pub fn place(&mut self, query: &BoundQuery, key: &[u32]) -> Result<usize, AllocError>
-        requires held { (rows : List CodedRow) × StandFor query.now rows self.old }
+        requires held { HasRoom query.now 0 self.old }
         requires wide { length key.now ≡ length query.now.group }
-        ensures same { (rows : List CodedRow) → StandFor query.now rows self.old → StandFor query.now rows self.new }
-        ensures place { IfOk result (λ p. slice_get self.new.keys p ≡ Some key.now) }
-        ensures kept { (other : List ℕ) → is_among self.old.keys other ≡ true → is_among self.new.keys other ≡ true }
+        ensures same { StandsAlike query.now self.old self.new }
+        ensures rows { self.new.rows ≡ self.old.rows }
+        ensures place { IfOk result (λ p. IsKeyAt self.new.keys p key.now) }
+        ensures stay { PlacesStay self.old.keys self.new.keys }
     {
         if query.group.is_empty() && self.keys.len() > 0 {
             return Ok(0);
@@ -63,123 +75,141 @@ impl Groups {
 
     /// Adds a row with the key of the group at a place.
     pub fn add(&mut self, query: &BoundQuery, place: usize, coords: &[u32], metrics: &[i64])
-        requires held { HaveRoomFor query.now 1 self.old }
-        requires place { slice_get self.old.keys place ≡ Some (coded_key query.now.group coords.now) }
+        requires held { HasRoom query.now 1 self.old }
+        requires place { IsKeyAt self.old.keys place (coded_key query.now.group coords.now) }
         requires sound { IsSoundQuery query.now (length coords.now) (length metrics.now) }
         requires inside { IsTrue (span_has query.now.span coords.now) }
-        ensures { (rows : List CodedRow) → StandFor query.now rows self.old → StandFor query.now (rows ++ record { coords = coords.now; metrics = metrics.now } ∷ []) self.new }
+        ensures { Gains query.now (coded_row coords.now metrics.now ∷ []) self.old self.new }
     {
         self.rows += 1;
         self.counts[place] += 1;
         add_row_at(
-            self.cells.as_mut_slice(),
+            self.tallies.as_mut_slice(),
             place,
             query.items.as_slice(),
             metrics,
         );
     }
 
-    /// Adds the rows of others. Where memory is wanted both stand for what they stood for.
-    pub fn join(&mut self, query: &BoundQuery, other: &Groups) -> Result<(), AllocError>
-        requires held { (rows more : List CodedRow) × StandFor query.now rows self.old × StandFor query.now more other.now × (length rows + length more < 2 ^ 63) }
-        ensures ok { OnOk result ((rows more : List CodedRow) → StandFor query.now rows self.old → StandFor query.now more other.now → StandFor query.now (rows ++ more) self.new) }
-        ensures err { OnErr result ((rows : List CodedRow) → StandFor query.now rows self.old → StandFor query.now rows self.new) }
-    {
-        self.take_keys(query, other)?;
-        self.take_rows(query, other);
-        Ok(())
-    }
-
-    /// Makes the groups that others have besides.
-    fn take_keys(&mut self, query: &BoundQuery, other: &Groups) -> Result<(), AllocError>
-        requires held { (rows more : List CodedRow) × StandFor query.now rows self.old × StandFor query.now more other.now }
-        ensures same { (rows : List CodedRow) → StandFor query.now rows self.old → StandFor query.now rows self.new }
-        ensures keys { OnOk result (All (λ key. is_among self.new.keys key ≡ true) other.now.keys) }
-    {
-        'groups: for theirs in 0..other.keys.len() {
-            self.place(query, other.keys.at(theirs))?;
-        }
-        Ok(())
-    }
-
-    /// Adds the rows of others, whose keys are all among those of the groups.
-    fn take_rows(&mut self, query: &BoundQuery, other: &Groups)
-        requires held { (rows more : List CodedRow) × StandFor query.now rows self.old × StandFor query.now more other.now × (length rows + length more < 2 ^ 63) }
-        requires keys { All (λ key. is_among self.old.keys key ≡ true) other.now.keys }
-        ensures { (rows more : List CodedRow) → StandFor query.now rows self.old → StandFor query.now more other.now → StandFor query.now (rows ++ more) self.new }
-    {
-        self.rows += other.rows;
-        'groups: for theirs in 0..other.keys.len() {
-            let place = self.keys.place_of(other.keys.at(theirs));
-            self.take_group(place, query.items.as_slice(), other, theirs);
-        }
-    }
-
-    /// Adds the rows of a group of others to the group at a place.
-    fn take_group(&mut self, place: usize, items: &[BoundItem], other: &Groups, theirs: usize)
-        requires place { slice_get self.old.keys place ≡ slice_get other.now.keys theirs }
-        requires theirs { theirs < length other.now.keys }
-        requires once { IsDistinct bytes_eq self.old.keys }
-        requires held { (key : List ℕ) × (metrics more : List ℕ → List (List ℤ)) × (slice_get other.now.keys theirs ≡ Some key) × AreKept items.now metrics self.old × AreKept items.now more other.now × All (λ item. AreFew item (metrics key)) items.now × All (λ item. AreFew item (more key)) items.now × (length (metrics key) + length (more key) < 2 ^ 63) }
-        ensures rows { self.new.rows ≡ self.old.rows }
+    /// Adds rows, by their totals, to the group at a place.
+    pub fn add_totals(&mut self, query: &BoundQuery, place: usize, count: u64, more: &[Tally])
+        requires place { place < length self.old.keys }
+        requires held { HasRoom query.now count self.old }
+        requires some { HasTotals query.now (group_key self.old.keys place) count more.now }
         ensures keys { self.new.keys ≡ self.old.keys }
-        ensures kept { (key : List ℕ) (metrics more : List ℕ → List (List ℤ)) → slice_get other.now.keys theirs ≡ Some key → AreKept items.now metrics self.old → AreKept items.now more other.now → AreKept items.now (changed metrics key (metrics key ++ more key)) self.new }
+        ensures rows { self.new.rows ≡ self.old.rows + count }
+        ensures gains { GainsTotals query.now place count more.now self.old self.new }
     {
-        self.counts[place] += other.counts[theirs];
-        add_all_at(
-            self.cells.as_mut_slice(),
-            place,
-            chunk(other.cells.as_slice(), theirs, items.len()),
-        );
+        self.rows += count;
+        self.counts[place] += count;
+        add_all_at(self.tallies.as_mut_slice(), place, more);
     }
 
-    /// Adds a group without rows.
+    /// Takes rows, by their totals, out of the group at a place.
+    fn take_totals(&mut self, query: &BoundQuery, place: usize, count: u64, less: &[Tally])
+        requires additive { All IsAdditive query.now.items }
+        requires place { place < length self.old.keys }
+        requires held { CanLoseTotals query.now place count less.now self.old }
+        ensures keys { self.new.keys ≡ self.old.keys }
+        ensures loses { LosesTotals query.now place count less.now self.old self.new }
+    {
+        self.rows -= count;
+        self.counts[place] -= count;
+        take_all_at(self.tallies.as_mut_slice(), place, less);
+    }
+
+    /// Adds the rows of others. Where memory is wanted they stand for what they stood for.
+    pub fn join(
+        &mut self,
+        alloc: Global,
+        query: &BoundQuery,
+        other: &Groups,
+    ) -> Result<(), AllocError>
+        requires held { HasRoom query.now other.now.rows self.old }
+        requires other { HasRoom query.now 0 other.now }
+        ensures ok { OnOk result (Adds query.now other.now self.old self.new) }
+        ensures err { OnErr result (StandsAlike query.now self.old self.new) }
+    {
+        let places = self.places_of(alloc, query, other)?;
+        self.add_groups(query, other, places.as_slice());
+        Ok(())
+    }
+
+    /// The places of the keys of others, for which groups are made where there are none.
+    fn places_of(
+        &mut self,
+        alloc: Global,
+        query: &BoundQuery,
+        other: &Groups,
+    ) -> Result<Vec<usize>, AllocError>
+        requires held { HasRoom query.now 0 self.old }
+        requires other { HasRoom query.now 0 other.now }
+        ensures same { StandsAlike query.now self.old self.new }
+        ensures rows { self.new.rows ≡ self.old.rows }
+        ensures places { IfOk result (λ ps. ArePlaces self.new.keys ps.items other.now.keys) }
+    {
+        let mut places = Vec::with_capacity(alloc, other.keys.len())?;
+        'groups: for theirs in 0..other.keys.len() {
+            let place = self.place(query, other.keys.at(theirs))?;
+            places.push(place)?;
+        }
+        Ok(places)
+    }
+
+    /// Adds the rows of others, group by group, to the groups at these places.
+    fn add_groups(&mut self, query: &BoundQuery, other: &Groups, places: &[usize])
+        requires held { HasRoom query.now other.now.rows self.old }
+        requires other { HasRoom query.now 0 other.now }
+        requires places { ArePlaces self.old.keys places.now other.now.keys }
+        ensures { Adds query.now other.now self.old self.new }
+    {
+        let width = query.items.len();
+        'groups: for theirs in 0..other.keys.len() {
+            let more = chunk(other.tallies.as_slice(), theirs, width);
+            self.add_totals(query, places[theirs], other.counts[theirs], more);
+        }
+    }
+
+    /// Takes the rows of others out.
+    pub fn remove(&mut self, query: &BoundQuery, other: &Groups)
+        requires additive { All IsAdditive query.now.items }
+        requires held { HasRowsOf query.now other.now self.old }
+        ensures { Removes query.now other.now self.old self.new }
+    {
+        'groups: for theirs in 0..other.keys.len() {
+            self.take_group(query, other, theirs);
+        }
+    }
+
+    /// Takes the rows of a group of others out. They have none where its key has no group here.
+    fn take_group(&mut self, query: &BoundQuery, other: &Groups, theirs: usize)
+        requires additive { All IsAdditive query.now.items }
+        requires theirs { theirs < length other.now.keys }
+        requires held { CanLoseGroup query.now other.now theirs self.old }
+        ensures { LosesGroup query.now other.now theirs self.old self.new }
+    {
+        if let Some(place) = self.keys.find(other.keys.at(theirs)) {
+            let less = chunk(other.tallies.as_slice(), theirs, query.items.len());
+            self.take_totals(query, place, other.counts[theirs], less);
+        }
+    }
+
+    /// Adds a group without rows. Where memory is wanted nothing changes.
     fn push(&mut self, items: &[BoundItem], key: &[u32]) -> Result<(), AllocError>
         requires { is_among self.old.keys key.now ≡ false }
         ensures rows { self.new.rows ≡ self.old.rows }
         ensures keys { OnOk result (self.new.keys ≡ self.old.keys ++ key.now ∷ []) }
         ensures counts { OnOk result (self.new.counts.items ≡ self.old.counts.items ++ 0 ∷ []) }
-        ensures cells { OnOk result (self.new.cells.items ≡ self.old.cells.items ++ map (cell_of []) items.now) }
+        ensures tallies { OnOk result (HasEmptyTallies items.now self.old self.new) }
         ensures keys_stay { OnErr result (self.new.keys ≡ self.old.keys) }
         ensures counts_stay { OnErr result (self.new.counts.items ≡ self.old.counts.items) }
-        ensures cells_stay { OnErr result (self.new.cells.items ≡ self.old.cells.items) }
+        ensures tallies_stay { OnErr result (self.new.tallies.items ≡ self.old.tallies.items) }
     {
-        let groups = self.counts.len();
-        let cells = self.cells.len();
-        match self.grow(items, key) {
-            Ok(()) => Ok(()),
-            Err(error) => {
-                self.counts.truncate(groups);
-                self.cells.truncate(cells);
-                Err(error)
-            }
-        }
+        self.counts.reserve(1)?;
+        self.tallies.reserve(items.len())?;
+        self.keys.push(key)?;
+        self.counts.push_reserved(0);
+        push_empty(&mut self.tallies, items);
+        Ok(())
     }
-
-    /// Adds a group without rows. Where memory is wanted some of it may stay, but not the key.
-    fn grow(&mut self, items: &[BoundItem], key: &[u32]) -> Result<(), AllocError>
-        requires { is_among self.old.keys key.now ≡ false }
-        ensures rows { self.new.rows ≡ self.old.rows }
-        ensures keys { OnOk result (self.new.keys ≡ self.old.keys ++ key.now ∷ []) }
-        ensures counts { OnOk result (self.new.counts.items ≡ self.old.counts.items ++ 0 ∷ []) }
-        ensures cells { OnOk result (self.new.cells.items ≡ self.old.cells.items ++ map (cell_of []) items.now) }
-        ensures keys_stay { OnErr result (self.new.keys ≡ self.old.keys) }
-        ensures counts_begin { take (length self.old.counts.items) self.new.counts.items ≡ self.old.counts.items }
-        ensures cells_begin { take (length self.old.cells.items) self.new.cells.items ≡ self.old.cells.items }
-    {
-        push_empty(&mut self.cells, items)?;
-        self.counts.push(0)?;
-        self.keys.push(key)
-    }
-}
-
-/// Adds what is kept of no rows for each item. Where memory is wanted some of it may stay.
-pub fn push_empty(cells: &mut Vec<Cell>, items: &[BoundItem]) -> Result<(), AllocError>
-    ensures ok { OnOk result (cells.new.items ≡ cells.old.items ++ map (cell_of []) items.now) }
-    ensures begin { take (length cells.old.items) cells.new.items ≡ cells.old.items }
-{
-    'items: for item in items {
-        cells.push(Cell::empty(*item))?;
-    }
-    Ok(())
 }

@@ -1,13 +1,11 @@
 //! The line of a group in an answer.
 
-ghost use Rattle.std.specs.Prelude.{◌≡◌, ◌<◌, ◌^◌, ◌*◌, ◌/◌, ◌%◌, ℕ, ◌≢◌, [], List, length, map, IfOk, unwrap_or, slice_get};
-ghost use Rattle.std.specs.List.{zip};
-ghost use Rattle.cube_values.specs.Answer.{field_of, average};
+ghost use Rattle.std.specs.Prelude.{◌≡◌, ◌<◌, [], length, map, IfOk, unwrap_or, slice_get};
 ghost use Rattle.agg_fold.specs.Coded.{value_for};
-ghost use Rattle.agg_fold.specs.Lines.{decoded_key, key_field, kept_field, field_for, empty_field};
+ghost use Rattle.agg_fold.specs.Lines.{decoded_key, key_field, tally_field, field_for, fields_for, empty_field};
 
-use crate::cell::Cell;
-use cube_values::{BoundItem, BoundQuery, Field, Line, Text, TextLists, Texts, Value};
+use crate::tally::Tally;
+use cube_values::{BoundItem, BoundQuery, Field, Line, Text, Texts, Value, average};
 use std::alloc::{AllocError, Global};
 
 /// What a coordinate stands for.
@@ -50,39 +48,6 @@ pub fn decoded_key(
     Ok(values)
 }
 
-/// A sum divided by a count, cut toward zero to four decimals.
-fn average(sum: i128, count: u64) -> Field
-    requires { 0 < count }
-    ensures { result ≡ average sum count }
-{
-    let all = sum.unsigned_abs();
-    let whole = whole_part(all, count);
-    let four = ten_thousandths(all, count);
-    let is_zero = whole == 0 && four == 0;
-    Field::Decimal {
-        neg: sum < 0 && !is_zero,
-        whole,
-        four,
-    }
-}
-
-/// The whole part of a quotient.
-fn whole_part(all: u128, count: u64) -> u128
-    requires { 0 < count }
-    ensures { result ≡ all * 10000 / count / 10000 }
-{
-    all / u128::from(count)
-}
-
-/// The four decimals of a quotient. The product is of the remainder, and so below 2 ^ 78.
-fn ten_thousandths(all: u128, count: u64) -> u16
-    requires { 0 < count }
-    ensures { result ≡ all * 10000 / count % 10000 }
-{
-    let count = u128::from(count);
-    (all % count * 10_000 / count) as u16
-}
-
 /// The value of a dimension in a key.
 fn key_field(group: &[u32], values: &[Value], dim: u32) -> Result<Field, AllocError>
     ensures { IfOk result (λ f. f ≡ key_field group.now values.now dim) }
@@ -105,15 +70,15 @@ fn key_field(group: &[u32], values: &[Value], dim: u32) -> Result<Field, AllocEr
     Ok(Field::Null)
 }
 
-/// What is kept of a metric.
-fn kept_field(cell: Cell) -> Field
-    ensures { result ≡ kept_field cell }
+/// A tally as a field.
+fn tally_field(tally: Tally) -> Field
+    ensures { result ≡ tally_field tally }
 {
-    match cell {
-        Cell::Unused => Field::Null,
-        Cell::Total(sum) => Field::Whole(sum),
-        Cell::Least(n) => Field::Whole(i128::from(n)),
-        Cell::Greatest(n) => Field::Whole(i128::from(n)),
+    match tally {
+        Tally::Unused => Field::Null,
+        Tally::Total(sum) => Field::Whole(sum),
+        Tally::Least(n) => Field::Whole(i128::from(n)),
+        Tally::Greatest(n) => Field::Whole(i128::from(n)),
     }
 }
 
@@ -123,17 +88,17 @@ fn field_for(
     values: &[Value],
     count: u64,
     item: BoundItem,
-    cell: Cell,
+    tally: Tally,
 ) -> Result<Field, AllocError>
     requires { 0 < count }
-    ensures { IfOk result (λ f. f ≡ field_for group.now values.now count item cell) }
+    ensures { IfOk result (λ f. f ≡ field_for group.now values.now count item tally) }
 {
     match item {
         BoundItem::Group(dim) => key_field(group, values, dim),
         BoundItem::Count => Ok(Field::Whole(i128::from(count))),
-        BoundItem::Sum(_) | BoundItem::Min(_) | BoundItem::Max(_) => Ok(kept_field(cell)),
-        BoundItem::Avg(_) => match cell {
-            Cell::Total(sum) => Ok(average(sum, count)),
+        BoundItem::Sum(_) | BoundItem::Min(_) | BoundItem::Max(_) => Ok(tally_field(tally)),
+        BoundItem::Avg(_) => match tally {
+            Tally::Total(sum) => Ok(average(sum, count)),
             _ => Ok(Field::Null),
         },
     }
@@ -155,16 +120,16 @@ pub fn line_for(
     query: &BoundQuery,
     values: &[Value],
     count: u64,
-    cells: &[Cell],
+    tallies: &[Tally],
 ) -> Result<Line, AllocError>
     requires some { 0 < count }
-    requires cells { length cells.now ≡ length query.now.items }
-    ensures { IfOk result (λ line. line ≡ map (λ p. field_for query.now.group values.now count p.0 p.1) (zip query.now.items cells.now)) }
+    requires tallies { length tallies.now ≡ length query.now.items }
+    ensures { IfOk result (λ line. line ≡ fields_for query.now values.now count tallies.now) }
 {
     let items = query.items.as_slice();
     let mut fields = Vec::new(alloc);
     'items: for i in 0..items.len() {
-        fields.push(field_for(query.group.as_slice(), values, count, items[i], cells[i])?)?;
+        fields.push(field_for(query.group.as_slice(), values, count, items[i], tallies[i])?)?;
     }
     Ok(Line::from_vec(fields))
 }

@@ -1,9 +1,10 @@
 //! Worked rows, extreme numbers, and many rows made from a seed against a plain fold.
 
-ghost use Rattle.std.specs.Prelude.{◌≡◌, ◌<◌, ◌≤◌, ◌+◌, ◌^◌, IsTrue, List, All, length, IfOk};
+ghost use Rattle.std.specs.Prelude.{[], ◌++◌, ◌≡◌, ◌<◌, ◌≤◌, ◌+◌, ◌^◌, IsTrue, List, All, length, IfOk};
 ghost use Rattle.cube_values.specs.Queries.{IsSoundItem, IsSoundQuery};
 ghost use Rattle.cube_values.specs.declared.row.CodedRow.{CodedRow};
-ghost use Rattle.agg_fold.specs.Partials.{StandsFor};
+ghost use Rattle.agg_fold.specs.Standing.{StandsFor};
+ghost use Rattle.agg_fold.specs.Worked.{StandsForFew, count_and_sum, three_and_five};
 
 use crate::Partial;
 use cube_values::{
@@ -76,7 +77,7 @@ fn fold(
     step: usize,
 ) -> Result<Partial, AllocError>
     requires { length rows.now < 2 ^ 40 }
-    ensures { IfOk result (λ p. (rs : List CodedRow) × StandsFor query.now rs p × (length rs ≤ length rows.now)) }
+    ensures { IfOk result (λ p. StandsForFew query.now (length rows.now) p.groups) }
 {
     let mut partial = Partial::new(alloc);
     'rows: for i in 0..rows.len() {
@@ -97,7 +98,7 @@ fn fold(
 /// Three partials, each of every third row, merged with the last first.
 fn fold_in_three(alloc: Global, query: &BoundQuery, rows: &[Made]) -> Result<Partial, AllocError>
     requires { length rows.now < 2 ^ 40 }
-    ensures { IfOk result (λ p. (rs : List CodedRow) × StandsFor query.now rs p) }
+    ensures { IfOk result (λ p. (rs : List CodedRow) × StandsFor query.now rs p.groups) }
 {
     let mut total = fold(alloc, query, rows, 2, 3)?;
     let first = fold(alloc, query, rows, 0, 3)?;
@@ -257,6 +258,98 @@ fn merged_partials(rt: HostRuntime) -> Result<(), Fail> {
     assert!(rt; one == wanted && three == wanted, "one text twice");
     let counted = fold(alloc, &query(alloc, &[0], &items)?, &rows, 0, 1)?.rows();
     assert_eq!(rt; counted, 3);
+    Ok(())
+}
+
+/// COUNT and SUM over a cube without dimensions and with one metric.
+fn count_and_sum(alloc: Global) -> Result<BoundQuery, AllocError>
+    ensures { IfOk result (λ query. query ≡ count_and_sum) }
+{
+    Ok(BoundQuery {
+        cube: 0,
+        span: Span {
+            parts: Parts::new(alloc),
+        },
+        group: Coords::new(alloc),
+        items: BoundItems::from_vec(vec![in alloc; BoundItem::Count, BoundItem::Sum(0)]?),
+    })
+}
+
+/// Two rows with the metrics 3 and 5, by their totals.
+fn two_rows(alloc: Global, query: &BoundQuery) -> Result<Partial, AllocError>
+    requires { query.now ≡ count_and_sum }
+    ensures { IfOk result (λ p. StandsFor query.now three_and_five p.groups) }
+{
+    let mut partial = Partial::new(alloc);
+    let sums = [0, 8];
+    let others = [0, 0];
+    partial.add_group(query, &[], 2, &sums, &others, &others)?;
+    Ok(partial)
+}
+
+/// The two rows twice.
+fn four_rows(query: &BoundQuery, two: &Partial) -> Result<Partial, AllocError>
+    requires { StandsFor query.now three_and_five two.now.groups }
+    ensures { IfOk result (λ p. StandsFor query.now (three_and_five ++ three_and_five) p.groups) }
+{
+    let mut total = two.copy()?;
+    total.merge(query, two)?;
+    Ok(total)
+}
+
+/// The answer over the two rows.
+fn over_two(alloc: Global, query: &BoundQuery, two: &Partial) -> Result<Table, AllocError>
+    requires { StandsFor query.now three_and_five two.now.groups }
+{
+    two.finish(query, &NameLists::new(alloc))
+}
+
+/// The answer over the two rows twice.
+fn over_four(alloc: Global, query: &BoundQuery, two: &Partial) -> Result<Table, AllocError>
+    requires { StandsFor query.now three_and_five two.now.groups }
+{
+    let total = four_rows(query, two)?;
+    total.finish(query, &NameLists::new(alloc))
+}
+
+/// The answer over two rows of four that are left.
+fn over_two_left(alloc: Global, query: &BoundQuery, two: &Partial) -> Result<Table, AllocError>
+    requires query { query.now ≡ count_and_sum }
+    requires two { StandsFor query.now three_and_five two.now.groups }
+{
+    let mut total = four_rows(query, two)?;
+    total.remove(query, two);
+    total.finish(query, &NameLists::new(alloc))
+}
+
+/// The answer where no row of two is left.
+fn over_none_left(alloc: Global, query: &BoundQuery, two: &Partial) -> Result<Table, AllocError>
+    requires query { query.now ≡ count_and_sum }
+    requires two { StandsFor query.now three_and_five two.now.groups }
+{
+    let mut total = two.copy()?;
+    total.remove(query, two);
+    total.finish(query, &NameLists::new(alloc))
+}
+
+/// The only line of an answer: a count and a sum.
+fn count_and(alloc: Global, count: i128, sum: Field) -> Result<Table, AllocError> {
+    let line = vec![in alloc; Field::Whole(count), sum]?;
+    table(alloc, vec![in alloc; line]?)
+}
+
+#[test]
+fn rows_by_their_totals_come_and_go(rt: HostRuntime) -> Result<(), Fail> {
+    let alloc = rt.alloc();
+    let query = count_and_sum(alloc)?;
+    let two = two_rows(alloc, &query)?;
+    let eight = count_and(alloc, 2, Field::Whole(8))?;
+    assert!(rt; over_two(alloc, &query, &two)? == eight);
+    let sixteen = count_and(alloc, 4, Field::Whole(16))?;
+    assert!(rt; over_four(alloc, &query, &two)? == sixteen);
+    assert!(rt; over_two_left(alloc, &query, &two)? == eight);
+    let none = count_and(alloc, 0, Field::Null)?;
+    assert!(rt; over_none_left(alloc, &query, &two)? == none);
     Ok(())
 }
 

@@ -4,7 +4,7 @@ ghost use Rattle.std.specs.Prelude.{◌≡◌, ◌%◌, ◌^◌, List, [], lengt
 ghost use Rattle.cube_values.specs.Answer.{table_of};
 ghost use Rattle.cube_values.specs.declared.row.CodedRow.{CodedRow};
 ghost use Rattle.agg_fold.specs.Coded.{row_for};
-ghost use Rattle.agg_fold.specs.Partials.{StandsFor};
+ghost use Rattle.agg_fold.specs.Standing.{StandsFor};
 ghost use Rattle.measures.specs.Checksums.{field_count, line_sum, table_sum};
 ghost use Rattle.measures.specs.Folded.{eight_groups};
 
@@ -65,7 +65,7 @@ fn folded(
 ) -> Result<Partial, AllocError>
     requires query { query.now ≡ eight_groups }
     requires full { length rows.now ≡ ROWS }
-    ensures { IfOk result (λ partial. (rs : List CodedRow) × StandsFor query.now rs partial × (length rs ≡ items)) }
+    ensures { IfOk result (λ partial. (rs : List CodedRow) × StandsFor query.now rs partial.groups × (length rs ≡ items)) }
 {
     let mut partial = Partial::new(alloc);
     'items: for i in 0..items {

@@ -45,8 +45,8 @@ abbrev pub new_dictionaries : CubeShape → List Dictionary
 new_dictionaries shape = empty_dictionaries shape.shape.sizes shape.texts
 
 -- The next cube has them.
-abbrev pub with_cube : List (List Dictionary) → CubeShape → List (List Dictionary)
-with_cube cubes shape = cubes ++ new_dictionaries shape ∷ []
+abbrev pub with_next_cube : List (List Dictionary) → CubeShape → List (List Dictionary)
+with_next_cube cubes shape = cubes ++ new_dictionaries shape ∷ []
 
 -- The dictionary of a dimension. One that is not made has no names.
 abbrev pub dictionary_in : List Dictionary → ℕ → Dictionary

@@ -2,7 +2,7 @@
 
 ghost use Rattle.std.specs.Prelude.{◌≡◌, ◌↔◌, ◌<◌, ◌≤◌, IsTrue, [], ◌∷◌, ◌++◌, ◌+◌, length, drop, replicate, option_copied, IfOk, OnOk, OnErr, vec_len, vec_capacity};
 ghost use Rattle.cube_values.specs.Shapes.{IsSoundCube};
-ghost use Rattle.names_dict.specs.Dictionaries.{number_of, with_cube, dictionaries_of, dictionary_at, name_at, with_dictionaries, IsTextDimension, IsEncoded, IsCodeFor, IsNewFor};
+ghost use Rattle.names_dict.specs.Dictionaries.{number_of, with_next_cube, dictionaries_of, dictionary_at, name_at, with_dictionaries, IsTextDimension, IsEncoded, IsCodeFor, IsNewFor};
 
 use crate::code::Code;
 use crate::cube_dicts::CubeDicts;
@@ -43,7 +43,7 @@ impl Dicts {
     /// changes.
     pub fn add_cube(&mut self, cube: &CubeShape) -> Result<(), AllocError>
         requires { IsSoundCube cube.now }
-        ensures added { OnOk result (self.new ≡ with_cube self.old cube.now) }
+        ensures added { OnOk result (self.new ≡ with_next_cube self.old cube.now) }
         ensures err { OnErr result (self.new ≡ self.old) }
     {
         let dims = CubeDicts::new(self.alloc, cube)?;

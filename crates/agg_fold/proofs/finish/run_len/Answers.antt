@@ -3,14 +3,14 @@ use Rattle.std.proofs.lemmas.List.Elements.{All-more}
 use Rattle.std.proofs.lemmas.List.{drop_more, drop_all}
 use Rattle.cube_values.specs.SameValues.{same_values}
 use Rattle.agg_fold.specs.Tables.{BeginOtherwise}
-use Rattle.agg_fold.proofs.Parted.{cell_parted, length_parted}
+use Rattle.agg_fold.proofs.Parted.{tally_parted, length_parted}
 use Rattle.agg_fold.proofs.Lines.{key_is, line_is}
 use Rattle.agg_fold.proofs.Runs.{ends_run, others_from, once_take, run_agrees, rest_named}
 use Rattle.agg_fold.proofs.finish.run_len.Goals as goal
 
 pub returns-then-ne : goal.returns-then-ne
 returns-then-ne c =
-    let a = cell_parted in let b = length_parted in let d = key_is in let e = line_is in let f = ends_run in let g = others_from in let h = once_take in let j = run_agrees in let k = rest_named in
+    let a = tally_parted in let b = length_parted in let d = key_is in let e = line_is in let f = ends_run in let g = others_from in let h = once_take in let j = run_agrees in let k = rest_named in
     let i = c.named.group-index in
     let item = c.group-item.result in
     let v = c.args.values.now in

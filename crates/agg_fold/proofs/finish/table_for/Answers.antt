@@ -28,7 +28,7 @@ returns-then-is_empty-2 c = λ rows s.
 
 pub run_lines-requires : goal.run_lines-requires
 run_lines-requires c =
-    let (rows, s) = c.requires in
+    let (rows, s, few) = c.requires in
     let query = c.args.query.now in
     let lists = c.args.lists.now in
     let groups = c.args.groups.now in

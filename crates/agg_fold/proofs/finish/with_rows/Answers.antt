@@ -12,14 +12,14 @@ use Rattle.agg_fold.proofs.finish.with_rows.Goals.{then-index-gt0+in_ok-values+i
 
 pub groups-preserved : goal.groups-preserved
 groups-preserved c =
-    let (rows, s) = c.requires in
+    let (rows, s, few) = c.requires in
     let query = c.args.query.now in
     let lists = c.args.lists.now in
     let keys = c.args.groups.now.keys in
     let counts = c.args.groups.now.counts.items in
     let p = c.groups.place in
     let inside : p < length keys = omega arith in
-    let counted : p < length counts = omega (arith, ap length s.kept.counts, length-map keys (λ key. length (metrics_with query.group rows key))) in
+    let counted : p < length counts = omega (arith, ap length s.totals.counts, length-map keys (λ key. length (metrics_with query.group rows key))) in
     let step = named_step lists query.group p keys counts inside counted in
     let rest = named_from lists query.group (p + 1) (drop (p + 1) keys) (drop (p + 1) counts) in
     let group : Named = record { values = decoded_key lists query.group (get_or keys p []); place = p } in

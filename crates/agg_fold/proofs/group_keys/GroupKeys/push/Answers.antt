@@ -1,11 +1,7 @@
-use Rattle.std.proofs.Common.{◌≡◌, ◌++◌, ◌∷◌, [], subst, rules}
-use Rattle.agg_fold.specs.Places.{FindsPlaces}
-use Rattle.agg_fold.proofs.Places.{places_more}
+use Rattle.agg_fold.proofs.Places.{keys_after}
 use Rattle.agg_fold.proofs.group_keys.GroupKeys.push.Goals as goal
 
-pub invariant_of-self-in-Ok : goal.invariant_of-self-in-Ok
-invariant_of-self-in-Ok c =
-    let keys = c.self.inside.keys.items in
-    let finds = places_more c.self.inside.places c.insert.new.self c.in_ok-found.found _ keys (search rules) c.in-Ok.ensures.updates c.self.invariant in
-    let all : keys ++ c.in_ok-found.found.items ∷ [] ≡ c.push.new.self.items = search rules in
-    subst (FindsPlaces c.insert.new.self) all finds
+pub returns-clause-ok : goal.returns-clause-ok
+returns-clause-ok c =
+    keys_after (λ k. k.items) c.self.inside.keys.keys c.insert.new.self.keys c.in_ok-owned.owned c.args.self.now c.args.key.now c.self.view_is
+    c.in_ok-owned.ensures.items c.requires c.in_ok-insert.ensures.keys

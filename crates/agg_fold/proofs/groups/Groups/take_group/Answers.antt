@@ -1,46 +1,67 @@
-use Rattle.std.proofs.Common.{◌≡◌, ℕ, ◌+◌, ◌*◌, ◌≤◌, ◌++◌, length, length-append, set, map, slice_get, Some, refl, sym, ap, subst, ◌∙◌, arith, rules}
-use Rattle.std.proofs.lemmas.List.{length-map, with_items_is}
-use Rattle.agg_fold.specs.Cells.{cell_of, chunk_of, with_chunk}
-use Rattle.agg_fold.proofs.Standing.{count_at, chunk_kept, chunk_within, kept_changed}
+use Rattle.std.proofs.Common.{◌≡◌, false, ◌++◌, ◌<◌, List, [], None, Some, get_or, length, slice_get, sym, ap, subst, ◌∙◌, arith, rules}
+use Rattle.std.proofs.lemmas.List.{append-nil}
+use Rattle.std.proofs.lemmas.Option.{slice_get_within, get_or_from_slice_get}
+use Rattle.cube_values.specs.declared.row.CodedRow.{CodedRow}
+use Rattle.agg_fold.specs.Coded.{metrics_with}
+use Rattle.agg_fold.specs.Places.{is_among, IsPlaceOf, group_key}
+use Rattle.agg_fold.specs.Standing.{StandsFor}
+use Rattle.agg_fold.specs.Tallies.{chunk_of}
+use Rattle.agg_fold.specs.Totals.{group_rows}
+use Rattle.agg_fold.proofs.GroupRows.{key_is_at, group_totals, moved_totals, none_of_key}
+use Rattle.agg_fold.proofs.Standing.{chunk_within}
 use Rattle.agg_fold.proofs.groups.Groups.take_group.Goals as goal
 
-pub chunk-requires : goal.chunk-requires
-chunk-requires c =
-    let (key, metrics, more, at, mine, theirs, few, others, bound) = c.requires.held in
-    let w = chunk_within c.args.items.now more c.args.other.now theirs c.args.theirs key at in
+pub chunk-less-requires : goal.chunk-less-requires
+chunk-less-requires c =
+    let h = c.requires.held in
+    let query = c.args.query.now in
+    let other = c.args.other.now in
+    let w = chunk_within query.items (metrics_with query.group h.more) other h.part.totals c.args.theirs _ (key_is_at query h.more other h.part c.args.theirs c.requires.theirs) in
     search rules
 
-pub add_all_at-requires-clause-within : goal.add_all_at-requires-clause-within
-add_all_at-requires-clause-within c =
-    let (key, metrics, more, at, mine, theirs, few, others, bound) = c.requires.held in
-    let items = c.args.items.now in
-    let chunk : c.chunk.result.now ≡ map (cell_of (more key)) items = c.chunk.ensures ∙ ap (chunk_of c.args.theirs (length items)) c.as_slice.ensures.value ∙ chunk_kept items more c.args.other.now theirs c.args.theirs key at in
-    let w = chunk_within items metrics c.args.self.now mine c.args.place key (c.requires.place ∙ at) in
-    let within : c.args.place * length items + length items ≤ length c.as_mut_slice.result.now = search rules in
-    subst (λ (n : ℕ). c.args.place * n + n ≤ length c.as_mut_slice.result.now) (sym (ap length chunk ∙ length-map items (cell_of (more key)))) within
+pub take_totals-requires-clause-place : goal.take_totals-requires-clause-place
+take_totals-requires-clause-place c =
+    let keys = c.args.self.now.keys in
+    let found : slice_get keys c.in-Some.place ≡ Some c.at.result.now = subst (IsPlaceOf keys c.at.result.now) c.in-Some.is c.find.ensures in
+    slice_get_within keys c.in-Some.place c.at.result.now found
 
-pub add_all_at-requires-clause-kept : goal.add_all_at-requires-clause-kept
-add_all_at-requires-clause-kept c =
-    let (key, metrics, more, at, mine, theirs, few, others, bound) = c.requires.held in
-    let items = c.args.items.now in (
-      metrics key,
-      more key,
-      items,
-      few,
-      others,
-      ap (chunk_of c.args.place (length items)) c.as_mut_slice.ensures.value ∙ chunk_kept items metrics c.args.self.now mine c.args.place key (c.requires.place ∙ at),
-      c.chunk.ensures ∙ ap (chunk_of c.args.theirs (length items)) c.as_slice.ensures.value ∙ chunk_kept items more c.args.other.now theirs c.args.theirs key at,
-    )
+pub take_totals-requires-clause-held : goal.take_totals-requires-clause-held
+take_totals-requires-clause-held c =
+    let h = c.requires.held in
+    let query = c.args.query.now in
+    let other = c.args.other.now in
+    let keys = c.args.self.now.keys in
+    let i = c.args.theirs in
+    let rows = group_rows query other i h.more in
+    let found : slice_get keys c.in-Some.place ≡ Some c.at.result.now = subst (IsPlaceOf keys c.at.result.now) c.in-Some.is c.find.ensures in
+    let key : group_key other.keys i ≡ group_key keys c.in-Some.place = get_or_from_slice_get other.keys i c.at.result.now [] c.at.ensures ∙ sym (get_or_from_slice_get keys c.in-Some.place c.at.result.now [] found) in
+    let chunk : c.chunk-less.result.now ≡ chunk_of i (length query.items) other.tallies.items = search rules in
+    record {
+      rest = h.rest;
+      less = rows;
+      totals = moved_totals query rows _ _ _ _ _ _ key (sym c.index.ensures) (sym chunk) (group_totals query h.more other h.part i c.requires.theirs c.index.result.now);
+      whole = h.whole;
+    }
 
-pub returns-clause-kept : goal.returns-clause-kept
-returns-clause-kept c = λ key metrics more at mine theirs.
-    let items = c.args.items.now in
-    let g = c.args.self.now in
-    let here : slice_get g.keys c.args.place ≡ Some key = c.requires.place ∙ at in
-    let old : chunk_of c.args.place (length items) c.as_mut_slice.result.now ≡ map (cell_of (metrics key)) items = ap (chunk_of c.args.place (length items)) c.as_mut_slice.ensures.value ∙ chunk_kept items metrics g mine c.args.place key here in
-    let chunk : c.chunk.result.now ≡ map (cell_of (more key)) items = c.chunk.ensures ∙ ap (chunk_of c.args.theirs (length items)) c.as_slice.ensures.value ∙ chunk_kept items more c.args.other.now theirs c.args.theirs key at in
-    let new : c.add_all_at.new.cells ≡ with_chunk c.args.place (length items) g.cells.items (map (cell_of (metrics key ++ more key)) items) =
-    c.add_all_at.ensures (metrics key) (more key) items old chunk ∙ (λ i. with_chunk c.args.place (length items) (c.as_mut_slice.ensures.value i) (map (cell_of (metrics key ++ more key)) items)) in
-    let count : c.index_mut.result.now + c.index.result.now ≡ length (metrics key ++ more key) =
-    omega (arith, count_at items metrics g mine c.args.place key here c.index_mut.result.now, count_at items more c.args.other.now theirs c.args.theirs key at c.index.result.now, c.index_mut.ensures.value, c.index.ensures, length-append (metrics key) (more key)) in
-    kept_changed items metrics g _ key (metrics key ++ more key) c.args.place c.requires.once here refl (ap (set g.counts.items c.args.place) count) (with_items_is g.cells c.add_all_at.new.cells (search rules) ∙ new) mine
+pub returns-in-Some : goal.returns-in-Some
+returns-in-Some c = λ rest more t s.
+    let query = c.args.query.now in
+    let other = c.args.other.now in
+    let keys = c.args.self.now.keys in
+    let i = c.args.theirs in
+    let rows = group_rows query other i more in
+    let found : slice_get keys c.in-Some.place ≡ Some c.at.result.now = subst (IsPlaceOf keys c.at.result.now) c.in-Some.is c.find.ensures in
+    let key : group_key other.keys i ≡ group_key keys c.in-Some.place = get_or_from_slice_get other.keys i c.at.result.now [] c.at.ensures ∙ sym (get_or_from_slice_get keys c.in-Some.place c.at.result.now [] found) in
+    let chunk : c.chunk-less.result.now ≡ chunk_of i (length query.items) other.tallies.items = search rules in
+    c.take_totals.ensures.loses rest rows (moved_totals query rows _ _ _ _ _ _ key (sym c.index.ensures) (sym chunk) (group_totals query more other t i c.requires.theirs c.index.result.now)) s
+
+pub returns-in_default : goal.returns-in_default
+returns-in_default c = λ rest more t s.
+    let query = c.args.query.now in
+    let other = c.args.other.now in
+    let keys = c.args.self.now.keys in
+    let i = c.args.theirs in
+    let key : group_key other.keys i ≡ c.at.result.now = get_or_from_slice_get other.keys i c.at.result.now [] c.at.ensures in
+    let absent : is_among keys c.at.result.now ≡ false = subst (IsPlaceOf keys c.at.result.now) c.in_default.is c.find.ensures in
+    let none = none_of_key query.group (group_key other.keys i) keys rest (group_rows query other i more) (ap (is_among keys) key ∙ absent) (group_totals query more other t i c.requires.theirs 0).keyed s.named in
+    subst (λ (rs : List CodedRow). StandsFor query rs c.args.self.now) (ap (λ (w : List CodedRow). rest ++ w) none ∙ append-nil rest) s

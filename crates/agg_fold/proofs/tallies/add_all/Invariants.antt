@@ -1,0 +1,8 @@
+use Rattle.std.proofs.Common.{◌≡◌}
+use Rattle.std.specs.List.{zip}
+use Rattle.agg_fold.specs.Tallies.{tally_sum}
+use Rattle.agg_fold.proofs.Lists.{half}
+use Rattle.agg_fold.proofs.tallies.add_all.Given as goal
+
+abbrev pub invariant-items : goal.invariant-items
+invariant-items l = l.tallies ≡ half (λ p. p.0) (λ p. tally_sum p.0 p.1) l.i (zip l.fn.tallies l.more)
