@@ -22,7 +22,7 @@ use Rattle.cube_values.specs.declared.row.Row.{Row}
 use Rattle.cube_values.specs.declared.table.Field.TheVariants as field
 use Rattle.cube_values.specs.declared.value.Value.{Value}
 use Rattle.cube_values.specs.declared.value.Value.TheVariants.{Int}
-use Rattle.agg_fold.specs.Tallies.{number_at, numbers_of, lowest, highest, tally_of, number_for}
+use Rattle.agg_fold.specs.Tallies.{metric_number, numbers_of, lowest, highest, tally_of, number_for}
 use Rattle.agg_fold.specs.Coded.{IsQueryRow, coded_key, metrics_with, value_for, values_for, row_for}
 use Rattle.agg_fold.specs.Places.{is_among}
 use Rattle.agg_fold.specs.Tables.{line_of, line_of_tallies}
@@ -58,7 +58,7 @@ key_field_is (d ∷ group) row dim h =
 
 rows_metric : (lists : List (List (List ℕ))) (m : ℕ) (rows : List CodedRow) → metric_of m (map (row_for lists) rows) ≡ numbers_of m (map (λ row. row.metrics) rows)
 rows_metric lists m [] = refl
-rows_metric lists m (row ∷ rows) = λ i. number_at m row.metrics ∷ rows_metric lists m rows i
+rows_metric lists m (row ∷ rows) = λ i. metric_number m row.metrics ∷ rows_metric lists m rows i
 
 low_enough : (n : ℤ) → FitsSigned w64 n → int_min highest n ≡ n
 low_enough n h = omega (arith, ints, clamps)
@@ -73,11 +73,11 @@ item_is lists group values row rows (Group dim) e sound fit =
     sym (key_field_is group (row_for lists row) dim (list_any-from_Contains nat_eq_equiv dim group sound)) ∙ ap (λ (v : List Value). key_field group v dim) e
 item_is lists group values row rows Count e sound fit = ap (λ (n : ℕ). field.Whole (pos n)) (length-map (row ∷ rows) (row_for lists) ∙ sym (length-map (row ∷ rows) (λ (r : CodedRow). r.metrics)))
 item_is lists group values row rows (Sum m) e sound fit = ap (λ (ns : List ℤ). field.Whole (total ns)) (rows_metric lists m (row ∷ rows))
-item_is lists group values row rows (Min m) e sound fit = λ i. field.Whole (fold int_min (sym (low_enough (number_at m row.metrics) fit) i) (rows_metric lists m rows i))
-item_is lists group values row rows (Max m) e sound fit = λ i. field.Whole (fold int_max (sym (high_enough (number_at m row.metrics) fit) i) (rows_metric lists m rows i))
+item_is lists group values row rows (Min m) e sound fit = λ i. field.Whole (fold int_min (sym (low_enough (metric_number m row.metrics) fit) i) (rows_metric lists m rows i))
+item_is lists group values row rows (Max m) e sound fit = λ i. field.Whole (fold int_max (sym (high_enough (metric_number m row.metrics) fit) i) (rows_metric lists m rows i))
 item_is lists group values row rows (Avg m) e sound fit =
     let metrics = map (λ (r : CodedRow). r.metrics) (row ∷ rows) in
-    let count : length (metric_of m (map (row_for lists) (row ∷ rows))) ≡ length metrics = ap length (rows_metric lists m (row ∷ rows)) ∙ length-map metrics (number_at m) in
+    let count : length (metric_of m (map (row_for lists) (row ∷ rows))) ≡ length metrics = ap length (rows_metric lists m (row ∷ rows)) ∙ length-map metrics (metric_number m) in
     λ i. average (total (rows_metric lists m (row ∷ rows) i)) (count i)
 
 -- ---- lines

@@ -26,7 +26,7 @@ use Rattle.agg_fold.specs.Coded.{IsQueryRow, coded_key, metrics_with, row_for}
 use Rattle.agg_fold.specs.Lines.{decoded_key, empty_field}
 use Rattle.agg_fold.specs.Places.{is_among}
 use Rattle.agg_fold.specs.Standing.{StandsFor}
-use Rattle.agg_fold.specs.Tables.{named_from, key_at, values_of, AreSorted, IsIn, AreNamed, distinct_values, line_of, lines_of}
+use Rattle.agg_fold.specs.Tables.{named_from, key_at, values_of, AreSorted, IsIn, AreNamed, distinct_values, line_of, table_lines}
 use Rattle.agg_fold.proofs.Lines.{key_is}
 use Rattle.agg_fold.proofs.Order.{values_total, Rising, rising_same, keys_rising, from_keys, to_keys, ends_rising, from_ends, to_ends}
 use Rattle.agg_fold.proofs.Runs.{in_values}
@@ -269,7 +269,7 @@ module _ (lists : List (List (List ℕ))) (query : BoundQuery) where
       value_row rows groups s ns (All-tail (λ m. m.place < length groups.keys) n ns within) (All-tail (λ m. 0 < unwrap_or (slice_get groups.counts.items m.place) 0) n ns some) (All-tail (λ m. m.values ≡ decoded_key lists query.group (key_at groups.keys m)) n ns values) u i
 
   pub table_is : (rows : List CodedRow) (groups : Groups) (ns : List Named) → StandsFor query rows groups → AreNamed lists query rows groups ns → All (HasNamed query.group groups.keys ns) rows → (query.group ≡ [] → 0 < length ns)
-      → lines_of lists query rows ns ≡ table_of query.group query.items (map (row_for lists) rows)
+      → table_lines lists query rows ns ≡ table_of query.group query.items (map (row_for lists) rows)
   table_is rows groups ns s r has some = ap (map (line_of lists query rows)) (at query.group refl)
     where
       to : (u : List Value) → IsIn u (values_of ns) → IsIn u (keys_in rows)

@@ -13,7 +13,7 @@ use Rattle.cube_values.specs.declared.query.BoundItem.{BoundItem}
 use Rattle.cube_values.specs.declared.query.BoundItem.TheVariants.{Group, Count, Sum, Min, Max, Avg}
 use Rattle.cube_values.specs.declared.row.CodedRow.{CodedRow}
 use Rattle.agg_fold.specs.declared.tally.Tally.TheVariants.{Total, Least, Greatest}
-use Rattle.agg_fold.specs.Tallies.{number_at, numbers_of, lowest, highest, tally_of}
+use Rattle.agg_fold.specs.Tallies.{metric_number, numbers_of, lowest, highest, tally_of}
 use Rattle.agg_fold.specs.Coded.{coded_key, metrics_with}
 use Rattle.agg_fold.specs.Places.{is_among}
 
@@ -98,9 +98,9 @@ module _ (ms ns : List (List ℤ)) (agree : (B : Type 0) (F : B → List ℤ →
 
   same_numbers : (f : ℤ → ℤ → ℤ) → ((a x y : ℤ) → f (f a x) y ≡ f (f a y) x) → (a : ℤ) (m : ℕ) → fold f a (numbers_of m ms) ≡ fold f a (numbers_of m ns)
   same_numbers f comm a m =
-      fold-map f (number_at m) a ms
-      ∙ agree ℤ (λ (b : ℤ) (x : List ℤ). f b (number_at m x)) (λ b x y. comm b (number_at m x) (number_at m y)) a
-      ∙ sym (fold-map f (number_at m) a ns)
+      fold-map f (metric_number m) a ms
+      ∙ agree ℤ (λ (b : ℤ) (x : List ℤ). f b (metric_number m x)) (λ b x y. comm b (metric_number m x) (metric_number m y)) a
+      ∙ sym (fold-map f (metric_number m) a ns)
 
   same_tally : (item : BoundItem) → tally_of ms item ≡ tally_of ns item
   same_tally (Group dim) = refl

@@ -21,7 +21,7 @@ use Rattle.agg_fold.specs.Tallies.{number_for, AreFew}
 use Rattle.agg_fold.specs.Coded.{IsQueryRow, coded_key, metrics_with}
 use Rattle.agg_fold.specs.Places.{is_among}
 use Rattle.agg_fold.specs.Standing.{StandsFor}
-use Rattle.agg_fold.specs.Tables.{key_at, values_of, AreSorted, IsIn, AreNamed, line_of, lines_of, run_metrics, line_of_tallies, BeginOtherwise, IsRun}
+use Rattle.agg_fold.specs.Tables.{key_at, values_of, AreSorted, IsIn, AreNamed, line_of, table_lines, run_metrics, line_of_tallies, BeginOtherwise, IsRun}
 use Rattle.agg_fold.proofs.Lines.{line_is}
 use Rattle.agg_fold.proofs.Order.{values_total}
 use Rattle.agg_fold.proofs.Parted.{length_parted, metrics_among}
@@ -100,7 +100,7 @@ module _ (lists : List (List (List ℕ))) (query : BoundQuery) (rows : List Code
   some_n : 0 < n
   some_n = first_some ns d n h (subst (λ (u : List Value). BeginOtherwise u (drop n ns)) first run.ended)
 
-  pub run_lines_of : lines_of lists query rows ns ≡ line_of_tallies query v (run_metrics query.group rows groups.keys (take n ns)) ∷ lines_of lists query rows (drop n ns)
+  pub run_lines_of : table_lines lists query rows ns ≡ line_of_tallies query v (run_metrics query.group rows groups.keys (take n ns)) ∷ table_lines lists query rows (drop n ns)
   run_lines_of =
       let ks = map (key_at groups.keys) (take n ns) in
       let flat : flat_map (metrics_with query.group rows) ks ≡ run_metrics query.group rows groups.keys (take n ns) = flat_map-map (metrics_with query.group rows) (key_at groups.keys) (take n ns) in
@@ -109,4 +109,4 @@ module _ (lists : List (List (List ℕ))) (query : BoundQuery) (rows : List Code
       ap (map (line_of lists query rows)) (ends_run v n ns some_n run.within run.same run.ended)
       ∙ (λ i. (line_is lists query v ks rows (once_take (key_at groups.keys) n ns r.once) s.taken
       (run_agrees lists query rows groups ns r v n low run s.taken (subst (λ (u : List Value). IsIn u (values_of ns)) (sym first) (first_in ns d h))) (omega (arith, ap length flat, some))
-      ∙ ap (line_of_tallies query v) flat) i ∷ lines_of lists query rows (drop n ns))
+      ∙ ap (line_of_tallies query v) flat) i ∷ table_lines lists query rows (drop n ns))

@@ -11,19 +11,19 @@ use Rattle.cube_values.specs.Answer.{total}
 use Rattle.agg_fold.specs.declared.tally.Tally.TheVariants.{Total, Least, Greatest}
 use Rattle.agg_fold.specs.declared.tally.Tally.{Tally}
 use Rattle.agg_fold.proofs.Lists.{zip_map, zip_maps}
-use Rattle.agg_fold.specs.Tallies.{number_at, numbers_of, lowest, highest, least, greatest, tally_of, AreFew, IsSmall, IsAdditive, tally_with_row, tally_sum, tally_difference, tallies_with_row, tally_sums, tally_differences, chunk_of, with_chunk, changed_chunk}
+use Rattle.agg_fold.specs.Tallies.{metric_number, numbers_of, lowest, highest, least, greatest, tally_of, AreFew, IsSmall, IsAdditive, tally_with_row, tally_sum, tally_difference, tallies_with_row, tally_sums, tally_differences, chunk_of, with_chunk, changed_chunk}
 
 -- ---- sums are small
 
-bounds : (m : ℕ) (rows : List (List ℤ)) (a : ℤ) → All (λ metrics. FitsSigned w64 (number_at m metrics)) rows
+bounds : (m : ℕ) (rows : List (List ℤ)) (a : ℤ) → All (λ metrics. FitsSigned w64 (metric_number m metrics)) rows
     → ((a -ℤ pos (2 ^ 63 * length rows)) ≤ℤ fold ◌+ℤ◌ a (numbers_of m rows)) × (fold ◌+ℤ◌ a (numbers_of m rows) ≤ℤ (a +ℤ pos (2 ^ 63 * length rows)))
 bounds m [] a h = (omega (arith, ints), omega (arith, ints))
 bounds m (row ∷ rows) a h =
-    let here : FitsSigned w64 (number_at m row) = All-head (λ metrics. FitsSigned w64 (number_at m metrics)) row rows h in
-    let rest = bounds m rows (a +ℤ number_at m row) (All-tail (λ metrics. FitsSigned w64 (number_at m metrics)) row rows h) in
+    let here : FitsSigned w64 (metric_number m row) = All-head (λ metrics. FitsSigned w64 (metric_number m metrics)) row rows h in
+    let rest = bounds m rows (a +ℤ metric_number m row) (All-tail (λ metrics. FitsSigned w64 (metric_number m metrics)) row rows h) in
     (omega (arith, ints), omega (arith, ints))
 
-small_total : (m : ℕ) (rows : List (List ℤ)) → All (λ metrics. FitsSigned w64 (number_at m metrics)) rows → length rows < 2 ^ 63 → IsSmall (Total (total (numbers_of m rows)))
+small_total : (m : ℕ) (rows : List (List ℤ)) → All (λ metrics. FitsSigned w64 (metric_number m metrics)) rows → length rows < 2 ^ 63 → IsSmall (Total (total (numbers_of m rows)))
 small_total m rows fit few = let b = bounds m rows (pos 0) fit in (omega (arith, ints), omega (arith, ints))
 
 pub small_tally : (rows : List (List ℤ)) (item : BoundItem) → AreFew item rows → IsSmall (tally_of rows item)
@@ -64,7 +64,7 @@ greatest_low a (n ∷ ns) h = greatest_low (int_max a n) ns (omega (arith, ints,
 
 -- the numbers of rows and more rows, folded
 folds : (f : ℤ → ℤ → ℤ) (a : ℤ) (m : ℕ) (rows more : List (List ℤ)) → fold f a (numbers_of m (rows ++ more)) ≡ fold f (fold f a (numbers_of m rows)) (numbers_of m more)
-folds f a m rows more = ap (fold f a) (map-append (number_at m) rows more) ∙ fold-append f a (numbers_of m rows) (numbers_of m more)
+folds f a m rows more = ap (fold f a) (map-append (metric_number m) rows more) ∙ fold-append f a (numbers_of m rows) (numbers_of m more)
 
 pub tally_joined : (rows more : List (List ℤ)) (item : BoundItem) → tally_of (rows ++ more) item ≡ tally_sum (tally_of rows item) (tally_of more item)
 tally_joined rows more (Group dim) = refl

@@ -67,7 +67,7 @@ abbrev pub IsMade : List CodedRow → List CodedRow → List CodedRow → Type 0
 IsMade rows more rest = IsPermutation rows (rest ++ more)
 
 -- They stand for a list that has the rows that others stand for, each as often.
-pub record HasAll (query : BoundQuery) (other groups : Groups) : Type 0 where
+pub record HasRowsOf (query : BoundQuery) (other groups : Groups) : Type 0 where
   pub rows : List CodedRow
   pub more : List CodedRow
   pub rest : List CodedRow

@@ -81,8 +81,8 @@ abbrev pub line_of : List (List (List ℕ)) → BoundQuery → List CodedRow →
 line_of lists query rows values = map (item_of (rows_of_key query.group (map (row_for lists) rows) values)) query.items
 
 -- The lines of groups.
-abbrev pub lines_of : List (List (List ℕ)) → BoundQuery → List CodedRow → List Named → List (List Field)
-lines_of lists query rows named = map (line_of lists query rows) (distinct_values (values_of named))
+abbrev pub table_lines : List (List (List ℕ)) → BoundQuery → List CodedRow → List Named → List (List Field)
+table_lines lists query rows named = map (line_of lists query rows) (distinct_values (values_of named))
 
 -- The metrics of the rows of a run.
 abbrev pub run_metrics : List ℕ → List CodedRow → List (List ℕ) → List Named → List (List ℤ)
@@ -99,10 +99,10 @@ HasNamed lists query groups named =
     (rows : List CodedRow) × StandsFor query rows groups × AreNamed lists query rows groups named
 
 -- These lines are those of the groups, for any rows of which these groups are.
-abbrev pub AreLines : List (List (List ℕ)) → BoundQuery → Groups → List Named → List (List Field) → Type 0
-AreLines lists query groups named lines =
+abbrev pub AreTableLines : List (List (List ℕ)) → BoundQuery → Groups → List Named → List (List Field) → Type 0
+AreTableLines lists query groups named lines =
     (rows : List CodedRow) → StandsFor query rows groups → AreNamed lists query rows groups named
-    → lines ≡ lines_of lists query rows named
+    → lines ≡ table_lines lists query rows named
 
 -- Groups stand for rows, and those of a run have some of them.
 pub record HasRun (query : BoundQuery) (rows : List CodedRow) (groups : Groups) (run : List Named) : Type 0 where

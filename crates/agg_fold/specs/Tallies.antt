@@ -11,12 +11,12 @@ use Rattle.agg_fold.specs.declared.tally.Tally.{Tally}
 use Rattle.agg_fold.specs.declared.tally.Tally.TheVariants.{Unused, Total, Least, Greatest}
 
 -- A metric of a row.
-abbrev pub number_at : ℕ → List ℤ → ℤ
-number_at metric metrics = unwrap_or (slice_get metrics metric) (pos 0)
+abbrev pub metric_number : ℕ → List ℤ → ℤ
+metric_number metric metrics = unwrap_or (slice_get metrics metric) (pos 0)
 
 -- A metric of rows.
 abbrev pub numbers_of : ℕ → List (List ℤ) → List ℤ
-numbers_of metric rows = map (number_at metric) rows
+numbers_of metric rows = map (metric_number metric) rows
 
 -- The least number that a metric can be, and the greatest.
 abbrev pub lowest : ℤ
@@ -52,7 +52,7 @@ metric_asked (Avg metric) = Some metric
 
 -- The number that an item asks of a row, 0 where it asks for none.
 abbrev pub number_for : BoundItem → List ℤ → ℤ
-number_for item metrics = option_map_or (λ metric. number_at metric metrics) (metric_asked item) (pos 0)
+number_for item metrics = option_map_or (λ metric. metric_number metric metrics) (metric_asked item) (pos 0)
 
 -- The number that an item asks of a row has 64 bits.
 abbrev pub Fits : List ℤ → BoundItem → Type 0
@@ -78,7 +78,7 @@ tally_with (Greatest g) n = Greatest (int_max g n)
 -- With a row more.
 abbrev pub tally_with_row : List ℤ → BoundItem → Tally → Tally
 tally_with_row metrics item tally =
-    option_map_or (λ metric. tally_with tally (number_at metric metrics)) (metric_asked item) tally
+    option_map_or (λ metric. tally_with tally (metric_number metric metrics)) (metric_asked item) tally
 
 -- Of the numbers of both.
 abbrev pub tally_sum : Tally → Tally → Tally

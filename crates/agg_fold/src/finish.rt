@@ -5,7 +5,7 @@ ghost use Rattle.cube_values.specs.declared.row.CodedRow.{CodedRow};
 ghost use Rattle.cube_values.specs.Values.{values_cmp};
 ghost use Rattle.agg_fold.specs.Coded.{texts_for};
 ghost use Rattle.agg_fold.specs.Standing.{HasRoom, IsTable};
-ghost use Rattle.agg_fold.specs.Tables.{groups_named, HasNamed, AreLines, HasRun, IsRunLine, IsRun};
+ghost use Rattle.agg_fold.specs.Tables.{groups_named, HasNamed, AreTableLines, HasRun, IsRunLine, IsRun};
 
 use crate::groups::Groups;
 use crate::line::{decoded_key, empty_line, line_for};
@@ -111,7 +111,7 @@ fn run_lines(
     named: &[Named],
 ) -> Result<Vec<Line>, AllocError>
     requires { HasNamed lists.now query.now groups.now named.now }
-    ensures { IfOk result (λ lines. AreLines lists.now query.now groups.now named.now lines.items) }
+    ensures { IfOk result (λ lines. AreTableLines lists.now query.now groups.now named.now lines.items) }
 {
     let mut lines = Vec::new(alloc);
     let mut rest = named;

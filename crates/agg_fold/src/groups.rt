@@ -7,7 +7,7 @@ ghost use Rattle.cube_values.specs.Spans.{span_has};
 ghost use Rattle.agg_fold.specs.Tallies.{IsAdditive};
 ghost use Rattle.agg_fold.specs.Coded.{coded_key, coded_row};
 ghost use Rattle.agg_fold.specs.Places.{is_among, IsKeyAt, PlacesStay, group_key};
-ghost use Rattle.agg_fold.specs.Standing.{StandsFor, HasRoom, StandsAlike, IsCopy, Gains, Adds, HasAll, Removes, ArePlaces};
+ghost use Rattle.agg_fold.specs.Standing.{StandsFor, HasRoom, StandsAlike, IsCopy, Gains, Adds, HasRowsOf, Removes, ArePlaces};
 ghost use Rattle.agg_fold.specs.Totals.{HasTotals, GainsTotals, CanLoseTotals, LosesTotals, CanLoseGroup, LosesGroup, HasEmptyTallies};
 
 use crate::group_keys::GroupKeys;
@@ -173,7 +173,7 @@ impl Groups {
     /// Takes the rows of others out.
     pub fn remove(&mut self, query: &BoundQuery, other: &Groups)
         requires additive { All IsAdditive query.now.items }
-        requires held { HasAll query.now other.now self.old }
+        requires held { HasRowsOf query.now other.now self.old }
         ensures { Removes query.now other.now self.old self.new }
     {
         'groups: for theirs in 0..other.keys.len() {

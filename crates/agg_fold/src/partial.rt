@@ -6,7 +6,7 @@ ghost use Rattle.cube_values.specs.Queries.{IsSoundQuery};
 ghost use Rattle.cube_values.specs.Spans.{span_has};
 ghost use Rattle.agg_fold.specs.Tallies.{IsAdditive};
 ghost use Rattle.agg_fold.specs.Coded.{coded_key, texts_for};
-ghost use Rattle.agg_fold.specs.Standing.{StandsFor, HasRoom, StandsAlike, IsCopy, IsRowCount, Gains, Adds, HasAll, Removes, IsTable};
+ghost use Rattle.agg_fold.specs.Standing.{StandsFor, HasRoom, StandsAlike, IsCopy, IsRowCount, Gains, Adds, HasRowsOf, Removes, IsTable};
 ghost use Rattle.agg_fold.specs.Totals.{AreSomeRows, GainsGroup};
 
 use crate::finish::{table_for, texts_for};
@@ -126,7 +126,7 @@ impl Partial {
     /// Takes the rows of another partial out, under a query of which no item is Min or Max.
     pub fn remove(&mut self, query: &BoundQuery, other: &Partial)
         requires additive { All IsAdditive query.now.items }
-        requires held { HasAll query.now other.now.groups self.old.groups }
+        requires held { HasRowsOf query.now other.now.groups self.old.groups }
         ensures { Removes query.now other.now.groups self.old.groups self.new.groups }
     {
         self.groups.remove(query, &other.groups);

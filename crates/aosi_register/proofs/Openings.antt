@@ -14,7 +14,7 @@ use Rattle.linked_roll.specs.Members.{Member, member, item_by_ticket, items, Tic
 use Rattle.linked_roll.proofs.Tickets.{TicketsDiffer-added}
 use Rattle.aosi_register.specs.State.{writer_snapshot, reader_snapshot}
 use Rattle.aosi_register.specs.Holds.{hold_of, is_writer, HoldsFit, WritersCount, Rise}
-use Rattle.aosi_register.specs.Fits.{Contents, ShowsState, FitsSizes, FitsJournal, Begins, Reads}
+use Rattle.aosi_register.specs.Fits.{Contents, ShowsState, FitsSizes, FitsJournal, BeginsSnapshot, Reads}
 use Rattle.aosi_register.specs.declared.hold.Hold.{Hold}
 use Rattle.aosi_register.specs.declared.hold.Hold.TheVariants.{Free, Reader, Writer}
 use Rattle.aosi_register.proofs.Pending.{Rise-added, Rise-higher, WritersCount-more, WritersCount-same}

@@ -16,7 +16,7 @@ use Rattle.linked_roll.specs.Members.{Member, member, item_by_ticket, items, mem
 use Rattle.linked_roll.proofs.Tickets.{length-taken}
 use Rattle.aosi_register.specs.State.{writer_snapshot, reader_snapshot, IsWriting, held_epoch}
 use Rattle.aosi_register.specs.Holds.{hold_of, snapshot_ticket, is_writer, is_reader, HoldFits}
-use Rattle.aosi_register.specs.Fits.{Contents, ShowsState, FitsJournal, entries_owed, counters_of, Begins, Reads, EndsWriter, EndsReader}
+use Rattle.aosi_register.specs.Fits.{Contents, ShowsState, FitsJournal, entries_owed, counters_of, BeginsSnapshot, Reads, EndsWriter, EndsReader}
 use Rattle.aosi_register.specs.declared.hold.Hold.TheVariants.{Free, Reader, Writer}
 use Rattle.aosi_register.proofs.Pending.{WritersCount-most}
 use Rattle.linked_roll.specs.declared.ticket.Ticket.{Ticket}
@@ -71,9 +71,9 @@ pub begun : (laws : Laws) (k mid new : Contents) (sessions safe n statement : �
       snapshot = writer_snapshot (journal_state safe k.journal);
     }
     → e ≡ entry.Begin n statement (journal_state safe k.journal).ec (journal_state safe k.journal).pending
-    → Begins k mid o → new ≡ record mid { journal = mid.journal ++ e ∷ [] } → FitsJournal new sessions safe
+    → BeginsSnapshot k mid o → new ≡ record mid { journal = mid.journal ++ e ∷ [] } → FitsJournal new sessions safe
 begun laws k mid new sessions safe n statement o e fits free low high o_is e_is begins new_is =
-    let b = subst (Begins k mid) o_is begins in
+    let b = subst (BeginsSnapshot k mid) o_is begins in
     let added : new ≡ record mid {
       journal = mid.journal ++ entry.Begin n statement
           (journal_state safe k.journal).ec (journal_state safe k.journal).pending ∷ [];
@@ -86,7 +86,7 @@ begun laws k mid new sessions safe n statement o e fits free low high o_is e_is 
     }) b.is))
     (fits_begun laws k sessions safe fits n statement free b.ticket b.fresh low high b.other b.other_fresh)
 
-pub begun_room : (k mid new : Contents) (o : OpenSnapshot) (e : JournalEntry) (room : ℕ) → Begins k mid o
+pub begun_room : (k mid new : Contents) (o : OpenSnapshot) (e : JournalEntry) (room : ℕ) → BeginsSnapshot k mid o
     → new ≡ record mid { journal = mid.journal ++ e ∷ [] } → length k.journal + (entries_owed k + 2) ≤ room
     → length new.journal + (entries_owed new + 0) ≤ room
 begun_room k mid new o e room begins new_is enough =

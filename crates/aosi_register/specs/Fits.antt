@@ -123,7 +123,7 @@ abbrev pub HasRoomFor : Fields → ℕ → Type 0
 HasRoomFor f more = length f.journal.items + (entries_owed (contents f) + more) ≤ vec_capacity f.journal
 
 -- A writer's snapshot is opened, and the next epoch taken.
-pub record Begins (old new : Contents) (o : OpenSnapshot) : Type 0 where
+pub record BeginsSnapshot (old new : Contents) (o : OpenSnapshot) : Type 0 where
   pub ticket : Ticket
   pub other : Ticket
   pub fresh : item_by_ticket old.snapshots ticket ≡ None

@@ -3,7 +3,7 @@ ghost use Rattle.std.specs.Prelude.{◌≡◌, ◌+◌, ◌<◌, ◌≤◌, ◌^
 ghost use Rattle.linked_roll.specs.Members.{items};
 ghost use Rattle.aosi_register.specs.Holds.{hold_of, is_writer, is_reader, Rise};
 ghost use Rattle.aosi_register.specs.declared.hold.Hold.TheVariants.{Free};
-ghost use Rattle.aosi_register.specs.Fits.{contents, lce_of, target_of, next_snapshot, with_last, HasTickets, HasRoomFor, opening_contents, counters_of, without_round, Begins, Reads, EndsWriter, EndsReader};
+ghost use Rattle.aosi_register.specs.Fits.{contents, lce_of, target_of, next_snapshot, with_last, HasTickets, HasRoomFor, opening_contents, counters_of, without_round, BeginsSnapshot, Reads, EndsWriter, EndsReader};
 
 use crate::answer::RoundEnd;
 use crate::counted::{push, remove};
@@ -140,7 +140,7 @@ impl Fields {
         requires spare { 1 ≤ self.old.snapshots.spare }
         requires spare_pending { 1 ≤ self.old.pending.spare }
         requires next { self.old.ec + 1 < 2 ^ 64 }
-        ensures begins { Begins (contents self.old) (contents self.new) snapshot }
+        ensures begins { BeginsSnapshot (contents self.old) (contents self.new) snapshot }
         ensures capacity { vec_capacity self.new.journal ≡ vec_capacity self.old.journal }
     {
         let session = snapshot.session as usize;

@@ -38,25 +38,25 @@ abbrev pub high_bits : ℕ → ℕ
 high_bits x = x / 2 ^ 33
 
 -- The region, the day and the likes that the high bits of a number give, as a line of a file.
-abbrev pub line_text : ℕ → List ℕ
-line_text bits =
+abbrev pub row_line : ℕ → List ℕ
+row_line bits =
     codes "r" ++ (decimal (bits % 8) ++ (codes "," ++ (decimal ((bits / 8) % 365) ++ (codes "," ++ (decimal ((bits / 2920) % 100) ++ codes "\n")))))
 
 -- The line of row k, from 0, of n rows, which are the seed too.
 abbrev pub row_text : ℕ → ℕ → List ℕ
-row_text n k = line_text (high_bits (number_at n (suc k)))
+row_text n k = row_line (high_bits (number_at n (suc k)))
 
 -- Row k is one of a session, of which there are four.
-abbrev pub is_of_session : ℕ → ℕ → Bool
-is_of_session session k = k % 4 + 1 == session
+abbrev pub falls_to_session : ℕ → ℕ → Bool
+falls_to_session session k = k % 4 + 1 == session
 
 -- The line of row k in the file of a session, which has none where the row is of another.
 abbrev pub line_for : ℕ → ℕ → ℕ → List ℕ
-line_for session k bits = if is_of_session session k then line_text bits else []
+line_for session k bits = if falls_to_session session k then row_line bits else []
 
 -- The lines of a session among the first rows.
 abbrev pub part_so_far : ℕ → ℕ → ℕ → List ℕ
-part_so_far n session rows = flat_map (row_text n) (filter (is_of_session session) (range_with_len 0 rows))
+part_so_far n session rows = flat_map (row_text n) (filter (falls_to_session session) (range_with_len 0 rows))
 
 -- The file of a session: its rows in order.
 abbrev pub part_text : ℕ → ℕ → List ℕ

@@ -1,7 +1,7 @@
 //! The files of the sessions.
 
 ghost use Rattle.std.specs.Prelude.{◌≡◌, ◌++◌, IfOk, OnOk};
-ghost use Rattle.cube_gen.specs.Generated.{high_bits, is_of_session, line_for, line_text, next_number, part_text};
+ghost use Rattle.cube_gen.specs.Generated.{high_bits, falls_to_session, line_for, row_line, next_number, part_text};
 
 use cube_language::put_u64;
 use std::alloc::{AllocError, Global};
@@ -19,14 +19,14 @@ fn high_bits(x: u64) -> u64
     x >> 33
 }
 
-fn is_of_session(session: u32, k: u64) -> bool
-    ensures { result ≡ is_of_session session k }
+fn falls_to_session(session: u32, k: u64) -> bool
+    ensures { result ≡ falls_to_session session k }
 {
     k % 4 + 1 == u64::from(session)
 }
 
 fn put_line(out: &mut Vec<u8>, bits: u64) -> Result<(), AllocError>
-    ensures { OnOk result (out.new.items ≡ out.old.items ++ line_text bits) }
+    ensures { OnOk result (out.new.items ≡ out.old.items ++ row_line bits) }
 {
     out.push(b'r')?;
     put_u64(out, bits % 8)?;
@@ -41,7 +41,7 @@ fn put_line(out: &mut Vec<u8>, bits: u64) -> Result<(), AllocError>
 fn put_row(out: &mut Vec<u8>, session: u32, k: u64, bits: u64) -> Result<(), AllocError>
     ensures { OnOk result (out.new.items ≡ out.old.items ++ line_for session k bits) }
 {
-    if is_of_session(session, k) {
+    if falls_to_session(session, k) {
         put_line(out, bits)
     } else {
         Ok(())

@@ -114,8 +114,8 @@ is_desc Asc = false
 is_desc Desc = true
 
 -- The key that is written.
-abbrev pub key_of : WrittenKey → Key
-key_of written = record { item = written.item; desc = is_desc written.direction }
+abbrev pub sort_key_of : WrittenKey → Key
+sort_key_of written = record { item = written.item; desc = is_desc written.direction }
 
 abbrev pub direction_form : Direction → List Symbol
 direction_form Unsaid = []
@@ -181,7 +181,7 @@ form_of ShowWatch = Keyword keyword.Show ∷ Keyword keyword.Watch ∷ []
 -- another order.
 abbrev pub IsFormOf : Statement → List Symbol → Type 0
 IsFormOf (Select items cube conds group having order limit) symbols =
-    (keys : List WrittenKey) × (order ≡ map key_of keys) × (symbols ≡ query_form items cube conds group ++ top_form key_form having keys limit)
+    (keys : List WrittenKey) × (order ≡ map sort_key_of keys) × (symbols ≡ query_form items cube conds group ++ top_form key_form having keys limit)
 IsFormOf (CreateCube decl) symbols =
     (columns : List Column) × (decl ≡ decl_of decl.name columns) × (symbols ≡ create_form decl.name columns)
 IsFormOf statement symbols = symbols ≡ form_of statement

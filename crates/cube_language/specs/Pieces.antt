@@ -6,33 +6,33 @@ use Rattle.std.specs.Str.{IsValidUpTo}
 use Rattle.cube_language.specs.declared.piece.Piece.{Piece}
 use Rattle.cube_language.specs.declared.piece.ScriptFault.{ScriptFault}
 use Rattle.cube_language.specs.declared.piece.ScriptFault.TheVariants.{NotUtf8, TooManyStatements, StatementTooLong}
-use Rattle.cube_language.specs.Parts.{Part, Comment, Quoted, Other, part_bytes, AreParts, is_blank}
+use Rattle.cube_language.specs.Parts.{ScriptPart, Comment, Quoted, Other, part_bytes, AreParts, is_blank}
 
 -- A semicolon by itself ends a statement.
-abbrev pub is_end : Part → Bool
+abbrev pub is_end : ScriptPart → Bool
 is_end (Comment bytes) = false
 is_end (Quoted bytes) = false
 is_end (Other byte) = byte == 59
 
 -- How many bytes parts have.
-abbrev pub bytes_in : List Part → ℕ
+abbrev pub bytes_in : List ScriptPart → ℕ
 bytes_in parts = sum_by (λ part. length (part_bytes part)) parts
 
 -- The text of the statement that such parts are, the first of them at a place: what stands behind the white
 -- space and the comments in front.
-abbrev pub piece_at : ℕ → List Part → Piece
+abbrev pub piece_at : ℕ → List ScriptPart → Piece
 piece_at place parts = record { start = place + bytes_in (take_while is_blank parts); end = place + bytes_in parts }
 
 -- The texts of the statements that lie between the ends, the first of the lists of parts at a place. White
 -- space and comments alone are no statement.
-abbrev pub pieces_from : ℕ → List (List Part) → List Piece
+abbrev pub pieces_from : ℕ → List (List ScriptPart) → List Piece
 pieces_from place [] = []
 pieces_from place (parts ∷ others) =
     (if list_all is_blank parts then [] else piece_at place parts ∷ []) ++ pieces_from (place + bytes_in parts + 1) others
 
 -- The script has its statements at these places.
 abbrev pub Splits : List ℕ → List Piece → Type 0
-Splits script pieces = (parts : List Part) × AreParts script parts [] × (pieces ≡ pieces_from 0 (slice_split is_end parts))
+Splits script pieces = (parts : List ScriptPart) × AreParts script parts [] × (pieces ≡ pieces_from 0 (slice_split is_end parts))
 
 -- The most statements of a script, and the most bytes of a statement.
 abbrev pub statements_limit : ℕ

@@ -11,7 +11,7 @@ use Rattle.cube_language.specs.declared.token.TokenFault.{TokenFault}
 use Rattle.cube_language.specs.declared.token.TokenFault.TheVariants.{BadByte, UnclosedText, NumberTooWide}
 use Rattle.cube_language.specs.declared.token.TokenKind.{TokenKind}
 use Rattle.cube_language.specs.declared.token.TokenKind.TheVariants.{Word, Number, Text, Open, Close, Comma, Equals, Star}
-use Rattle.cube_language.specs.Parts.{is_space, Stops, IsGap}
+use Rattle.cube_language.specs.Parts.{is_space, EndsRun, IsGap}
 use Rattle.cube_language.specs.Quotes.{opened, quoted}
 
 -- One digit at least, and digits alone.
@@ -25,13 +25,13 @@ is_number (byte ∷ bytes) = if byte == 45 then is_digits bytes else is_digits (
 
 -- The bytes are a number before the rest, which does not prolong it.
 abbrev pub IsNumberBefore : List ℕ → List ℕ → Type 0
-IsNumberBefore bytes rest = IsTrue (is_number bytes) × Stops is_ascii_digit rest
+IsNumberBefore bytes rest = IsTrue (is_number bytes) × EndsRun is_ascii_digit rest
 
 -- The bytes are a token of this kind, and the rest does not prolong it.
 abbrev pub IsToken : List ℕ → List ℕ → TokenKind → Type 0
-IsToken bytes rest Word = IsTrue (is_word bytes) × Stops continues_name rest
+IsToken bytes rest Word = IsTrue (is_word bytes) × EndsRun continues_name rest
 IsToken bytes rest (Number n) = IsNumberBefore bytes rest × (signed_digits_value 10 bytes ≡ n) × FitsSigned w64 n
-IsToken bytes rest Text = (text : List ℕ) × (bytes ≡ quoted text) × Stops (λ byte. byte == 39) rest
+IsToken bytes rest Text = (text : List ℕ) × (bytes ≡ quoted text) × EndsRun (λ byte. byte == 39) rest
 IsToken bytes rest Open = bytes ≡ codes "("
 IsToken bytes rest Close = bytes ≡ codes ")"
 IsToken bytes rest Comma = bytes ≡ codes ","

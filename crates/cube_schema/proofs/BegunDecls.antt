@@ -124,14 +124,14 @@ stands_behind current number [] name lines =
 stands_behind current number (line ∷ before) name lines =
     let next = next_of current number line in
     let c = stands_behind next.current (number + 1) before name lines in
-    let name_in : Begun → List ℕ = λ cube. cube.decl.name in
+    let name_of_word : Begun → List ℕ = λ cube. cube.decl.name in
     let completed = option_to_list next.completed in
     record {
       front = completed ++ c.front;
       cube = c.cube;
       rest = c.rest;
       whole = ap (λ cubes. completed ++ cubes) c.whole ∙ sym (append_assoc completed c.front (c.cube ∷ c.rest));
-      names = map-append name_in completed c.front ∙ ap (λ names. begun_names completed ++ names) c.names
+      names = map-append name_of_word completed c.front ∙ ap (λ names. begun_names completed ++ names) c.names
           ∙ sym (append_assoc (begun_names completed) (begun_names (option_to_list next.current)) (cube_names before))
           ∙ ap (λ names. names ++ cube_names before) (further current number line)
           ∙ append_assoc (begun_names (option_to_list current)) (cube_names (line ∷ [])) (cube_names before)

@@ -12,13 +12,13 @@ use Rattle.cube_language.specs.declared.decl.DimDecl.{DimDecl}
 use Rattle.cube_language.specs.Cubes.{kind_text}
 use Rattle.cube_language.specs.CubesText.{Line, Skipped, Cube, Dim, Metric, IsLine, IsNumberWord}
 use Rattle.cube_language.specs.Tokens.{is_digits}
-use Rattle.cube_schema.specs.Reading.{◌>>=◌, name_in, kind_in, number_in, only_word, only_name, dim_words, line_in}
+use Rattle.cube_schema.specs.Reading.{◌>>=◌, name_of_word, kind_of_word, number_in, only_word, only_name, dim_words, line_in}
 
 bind_some : {A B : Type 0} (r : Option A) (f : A → Option B) (y : B) → (r >>= f) ≡ Some y → (x : A) × (r ≡ Some x) × (f x ≡ Some y)
 bind_some (Some x) f y e = (x, refl, e)
 bind_some None f y e = absurd cc
 
-name_found : (word name : List ℕ) → name_in word ≡ Some name → (word ≡ name) × IsTrue (is_name name)
+name_found : (word name : List ℕ) → name_of_word word ≡ Some name → (word ≡ name) × IsTrue (is_name name)
 name_found word name e = elim (cases_Bool (is_name word)) [
   | inl named ↦
       let same : Some word ≡ Some name = rw named at e in
@@ -27,7 +27,7 @@ name_found word name e = elim (cases_Bool (is_name word)) [
   | inr other ↦ let no = rw other at e in absurd cc
 ]
 
-name_of : (name : List ℕ) → IsTrue (is_name name) → name_in name ≡ Some name
+name_of : (name : List ℕ) → IsTrue (is_name name) → name_of_word name ≡ Some name
 name_of name named = rw named refl
 
 only_found : (words : List (List ℕ)) (name : List ℕ) → only_name words ≡ Some name → (words ≡ name ∷ []) × IsTrue (is_name name)
@@ -40,7 +40,7 @@ only_of : (name : List ℕ) → IsTrue (is_name name) → only_name (name ∷ []
 unfolding only_name only_word
 only_of name named = name_of name named
 
-kind_found : (word : List ℕ) (text : Bool) → kind_in word ≡ Some text → word ≡ kind_text text
+kind_found : (word : List ℕ) (text : Bool) → kind_of_word word ≡ Some text → word ≡ kind_text text
 kind_found word text e = elim (cases_Bool (bytes_eq word (codes "text"))) [
   | inl is ↦
       let same : Some true ≡ Some text = rw is at e in
@@ -55,7 +55,7 @@ kind_found word text e = elim (cases_Bool (bytes_eq word (codes "text"))) [
   ]
 ]
 
-kind_of : (text : Bool) → kind_in (kind_text text) ≡ Some text
+kind_of : (text : Bool) → kind_of_word (kind_text text) ≡ Some text
 kind_of true = refl
 kind_of false = refl
 
@@ -88,8 +88,8 @@ dim_found (a ∷ []) d e = absurd cc
 dim_found (a ∷ b ∷ []) d e = absurd cc
 dim_found (a ∷ b ∷ c ∷ []) d e = absurd cc
 dim_found (name ∷ kind ∷ cardinality ∷ range ∷ []) d e =
-    let n = bind_some (name_in name) _ d e in
-    let k = bind_some (kind_in kind) _ d n.2 in
+    let n = bind_some (name_of_word name) _ d e in
+    let k = bind_some (kind_of_word kind) _ d n.2 in
     let c = bind_some (number_in cardinality) _ d k.2 in
     let r = bind_some (number_in range) _ d c.2 in
     let named = name_found name n.0 n.1 in

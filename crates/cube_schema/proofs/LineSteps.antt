@@ -10,7 +10,7 @@ use Rattle.cube_language.specs.declared.cubes_fault.CubesFault.TheVariants.{BadL
 use Rattle.cube_language.specs.CubesText.{lines_of, words_of, word_lines, without_return}
 use Rattle.cube_schema.specs.declared.gather.Begun.{Begun}
 use Rattle.cube_schema.specs.declared.gather.Progress.{Progress}
-use Rattle.cube_schema.specs.Gathering.{progress_at, cubes_then, cubes_after, cubes_from, gathered}
+use Rattle.cube_schema.specs.Gathering.{progress_at, cubes_then, cubes_read_from, cubes_from, gathered}
 use Rattle.cube_schema.specs.Reading.{line_in}
 
 -- What was read before a line, and what is read from it on, is what the whole text gives.
@@ -37,7 +37,7 @@ line_at text n line piece =
     (words_fit, get_or-map words_of (lines_of text) n [] [] lines_fit ∙ ap words_of (get_or-map without_return cut n line [] piece.within ∙ ap without_return (sym piece.is)))
 
 next_line : (text line : List ℕ) (cubes : List Begun) (current : Option Begun) (n : ℕ) → IsPiece text n line → Reads text cubes current n
-    → cubes_then cubes (cubes_after (n + 1) (progress_at current (n + 1) (line_in (words_of (without_return line)))) (λ next. cubes_from next (n + 1 + 1) (drop (n + 1) (word_lines text)))) ≡ gathered text
+    → cubes_then cubes (cubes_read_from (n + 1) (progress_at current (n + 1) (line_in (words_of (without_return line)))) (λ next. cubes_from next (n + 1 + 1) (drop (n + 1) (word_lines text)))) ≡ gathered text
 next_line text line cubes current n piece reads =
     let at = line_at text n line piece in
     let more : suc n ≡ n + 1 = omega arith in

@@ -76,8 +76,8 @@ pub excess_outcome : (text : List ℕ) (number : ℕ) → ExceedsCubes text numb
 excess_outcome text number f =
     let s = begun_at_line f.lines f.before f.name number f.begins in
     let at : s.cube.line ≡ number = omega (arith, s.line_is, f.begins.place) in
-    let name_in : Begun → List ℕ = λ cube. cube.decl.name in
-    let count : length s.front ≡ cubes_limit = sym (length-map s.front name_in) ∙ ap length s.names ∙ f.full in
+    let name_of_word : Begun → List ℕ = λ cube. cube.decl.name in
+    let count : length s.front ≡ cubes_limit = sym (length-map s.front name_of_word) ∙ ap length s.names ∙ f.full in
     let got : slice_get (begun_from None 1 f.lines) cubes_limit ≡ Some s.cube = (λ i. slice_get (s.whole i) (sym count i)) ∙ slice_get-seam s.front s.cube s.rest in
     by_lines text f.lines f.formed ∙ rw (none_repeated f.lines f.apart, got) (ap (λ n. Err (TooManyCubes n)) at)
 

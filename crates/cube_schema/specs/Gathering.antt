@@ -41,16 +41,16 @@ cubes_then front (Ok cubes) = Ok (front ++ cubes)
 cubes_then front (Err fault) = Err fault
 
 -- What follows such a progress, or the fault of the line that allows none.
-abbrev pub cubes_after
+abbrev pub cubes_read_from
     : ℕ → Option Progress → (Option Begun → Result (List Begun) CubesFault) → Result (List Begun) CubesFault
-cubes_after number None rest = Err (BadLine number)
-cubes_after number (Some s) rest = cubes_then (option_to_list s.completed) (rest s.current)
+cubes_read_from number None rest = Err (BadLine number)
+cubes_read_from number (Some s) rest = cubes_then (option_to_list s.completed) (rest s.current)
 
 -- The cubes of lines, of which the first has this number, behind a cube that is being read, or the first bad line.
 abbrev pub cubes_from : Option Begun → ℕ → List (List (List ℕ)) → Result (List Begun) CubesFault
 cubes_from current number [] = Ok (option_to_list current)
 cubes_from current number (words ∷ lines) =
-    cubes_after number (progress_at current number (line_in words)) (λ next. cubes_from next (number + 1) lines)
+    cubes_read_from number (progress_at current number (line_in words)) (λ next. cubes_from next (number + 1) lines)
 
 -- The cubes of a text, or its first bad line.
 abbrev pub gathered : List ℕ → Result (List Begun) CubesFault

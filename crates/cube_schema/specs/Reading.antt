@@ -31,12 +31,12 @@ no_word [] = Some tt
 no_word (word ∷ words) = None
 
 -- A name.
-abbrev pub name_in : List ℕ → Option (List ℕ)
-name_in word = if is_name word then Some word else None
+abbrev pub name_of_word : List ℕ → Option (List ℕ)
+name_of_word word = if is_name word then Some word else None
 
 -- A kind: whether it is that of texts.
-abbrev pub kind_in : List ℕ → Option Bool
-kind_in word =
+abbrev pub kind_of_word : List ℕ → Option Bool
+kind_of_word word =
     if bytes_eq word (codes "text") then Some true else (if bytes_eq word (codes "int") then Some false else None)
 
 -- A number, where it has 32 bits.
@@ -62,7 +62,7 @@ only_word words = do
 unfoldable pub only_name : List (List ℕ) → Option (List ℕ)
 only_name words = do
   word ← only_word words
-  name_in word
+  name_of_word word
 
 -- The dimension that four words declare.
 unfoldable pub dim_words : List (List ℕ) → Option DimDecl
@@ -72,8 +72,8 @@ dim_words words = do
   cardinality ← next_word kind.1
   range ← next_word cardinality.1
   end ← no_word range.1
-  named ← name_in name.0
-  text ← kind_in kind.0
+  named ← name_of_word name.0
+  text ← kind_of_word kind.0
   coords ← number_in cardinality.0
   length ← number_in range.0
   Some (record { name = named; text = text; cardinality = coords; range = length })

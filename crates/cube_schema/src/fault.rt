@@ -133,7 +133,7 @@ fn ranges(dim: &DimDecl) -> u64
     (u64::from(dim.cardinality) + (range - 1)) / range
 }
 
-/// Whether there are more bricks than a cube has at most. Stops at the first product above it.
+/// Whether there are more bricks than a cube has at most. EndsRun at the first product above it.
 fn has_many_bricks(dims: &[DimDecl]) -> bool
     requires { AreNotZero dims.now }
     ensures { result ≡ nat_lt (2 ^ 62) (bricks_of (sizes_of dims.now)) }

@@ -10,7 +10,7 @@ ghost use Rattle.cube_language.specs.Names.{is_name};
 ghost use Rattle.cube_language.specs.CubesText.{words_of};
 ghost use Rattle.cube_language.specs.Tokens.{is_digits};
 ghost use Rattle.cube_schema.specs.Forms.{said_by, dim_of};
-ghost use Rattle.cube_schema.specs.Reading.{only_word, kind_in, narrow, number_in, only_name, dim_words, line_in};
+ghost use Rattle.cube_schema.specs.Reading.{only_word, kind_of_word, narrow, number_in, only_name, dim_words, line_in};
 
 use crate::words::next_word;
 use cube_language::{DimDecl, is_name, text_of};
@@ -45,7 +45,7 @@ fn is(word: &[u8], wanted: &[u8]) -> bool
 }
 
 fn kind_of(word: &[u8]) -> Option<bool>
-    ensures { result ≡ kind_in word.now }
+    ensures { result ≡ kind_of_word word.now }
 {
     if is(word, b"text") {
         return Some(true);

@@ -29,13 +29,13 @@ number_of (Int n) = n
 number_of (Text text) = pos 0
 
 -- A number is below a bound and not below 0.
-abbrev pub is_below : ℕ → ℤ → Bool
-is_below bound (pos n) = nat_lt n bound
-is_below bound (negsuc n) = false
+abbrev pub is_within_bound : ℕ → ℤ → Bool
+is_within_bound bound (pos n) = nat_lt n bound
+is_within_bound bound (negsuc n) = false
 
 -- A value is a coordinate of a dimension of numbers.
 abbrev pub is_coordinate : DimDecl → Value → Bool
-is_coordinate dim (Int n) = is_below dim.cardinality n
+is_coordinate dim (Int n) = is_within_bound dim.cardinality n
 is_coordinate dim (Text text) = false
 
 -- The values are a coordinate for each dimension, and then so many numbers.

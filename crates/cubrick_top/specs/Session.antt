@@ -58,11 +58,11 @@ stored_in [] = 0
 stored_in (a ∷ actions) = stored_by a + stored_in actions
 
 -- The closing line: the next epoch, the latest committed epoch and the latest safe epoch.
-abbrev pub end_text : ℕ → ℕ → ℕ → List ℕ
-end_text ec lce lse =
+abbrev pub closing_text : ℕ → ℕ → ℕ → List ℕ
+closing_text ec lce lse =
     codes "end ec " ++ (decimal ec ++ (codes " lce " ++ (decimal lce ++ (codes " lse " ++ (decimal lse ++ codes "\n")))))
 
 -- The whole text of a run: the head, the replies and the closing line.
 abbrev pub run_text : List Action → List ℕ
 run_text actions =
-    codes "session 1\n" ++ (replies_from (transactions_from 0 actions) 1 0 actions ++ end_text (stored_in actions + 1) (stored_in actions) 0)
+    codes "session 1\n" ++ (replies_from (transactions_from 0 actions) 1 0 actions ++ closing_text (stored_in actions + 1) (stored_in actions) 0)

@@ -6,7 +6,7 @@ ghost use Rattle.std.specs.List.{flat_map};
 ghost use Rattle.cube_journal.specs.Replies.{sign_text, four_digits, field_text, fields_text, table_text, reply_text, numbered};
 ghost use Rattle.cube_journal.specs.Refusals.{code, cause_text, refusal_text};
 ghost use Rattle.cube_language.specs.Quotes.{quoted};
-ghost use Rattle.cubrick_top.specs.Session.{end_text};
+ghost use Rattle.cubrick_top.specs.Session.{closing_text};
 ghost use Rattle.cubrick_top.specs.Answered.{IsSyntax, IsOfActions};
 
 use cube_journal::{Refusal, Reply};
@@ -185,7 +185,7 @@ pub fn push_reply(
 
 /// Appends the closing line.
 pub fn push_end(out: &mut Vec<u8>, ec: u64, lce: u64, lse: u64) -> Result<(), AllocError>
-    ensures { OnOk result (out.new.items ≡ out.old.items ++ end_text ec lce lse) }
+    ensures { OnOk result (out.new.items ≡ out.old.items ++ closing_text ec lce lse) }
 {
     out.extend_from_slice(b"end ec ")?;
     push_number(out, ec)?;

@@ -5,7 +5,7 @@ ghost use Rattle.std.specs.List.{list_all, position_from};
 ghost use Rattle.std.specs.Option.{option_copied};
 ghost use Rattle.std.specs.Str.{bytes_eq};
 ghost use Rattle.cube_language.specs.Cubes.{IsStorable};
-ghost use Rattle.cubrick_top.specs.Actions.{is_whole, number_of, is_below, is_coordinate, fits_row, has_numbers_alone, cube_named, row_of, store_on, sum_query, ask_on, insert_action, select_action, statement_action};
+ghost use Rattle.cubrick_top.specs.Actions.{is_whole, number_of, is_within_bound, is_coordinate, fits_row, has_numbers_alone, cube_named, row_of, store_on, sum_query, ask_on, insert_action, select_action, statement_action};
 
 use crate::action::Action;
 use cube_language::{Cond, Decl, DimDecl, Item, Statement};
@@ -37,8 +37,8 @@ fn number_of(value: &Value) -> i64
     }
 }
 
-fn is_below(bound: u32, n: i64) -> bool
-    ensures { result ≡ is_below bound n }
+fn is_within_bound(bound: u32, n: i64) -> bool
+    ensures { result ≡ is_within_bound bound n }
 {
     0 <= n && n < i64::from(bound)
 }
@@ -47,7 +47,7 @@ fn is_coordinate(dim: &DimDecl, value: &Value) -> bool
     ensures { result ≡ is_coordinate dim.now value.now }
 {
     match value {
-        Value::Int(n) => is_below(dim.cardinality, *n),
+        Value::Int(n) => is_within_bound(dim.cardinality, *n),
         Value::Text(_) => false,
     }
 }

@@ -26,9 +26,9 @@ after_size Absent shelf = record shelf { calls = next shelf.calls; absences = ne
 after_size NoSize shelf = record shelf { calls = next shelf.calls; faults = next shelf.faults }
 
 -- the shelf after a call of `read` with this answer
-abbrev pub after_read : ReadAnswer → ShelfState → ShelfState
-after_read (Got n) shelf = record shelf { calls = next shelf.calls }
-after_read NoPiece shelf = record shelf { calls = next shelf.calls; faults = next shelf.faults }
+abbrev pub shelf_after_read : ReadAnswer → ShelfState → ShelfState
+shelf_after_read (Got n) shelf = record shelf { calls = next shelf.calls }
+shelf_after_read NoPiece shelf = record shelf { calls = next shelf.calls; faults = next shelf.faults }
 
 -- how many bytes of a file there are from `at` on; none of a file that is absent
 abbrev pub bytes_left : List (List ℕ × List ℕ) → List ℕ → ℕ → ℕ

@@ -56,7 +56,7 @@ impl ShelfMemory {
 
 impl Shelf for ShelfMemory {
     ghost use Rattle.outside.specs.Files.{TellsSize, TellsPiece};
-    ghost use Rattle.outside.specs.Memory.{after_size, after_read, bytes_left};
+    ghost use Rattle.outside.specs.Memory.{after_size, shelf_after_read, bytes_left};
     ghost use Rattle.outside.specs.ShelfCalls.{sized, with_call, read_call};
 
     ghost told = { λ shelf. Some shelf.files };
@@ -109,7 +109,7 @@ impl Shelf for ShelfMemory {
         ensures piece { TellsPiece (Some self.old.files) name.now at into.new result }
 
         ensures exact { result ≡ ReadAnswer.Failed ↔ IsFailing self.old.failing self.old.calls }
-        ensures after { self.new ≡ after_read result self.old }
+        ensures after { self.new ≡ shelf_after_read result self.old }
         // As many bytes as there are and the piece holds; none of an absent file.
         ensures most { result ≢ ReadAnswer.Failed →
             result ≡ ReadAnswer.Got (min (length into.new) (bytes_left self.old.files name.now at)) }

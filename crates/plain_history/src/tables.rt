@@ -57,7 +57,7 @@ fn table_of(
         [] => one_line(alloc, items, rows),
         _ => {
             let firsts = firsts_of(alloc, group, rows)?;
-            lines_of(alloc, group, items, rows, firsts.as_slice())
+            table_lines(alloc, group, items, rows, firsts.as_slice())
         }
     }
 }
@@ -73,7 +73,7 @@ fn one_line(alloc: Global, items: &[BoundItem], rows: &[&Row]) -> Result<Table, 
 }
 
 /// A line for the key of each first row.
-fn lines_of(
+fn table_lines(
     alloc: Global,
     group: &[u32],
     items: &[BoundItem],

@@ -23,7 +23,7 @@ pub record Takes {A : Type 0} (read : List Symbol → Readout A) (Form : A → L
   pub local : IsLocal read front rest (given x)
 
 -- The reader stopped behind a front that the form of some value begins with.
-pub record Stops {A : Type 0} (read : List Symbol → Readout A) (Form : A → List Symbol → Type 0) (symbols : List Symbol) (left : ℕ) : Type 0 where
+pub record StopsReading {A : Type 0} (read : List Symbol → Readout A) (Form : A → List Symbol → Type 0) (symbols : List Symbol) (left : ℕ) : Type 0 where
   pub front : List Symbol
   pub rest : List Symbol
   pub whole : symbols ≡ front ++ rest
@@ -35,7 +35,7 @@ pub record Stops {A : Type 0} (read : List Symbol → Readout A) (Form : A → L
 
 abbrev pub Tells : {A : Type 0} → (List Symbol → Readout A) → (A → List Symbol → Type 0) → List Symbol → Readout A → Type 0
 Tells read Form symbols (Ok x) = Takes read Form symbols x.0 x.1
-Tells read Form symbols (Err left) = Stops read Form symbols left
+Tells read Form symbols (Err left) = StopsReading read Form symbols left
 
 pub record IsReader {A : Type 0} (read : List Symbol → Readout A) (Form : A → List Symbol → Type 0) (Ends : List Symbol → Type 0) : Type 0 where
   pub value : A

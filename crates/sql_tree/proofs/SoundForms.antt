@@ -27,7 +27,7 @@ use Rattle.cube_language.specs.declared.symbol.Symbol.TheVariants.{Keyword, Word
 use Rattle.cube_language.specs.declared.written.Direction.TheVariants as direction
 use Rattle.cube_language.specs.declared.written.WrittenKey.{WrittenKey}
 use Rattle.cube_language.specs.Columns.{columns_of, column_dim, column_metric, decl_of}
-use Rattle.cube_language.specs.Grammar.{form_behind, separated, name_form, number_form, value_form, list_form, tuple_form, item_form, cond_form, where_form, group_form, query_form, bound_form, test_form, having_form, is_desc, key_of, key_form, plain_form, order_form, limit_form, top_form, column_form, form_of, IsFormOf, IsProperValue, IsProperTuple, IsProperItem, IsProperCond, IsProperQuery, IsProperBound, IsProperTest, IsProperLimit, IsProperTop, IsProperColumn, IsProper, Spells, IsSpelled}
+use Rattle.cube_language.specs.Grammar.{form_behind, separated, name_form, number_form, value_form, list_form, tuple_form, item_form, cond_form, where_form, group_form, query_form, bound_form, test_form, having_form, is_desc, sort_key_of, key_form, plain_form, order_form, limit_form, top_form, column_form, form_of, IsFormOf, IsProperValue, IsProperTuple, IsProperItem, IsProperCond, IsProperQuery, IsProperBound, IsProperTest, IsProperLimit, IsProperTop, IsProperColumn, IsProper, Spells, IsSpelled}
 use Rattle.cube_language.specs.Keywords.{is_keyword}
 use Rattle.cube_language.specs.Names.{is_name, is_word}
 use Rattle.cube_language.specs.Printed.{printed}
@@ -161,11 +161,11 @@ form_sound statement.ShowWatch p = (tt, (tt, tt))
 abbrev written_of : Key → WrittenKey
 written_of key = record { item = key.item; direction = if key.desc then direction.Desc else direction.Unsaid }
 
-is_written : (x : Item) (desc : Bool) → key_of (written_of (record { item = x; desc = desc })) ≡ record { item = x; desc = desc }
+is_written : (x : Item) (desc : Bool) → sort_key_of (written_of (record { item = x; desc = desc })) ≡ record { item = x; desc = desc }
 is_written x true = refl
 is_written x false = refl
 
-are_written : (order : List Key) → order ≡ map key_of (map written_of order)
+are_written : (order : List Key) → order ≡ map sort_key_of (map written_of order)
 are_written [] = refl
 are_written (key ∷ order) = let one = is_written key.item key.desc in let more = are_written order in rw one (ap (λ (keys : List Key). key ∷ keys) more)
 

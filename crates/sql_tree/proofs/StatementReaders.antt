@@ -16,7 +16,7 @@ use Rattle.cube_language.specs.declared.statement.Statement.TheVariants as state
 use Rattle.cube_language.specs.declared.statement.Test.{Test}
 use Rattle.cube_language.specs.declared.written.WrittenKey.{WrittenKey}
 use Rattle.cube_language.specs.Columns.{columns_of, decl_of}
-use Rattle.cube_language.specs.Grammar.{separated, list_form, tuple_form, item_form, where_form, group_form, query_form, having_form, key_of, key_form, order_form, limit_form, top_form, column_form, create_form, form_of, IsFormOf, IsProperTuple, IsProperItem, IsProperQuery, IsProperTest, IsProperLimit, IsProperTop, IsProperColumn, IsProper}
+use Rattle.cube_language.specs.Grammar.{separated, list_form, tuple_form, item_form, where_form, group_form, query_form, having_form, sort_key_of, key_form, order_form, limit_form, top_form, column_form, create_form, form_of, IsFormOf, IsProperTuple, IsProperItem, IsProperQuery, IsProperTest, IsProperLimit, IsProperTop, IsProperColumn, IsProper}
 use Rattle.cube_language.specs.declared.symbol.Symbol.{Symbol}
 use Rattle.cube_language.specs.declared.symbol.Symbol.TheVariants.{Keyword, Word, Number, Text, Comma}
 use Rattle.sql_tree.specs.declared.head.Selection.{Selection}
@@ -125,7 +125,7 @@ selection_reader =
 -- ---- SELECT
 
 abbrev select_of : Selection → List Test → List WrittenKey → Option ℕ → Statement
-select_of asked having keys limit = statement.Select asked.items asked.cube asked.conds asked.group having (map key_of keys) limit
+select_of asked having keys limit = statement.Select asked.items asked.cube asked.conds asked.group having (map sort_key_of keys) limit
 
 abbrev BehindOrder : Selection → List Test → List WrittenKey → Statement → List Symbol → Type 0
 BehindOrder asked having keys = IsMade (Formed IsProperLimit limit_form) (select_of asked having keys)
@@ -312,11 +312,11 @@ pub record HasForm (s : Statement) (symbols : List Symbol) : Type 0 where
   pub form : IsFormOf s symbols
 
 -- the keys that are written stand for proper ones
-keys_proper : (keys : List WrittenKey) → AllByRecursion IsProperKey keys → AllByRecursion (λ (key : Key). IsProperItem key.item) (map key_of keys)
+keys_proper : (keys : List WrittenKey) → AllByRecursion IsProperKey keys → AllByRecursion (λ (key : Key). IsProperItem key.item) (map sort_key_of keys)
 keys_proper [] all = tt
 keys_proper (key ∷ keys) all = (all.0, keys_proper keys all.1)
 
-keys_written : (keys : List WrittenKey) → AllByRecursion (λ (key : Key). IsProperItem key.item) (map key_of keys) → AllByRecursion IsProperKey keys
+keys_written : (keys : List WrittenKey) → AllByRecursion (λ (key : Key). IsProperItem key.item) (map sort_key_of keys) → AllByRecursion IsProperKey keys
 keys_written [] all = tt
 keys_written (key ∷ keys) all = (all.0, keys_written keys all.1)
 
@@ -324,7 +324,7 @@ select_to : (s : Statement) (front rest : List Symbol) → front ≡ Keyword key
 select_to s front rest e h =
     let keys = h.is_rest.is_rest in
     let limit = keys.is_rest in
-    let order = All-from_recursion (λ (key : Key). IsProperItem key.item) (map key_of keys.first) (keys_proper keys.first keys.is_first.0) in
+    let order = All-from_recursion (λ (key : Key). IsProperItem key.item) (map sort_key_of keys.first) (keys_proper keys.first keys.is_first.0) in
     rw limit.made
     (record {
       proper = (h.is_first.0, record { each_test = h.is_rest.is_first.0; each_key = order; most = limit.form.0 });
@@ -387,7 +387,7 @@ statement_to verb.Watch s front rest e h = watch_to s front rest e h
 abbrev IsBegun : Statement → List Symbol → Type 0
 IsBegun = IsLed Any (λ v. Keyword (verb_keyword v)) BehindVerb
 
-select_from : (asked : Selection) (having : List Test) (order : List Key) (limit : Option ℕ) (keys : List WrittenKey) → order ≡ map key_of keys → IsProperSelection asked → IsProperTop having order limit
+select_from : (asked : Selection) (having : List Test) (order : List Key) (limit : Option ℕ) (keys : List WrittenKey) → order ≡ map sort_key_of keys → IsProperSelection asked → IsProperTop having order limit
     → IsSelect (statement.Select asked.items asked.cube asked.conds asked.group having order limit) (selection_form asked ++ top_form key_form having keys limit)
 select_from asked having order limit keys e p q = record {
   first = asked;

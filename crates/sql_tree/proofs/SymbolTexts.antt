@@ -17,7 +17,7 @@ use Rattle.cube_language.specs.declared.keyword.Keyword.{Keyword as KeywordWord}
 use Rattle.cube_language.specs.declared.keyword.Keyword.TheVariants as keyword
 use Rattle.cube_language.specs.declared.token.TokenKind.{TokenKind}
 use Rattle.cube_language.specs.declared.token.TokenKind.TheVariants as kind
-use Rattle.cube_language.specs.Parts.{Stops}
+use Rattle.cube_language.specs.Parts.{EndsRun}
 use Rattle.cube_language.specs.Printed.{symbol_text}
 use Rattle.cube_language.specs.Quotes.{doubled, quoted}
 use Rattle.cube_language.specs.declared.symbol.Symbol.{Symbol}
@@ -121,7 +121,7 @@ Ends (Number n) rest = AreEnded rest
 Ends (Text text) rest = AreEnded rest
 Ends symbol rest = Unit {0}
 
-stops : (goes_on : ℕ → Bool) → ((byte : ℕ) → is_end byte ≡ true → goes_on byte ≡ false) → (rest : List ℕ) → AreEnded rest → Stops goes_on rest
+stops : (goes_on : ℕ → Bool) → ((byte : ℕ) → is_end byte ≡ true → goes_on byte ≡ false) → (rest : List ℕ) → AreEnded rest → EndsRun goes_on rest
 stops goes_on is [] ended = tt
 stops goes_on is (byte ∷ rest) ended = is byte ended
 

@@ -10,7 +10,7 @@ use Rattle.cube_values.specs.declared.value.Value.TheVariants as value
 use Rattle.cube_values.specs.declared.top_plan.Bound.{Bound}
 use Rattle.cube_values.specs.declared.top_plan.Bound.TheVariants as bound
 use Rattle.cube_language.specs.Columns.{decl_of}
-use Rattle.cube_language.specs.Grammar.{key_of}
+use Rattle.cube_language.specs.Grammar.{sort_key_of}
 use Rattle.cube_language.specs.Names.{is_name}
 use Rattle.cube_language.specs.declared.decl.Column.{Column}
 use Rattle.cube_language.specs.declared.decl.Column.TheVariants as column
@@ -387,7 +387,7 @@ read_select symbols = do
   having ← read_having asked.1
   keys ← read_order having.1
   limit ← read_limit keys.1
-  Ok (statement.Select asked.0.items asked.0.cube asked.0.conds asked.0.group having.0 (map key_of keys.0) limit.0, limit.1)
+  Ok (statement.Select asked.0.items asked.0.cube asked.0.conds asked.0.group having.0 (map sort_key_of keys.0) limit.0, limit.1)
 
 unfoldable pub read_watch : List Symbol → Readout Statement
 read_watch symbols = do

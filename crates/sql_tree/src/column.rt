@@ -6,7 +6,7 @@ ghost use Rattle.sql_tree.specs.Places.{AreIn, IsRest};
 ghost use Rattle.sql_tree.specs.Reading.{Gives, column_behind, kind_in, read_column, read_first};
 
 use crate::head::ColumnHead;
-use crate::part::Part;
+use crate::phrase::Phrase;
 use crate::read::{Miss, name, size};
 use crate::symbol::{column_head_in, kind_in};
 use cube_language::{Column, DimDecl, Token};
@@ -60,7 +60,7 @@ fn headed<'a>(
     }
 }
 
-impl Part for Column {
+impl Phrase for Column {
     ghost reading = { read_column };
 
     #[tactic(auto, unfolding(crate::specs::Reading::read_column))]

@@ -6,7 +6,7 @@ ghost use Rattle.sql_tree.specs.Places.{AreIn, IsRest};
 ghost use Rattle.sql_tree.specs.Reading.{Gives, cond_behind, read_cond, read_where};
 
 use crate::head::{Operator, Sign};
-use crate::part::{Part, enclosed, listed};
+use crate::phrase::{Phrase, enclosed, listed};
 use crate::read::{Miss, after, name, sign, value};
 use crate::symbol::operator_in;
 use cube_language::{Cond, Conds, Keyword, Token};
@@ -65,7 +65,7 @@ fn condition<'a>(
     }
 }
 
-impl Part for Cond {
+impl Phrase for Cond {
     ghost reading = { read_cond };
 
     fn part<'a>(

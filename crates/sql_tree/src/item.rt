@@ -6,14 +6,14 @@ ghost use Rattle.sql_tree.specs.Places.{AreIn, IsRest};
 ghost use Rattle.sql_tree.specs.Reading.{Aggregated, Gives, item_behind, read_aggregate, read_item, read_metric, read_star, read_tuple};
 
 use crate::head::{Aggregate, Sign};
-use crate::part::{Part, enclosed};
+use crate::phrase::{Phrase, enclosed};
 use crate::read::{Miss, name, sign};
 use crate::symbol::aggregate_in;
 use cube_language::{Item, Token};
 use cube_values::{CallError, Text, Values};
 use std::alloc::Global;
 
-impl Part for Values {
+impl Phrase for Values {
     ghost reading = { read_tuple };
 
     #[tactic(auto, unfolding(crate::specs::Reading::read_tuple))]
@@ -129,7 +129,7 @@ pub(crate) fn item<'a>(
     }
 }
 
-impl Part for Item {
+impl Phrase for Item {
     ghost reading = { read_item };
 
     fn part<'a>(

@@ -8,7 +8,7 @@ mod head;
 mod item;
 mod law;
 mod parsing;
-mod part;
+mod phrase;
 mod printing;
 mod put;
 mod quote;

@@ -7,7 +7,7 @@ ghost use Rattle.sql_tree.specs.Reading.{Gives, read_begun, read_by, read_create
 
 use crate::condition::conditions;
 use crate::head::{Selection, Shown, Sign, Verb};
-use crate::part::{enclosed, listed};
+use crate::phrase::{enclosed, listed};
 use crate::read::{Miss, after, count, name, path, sign};
 use crate::symbol::{shown_in, verb_in};
 use crate::top::{having, limit, order};

@@ -7,7 +7,7 @@ ghost use Rattle.sql_tree.specs.Reading.{Gives, bound_behind, read_bound, read_d
 
 use crate::head::{Operator, Sign};
 use crate::item::{aggregate, item};
-use crate::part::{Part, enclosed, listed};
+use crate::phrase::{Phrase, enclosed, listed};
 use crate::read::{Miss, after, count, number, sign};
 use crate::symbol::{direction_in, operator_in};
 use cube_language::{Direction, Keyword, Test, Tests, Token, WrittenKey, WrittenKeys};
@@ -59,7 +59,7 @@ fn bound<'a>(alloc: Global, text: &str, tokens: &'a [Token]) -> Result<(Bound, &
     }
 }
 
-impl Part for Test {
+impl Phrase for Test {
     ghost reading = { read_test };
 
     #[tactic(auto, unfolding(crate::specs::Reading::read_test))]
@@ -107,7 +107,7 @@ fn direction<'a>(text: &str, tokens: &'a [Token]) -> (Direction, &'a [Token])
     }
 }
 
-impl Part for WrittenKey {
+impl Phrase for WrittenKey {
     ghost reading = { read_key };
 
     #[tactic(auto, unfolding(crate::specs::Reading::read_key))]

@@ -2,7 +2,7 @@
 
 ghost use Rattle.std.specs.Prelude.{◌≡◌, map, IfOk};
 ghost use Rattle.cube_language.specs.Columns.{decl_of};
-ghost use Rattle.cube_language.specs.Grammar.{is_desc, key_of};
+ghost use Rattle.cube_language.specs.Grammar.{is_desc, sort_key_of};
 
 use cube_language::{
     Column, Columns, Decl, DimDecls, Direction, Key, Keys, Names, WrittenKey, WrittenKeys,
@@ -21,8 +21,8 @@ fn is_desc(direction: Direction) -> bool
 }
 
 /// The key that is written.
-fn key_of(written: WrittenKey) -> Key
-    ensures { result ≡ key_of written }
+fn sort_key_of(written: WrittenKey) -> Key
+    ensures { result ≡ sort_key_of written }
 {
     Key {
         item: written.item,
@@ -32,11 +32,11 @@ fn key_of(written: WrittenKey) -> Key
 
 /// The keys that are written.
 pub(crate) fn keys_of(alloc: Global, written: WrittenKeys) -> Result<Keys, AllocError>
-    ensures { IfOk result (λ keys. keys ≡ map key_of written) }
+    ensures { IfOk result (λ keys. keys ≡ map sort_key_of written) }
 {
     let mut keys = Keys::new(alloc);
     'keys: for key in written.into_vec() {
-        keys.push(key_of(key))?;
+        keys.push(sort_key_of(key))?;
     }
     Ok(keys)
 }

@@ -5,22 +5,22 @@ use Rattle.std.proofs.lemmas.Bool.{and_from, and_parts, both_ways, cases_Bool}
 use Rattle.std.proofs.lemmas.Bool.Decides.{nat_tests}
 use Rattle.std.proofs.lemmas.List.{length-append, length-drop, take-append-drop}
 use Rattle.std.proofs.lemmas.List.Folds.{list_all-append}
-use Rattle.cube_language.specs.Parts.{is_space, Part, part_bytes, IsPart, AreParts, is_blank, IsGap}
+use Rattle.cube_language.specs.Parts.{is_space, ScriptPart, part_bytes, IsPart, AreParts, is_blank, IsGap}
 use Rattle.sql_words.specs.Fronts.{begins_comment, begins_gap, part_len, IsBehindGap}
 use Rattle.sql_words.proofs.PartFronts.{part_of, part_stands, part_is, part_some, parts_agree}
 
 -- the bytes are parts that pass a test, and then the rest
-pub record ArePassing (test : Part → Bool) (bytes rest : List ℕ) : Type 0 where
-  pub parts : List Part
+pub record ArePassing (test : ScriptPart → Bool) (bytes rest : List ℕ) : Type 0 where
+  pub parts : List ScriptPart
   pub pass : list_all test parts ≡ true
   pub are : AreParts bytes parts rest
   pub within : length rest ≤ length bytes
 
-pub parts_append : (ps qs : List Part) (xs ys zs : List ℕ) → AreParts xs ps ys → AreParts ys qs zs → AreParts xs (ps ++ qs) zs
+pub parts_append : (ps qs : List ScriptPart) (xs ys zs : List ℕ) → AreParts xs ps ys → AreParts ys qs zs → AreParts xs (ps ++ qs) zs
 parts_append [] qs xs ys zs a b = subst (λ (bytes : List ℕ). AreParts bytes qs zs) (sym a) b
 parts_append (p ∷ ps) qs xs ys zs a b = (a.0, a.1, a.2, parts_append ps qs a.0 ys zs a.3 b)
 
-pub parts_flat : (ps : List Part) (xs ys : List ℕ) → AreParts xs ps ys → xs ≡ flat_map part_bytes ps ++ ys
+pub parts_flat : (ps : List ScriptPart) (xs ys : List ℕ) → AreParts xs ps ys → xs ≡ flat_map part_bytes ps ++ ys
 parts_flat [] xs ys h = h
 parts_flat (p ∷ ps) xs ys h = h.1 ∙ ap (λ bytes. part_bytes p ++ bytes) (parts_flat ps h.0 ys h.3) ∙ sym (append_assoc (part_bytes p) (flat_map part_bytes ps) ys)
 
@@ -34,10 +34,10 @@ one_part b bytes =
 pub shorter : (b : ℕ) (rest : List ℕ) → length (drop (part_len (b ∷ rest)) (b ∷ rest)) < length (b ∷ rest)
 shorter b rest = omega (arith, (part_stands b rest).some, length-drop (part_len (b ∷ rest)) (b ∷ rest))
 
-pub passing_none : (test : Part → Bool) (bytes : List ℕ) → ArePassing test bytes bytes
+pub passing_none : (test : ScriptPart → Bool) (bytes : List ℕ) → ArePassing test bytes bytes
 passing_none test bytes = record { parts = []; pass = refl; are = refl; within = omega arith }
 
-pub passing_more : (test : Part → Bool) (bytes : List ℕ) (b : ℕ) (rest : List ℕ) → test (part_of b rest) ≡ true → ArePassing test bytes (b ∷ rest) → ArePassing test bytes (drop (part_len (b ∷ rest)) (b ∷ rest))
+pub passing_more : (test : ScriptPart → Bool) (bytes : List ℕ) (b : ℕ) (rest : List ℕ) → test (part_of b rest) ≡ true → ArePassing test bytes (b ∷ rest) → ArePassing test bytes (drop (part_len (b ∷ rest)) (b ∷ rest))
 passing_more test bytes b rest passes h = record {
   parts = h.parts ++ part_of b rest ∷ [];
   pass = list_all-append test h.parts (part_of b rest ∷ []) ∙ and_from _ _ h.pass (and_from _ _ passes refl);
@@ -77,20 +77,20 @@ pub gap_all : (bytes rest : List ℕ) → begins_gap rest ≡ false → ArePassi
 gap_all bytes rest ends h = record { parts = h.parts; blank = h.pass; are = h.are; stops = ends }
 
 -- in the words of tokens
-pub gap_is : (ps : List Part) (bytes rest : List ℕ) → list_all is_blank ps ≡ true → AreParts bytes ps rest → IsGap (flat_map part_bytes ps) rest
+pub gap_is : (ps : List ScriptPart) (bytes rest : List ℕ) → list_all is_blank ps ≡ true → AreParts bytes ps rest → IsGap (flat_map part_bytes ps) rest
 gap_is ps bytes rest blank are = (ps, blank, refl, subst (λ (xs : List ℕ). AreParts xs ps rest) (parts_flat ps bytes rest are) are)
 
 -- bytes begin with a gap where their first part is blank
-pub begins_like : (p : Part) (rest bytes : List ℕ) → IsPart p rest → bytes ≡ part_bytes p ++ rest → begins_gap bytes ≡ is_blank p
+pub begins_like : (p : ScriptPart) (rest bytes : List ℕ) → IsPart p rest → bytes ≡ part_bytes p ++ rest → begins_gap bytes ≡ is_blank p
 begins_like p rest [] part e = absurd (omega (arith, part_some p rest part, length-append (part_bytes p) rest, ap length e))
 begins_like p rest (b ∷ bytes) part e = sym (blank_is b bytes) ∙ ap is_blank (sym (part_is p rest b bytes part (sym e)))
 
-no_more_blank : (p : Part) (ps : List Part) (bytes rest end : List ℕ) → list_all is_blank (p ∷ ps) ≡ true → AreParts bytes (p ∷ ps) rest → bytes ≡ end → begins_gap end ≡ false → ⊥
+no_more_blank : (p : ScriptPart) (ps : List ScriptPart) (bytes rest end : List ℕ) → list_all is_blank (p ∷ ps) ≡ true → AreParts bytes (p ∷ ps) rest → bytes ≡ end → begins_gap end ≡ false → ⊥
 no_more_blank p ps bytes rest end blank are e stops =
     both_ways (begins_gap bytes) (ap begins_gap e ∙ stops) (begins_like p are.0 bytes are.2 are.1 ∙ (and_parts (is_blank p) (list_all is_blank ps) blank).0)
 
 -- a gap has one end
-pub gaps_agree : (ps qs : List Part) (bytes r s : List ℕ) → list_all is_blank ps ≡ true → list_all is_blank qs ≡ true → AreParts bytes ps r → AreParts bytes qs s → begins_gap r ≡ false → begins_gap s ≡ false → r ≡ s
+pub gaps_agree : (ps qs : List ScriptPart) (bytes r s : List ℕ) → list_all is_blank ps ≡ true → list_all is_blank qs ≡ true → AreParts bytes ps r → AreParts bytes qs s → begins_gap r ≡ false → begins_gap s ≡ false → r ≡ s
 gaps_agree [] [] bytes r s pb qb a b re se = sym a ∙ b
 gaps_agree [] (q ∷ qs) bytes r s pb qb a b re se = absurd (no_more_blank q qs bytes s r qb b a re)
 gaps_agree (p ∷ ps) [] bytes r s pb qb a b re se = absurd (no_more_blank p ps bytes r s pb a b se)

@@ -10,7 +10,7 @@ use Rattle.std.proofs.lemmas.List.{take_at, drop_at}
 use Rattle.cube_language.specs.Names.{begins_name, continues_name, is_word}
 use Rattle.cube_language.specs.declared.token.TokenKind.{TokenKind}
 use Rattle.cube_language.specs.declared.token.TokenKind.TheVariants.{Word, Number, Text, Open, Close, Comma, Equals, Star}
-use Rattle.cube_language.specs.Parts.{is_space, Stops}
+use Rattle.cube_language.specs.Parts.{is_space, EndsRun}
 use Rattle.cube_language.specs.Quotes.{doubled, quoted}
 use Rattle.cube_language.specs.Tokens.{is_digits, IsNumberBefore, IsToken}
 use Rattle.sql_words.specs.Fronts.{begins_gap, begins_word, begins_text, begins_number, begins_mark, number_len}
@@ -30,11 +30,11 @@ end_more : (b : ℕ) (bytes : List ℕ) → eqb b 39 ≡ false → text_end (b �
 end_more b [] other = rw other refl
 end_more b (c ∷ bytes) other = rw other refl
 
-end_here : (bytes : List ℕ) → Stops (λ byte. eqb byte 39) bytes → text_end (39 ∷ bytes) ≡ Some 1
+end_here : (bytes : List ℕ) → EndsRun (λ byte. eqb byte 39) bytes → text_end (39 ∷ bytes) ≡ Some 1
 end_here [] stops = refl
 end_here (b ∷ bytes) stops = let other : eqb b 39 ≡ false = stops in rw other refl
 
-text_closed : (text rest : List ℕ) → Stops (λ byte. eqb byte 39) rest → text_end (doubled text ++ 39 ∷ rest) ≡ Some (length (doubled text ++ 39 ∷ []))
+text_closed : (text rest : List ℕ) → EndsRun (λ byte. eqb byte 39) rest → text_end (doubled text ++ 39 ∷ rest) ≡ Some (length (doubled text ++ 39 ∷ []))
 text_closed [] rest stops = end_here rest stops
 text_closed (x ∷ text) rest stops =
     let more = text_closed text rest stops in
@@ -72,7 +72,7 @@ pub record IsOne (bytes : List ℕ) (kind : TokenKind) (n : ℕ) : Type 0 where
 pub no_gap_at : (b : ℕ) (bytes : List ℕ) → is_space b ≡ false → eqb b 45 ≡ false → begins_gap (b ∷ bytes) ≡ false
 no_gap_at b bytes no_space no_dash = rw (no_space, no_comment b bytes no_dash) refl
 
-word_is : (token rest : List ℕ) → is_word token ≡ true → Stops continues_name rest → IsOne (token ++ rest) Word (length token)
+word_is : (token rest : List ℕ) → is_word token ≡ true → EndsRun continues_name rest → IsOne (token ++ rest) Word (length token)
 word_is [] rest word stops = absurd cc
 word_is (b ∷ token) rest word stops =
     let both = and_parts (begins_name b) (list_all continues_name token) word in
@@ -84,7 +84,7 @@ word_is (b ∷ token) rest word stops =
       is = rw name refl;
     }
 
-text_is : (text rest : List ℕ) → Stops (λ byte. eqb byte 39) rest → IsOne (quoted text ++ rest) Text (length (quoted text))
+text_is : (text rest : List ℕ) → EndsRun (λ byte. eqb byte 39) rest → IsOne (quoted text ++ rest) Text (length (quoted text))
 text_is text rest stops = record {
   starts = no_gap_at 39 ((doubled text ++ 39 ∷ []) ++ rest) refl refl;
   long = rw (append_assoc (doubled text) (39 ∷ []) rest, text_closed text rest stops) (ap Some (omega arith));
@@ -95,7 +95,7 @@ number_kind : (n : ℤ) (token rest : List ℕ) → begins_word (token ++ rest) 
     → Number n ≡ kind_at (token ++ rest) (length token)
 number_kind n token rest no_word no_text number value = rw (no_word, no_text, number, take_at token rest (length token) refl) (ap Number (sym value))
 
-minus_is : (n : ℤ) (token rest : List ℕ) → is_digits token ≡ true → Stops is_ascii_digit rest → signed_digits_value 10 (45 ∷ token) ≡ n → IsOne (45 ∷ (token ++ rest)) (Number n) (length (45 ∷ token))
+minus_is : (n : ℤ) (token rest : List ℕ) → is_digits token ≡ true → EndsRun is_ascii_digit rest → signed_digits_value 10 (45 ∷ token) ≡ n → IsOne (45 ∷ (token ++ rest)) (Number n) (length (45 ∷ token))
 minus_is n [] rest digits stops value = absurd cc
 minus_is n (b ∷ token) rest digits stops value =
     let both = digits_parts b token digits in
@@ -107,7 +107,7 @@ minus_is n (b ∷ token) rest digits stops value =
       is = number_kind n (45 ∷ b ∷ token) rest refl refl digit value;
     }
 
-plain_is : (n : ℤ) (b : ℕ) (token rest : List ℕ) → is_digits (b ∷ token) ≡ true → Stops is_ascii_digit rest → signed_digits_value 10 (b ∷ token) ≡ n → IsOne (b ∷ (token ++ rest)) (Number n) (length (b ∷ token))
+plain_is : (n : ℤ) (b : ℕ) (token rest : List ℕ) → is_digits (b ∷ token) ≡ true → EndsRun is_ascii_digit rest → signed_digits_value 10 (b ∷ token) ≡ n → IsOne (b ∷ (token ++ rest)) (Number n) (length (b ∷ token))
 plain_is n b token rest digits stops value =
     let both = digits_parts b token digits in
     let digit : is_ascii_digit b ≡ true = both.0 in

@@ -4,7 +4,7 @@ use Rattle.std.proofs.lemmas.Bool.{cases_Bool, eqb-true}
 use Rattle.std.proofs.lemmas.List.{append-nil, length-append}
 use Rattle.std.proofs.lemmas.List.Concat.{flat_map-append}
 use Rattle.cube_language.specs.declared.token.TokenKind.TheVariants.{Text}
-use Rattle.cube_language.specs.Parts.{Stops}
+use Rattle.cube_language.specs.Parts.{EndsRun}
 use Rattle.cube_language.specs.Quotes.{doubled, opened, quoted}
 use Rattle.sql_words.specs.Fronts.{begins_text, letter_len, IsFront}
 use Rattle.sql_words.proofs.TokenFronts.{front_from}
@@ -51,11 +51,11 @@ pub open_all : (bytes rest : List ℕ) → length rest ≡ 0 → IsOpen bytes re
 open_all bytes [] none h = (h.text, h.whole ∙ append-nil (opened h.text))
 open_all bytes (b ∷ rest) none h = absurd (omega arith)
 
-stops_at : (rest : List ℕ) → begins_text rest ≡ false → Stops (λ byte. eqb byte 39) rest
+stops_at : (rest : List ℕ) → begins_text rest ≡ false → EndsRun (λ byte. eqb byte 39) rest
 stops_at [] none = tt
 stops_at (b ∷ rest) none = none
 
-closing : (rest : List ℕ) → 0 < length rest → letter_len rest ≡ 0 → (behind : List ℕ) × (rest ≡ 39 ∷ behind) × Stops (λ byte. eqb byte 39) behind
+closing : (rest : List ℕ) → 0 < length rest → letter_len rest ≡ 0 → (behind : List ℕ) × (rest ≡ 39 ∷ behind) × EndsRun (λ byte. eqb byte 39) behind
 closing [] some none = absurd (omega arith)
 closing (b ∷ rest) some none =
     elim (cases_Bool (eqb b 39)) [

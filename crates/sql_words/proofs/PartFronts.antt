@@ -4,7 +4,7 @@ use Rattle.std.specs.List.{list_all, prefix_len}
 use Rattle.std.proofs.lemmas.Bool.{and_from, and_parts, cases_Bool, eqb-true, eqb-false, ne_eqb}
 use Rattle.std.proofs.lemmas.Bool.Decides.{nat_tests}
 use Rattle.std.proofs.lemmas.List.{append-nil, append_cancel_left, length-append, take_at}
-use Rattle.cube_language.specs.Parts.{Stops, stays_on_line, is_no_quote, Part, Comment, Quoted, Other, part_bytes, IsPart}
+use Rattle.cube_language.specs.Parts.{EndsRun, stays_on_line, is_no_quote, ScriptPart, Comment, Quoted, Other, part_bytes, IsPart}
 use Rattle.sql_words.specs.Fronts.{begins_comment, quoted_len, part_len}
 use Rattle.sql_words.proofs.Prefixes.{prefix_is, prefix_passes, prefix_stops, prefix_within, front_one, rest_one}
 
@@ -46,12 +46,12 @@ inner_stands (b ∷ bytes) =
     ]
 
 -- the part at the front of a byte and those behind it
-abbrev pub part_of : ℕ → List ℕ → Part
+abbrev pub part_of : ℕ → List ℕ → ScriptPart
 part_of byte bytes =
     cond (eqb byte 39) (Quoted (byte ∷ take (quoted_len bytes) bytes)) (cond (begins_comment (byte ∷ bytes)) (Comment (take (prefix_len stays_on_line (byte ∷ bytes)) (byte ∷ bytes))) (Other byte))
 
 -- a part stands at the front and has so many bytes
-pub record IsFrontPart (bytes : List ℕ) (n : ℕ) (p : Part) : Type 0 where
+pub record IsFrontPart (bytes : List ℕ) (n : ℕ) (p : ScriptPart) : Type 0 where
   pub some : 0 < n
   pub within : n ≤ length bytes
   pub taken : take n bytes ≡ part_bytes p
@@ -96,7 +96,7 @@ comment_stands b (c ∷ bytes) h =
     } in
     rw (are.0, are.1) two
 
-no_dash : (b : ℕ) (bytes : List ℕ) → begins_comment (b ∷ bytes) ≡ false → b ≡ 45 → Stops (λ next. eqb next 45) bytes
+no_dash : (b : ℕ) (bytes : List ℕ) → begins_comment (b ∷ bytes) ≡ false → b ≡ 45 → EndsRun (λ next. eqb next 45) bytes
 no_dash b [] h dash = tt
 no_dash b (c ∷ bytes) h dash = grind (arith, nat_tests)
 
@@ -120,7 +120,7 @@ part_stands b bytes =
 
 -- ---- and only one
 
-comment_is : (line rest : List ℕ) → list_all stays_on_line line ≡ true → Stops stays_on_line rest → Comment (45 ∷ 45 ∷ line) ≡ part_of 45 (45 ∷ (line ++ rest))
+comment_is : (line rest : List ℕ) → list_all stays_on_line line ≡ true → EndsRun stays_on_line rest → Comment (45 ∷ 45 ∷ line) ≡ part_of 45 (45 ∷ (line ++ rest))
 comment_is line rest all stops =
     let long : prefix_len stays_on_line (45 ∷ 45 ∷ (line ++ rest)) ≡ suc (suc (length line)) = omega (arith, prefix_is stays_on_line line rest all stops) in
     ap Comment (sym (ap (λ n. take n (45 ∷ 45 ∷ (line ++ rest))) long ∙ ap (λ (xs : List ℕ). 45 ∷ 45 ∷ xs) (take_at line rest (length line) refl)))
@@ -137,7 +137,7 @@ inner_all (b ∷ inner) all =
     let both = and_parts (is_no_quote b) (list_all is_no_quote inner) all in
     ap (λ n. take n (b ∷ inner)) (quoted_more b inner both.0) ∙ ap (λ (xs : List ℕ). b ∷ xs) (inner_all inner both.1)
 
-dashed : (b : ℕ) (rest : List ℕ) → (b ≡ 45 → Stops (λ next. eqb next 45) rest) → begins_comment (b ∷ rest) ≡ false
+dashed : (b : ℕ) (rest : List ℕ) → (b ≡ 45 → EndsRun (λ next. eqb next 45) rest) → begins_comment (b ∷ rest) ≡ false
 dashed b [] stops = refl
 dashed b (c ∷ rest) stops =
     elim (cases_Bool (eqb b 45)) [
@@ -145,13 +145,13 @@ dashed b (c ∷ rest) stops =
       | inr other ↦ rw other refl
     ]
 
-other_is : (b : ℕ) (rest : List ℕ) → b ≢ 39 → (b ≡ 45 → Stops (λ next. eqb next 45) rest) → Other b ≡ part_of b rest
+other_is : (b : ℕ) (rest : List ℕ) → b ≢ 39 → (b ≡ 45 → EndsRun (λ next. eqb next 45) rest) → Other b ≡ part_of b rest
 other_is b rest no_quote stops =
     let quote : eqb b 39 ≡ false = ne_eqb b 39 no_quote in
     rw (quote, dashed b rest stops) refl
 
 -- a part is the one that the bytes from it on begin with
-pub part_is : (p : Part) (rest : List ℕ) (b : ℕ) (bytes : List ℕ) → IsPart p rest → part_bytes p ++ rest ≡ b ∷ bytes → p ≡ part_of b bytes
+pub part_is : (p : ScriptPart) (rest : List ℕ) (b : ℕ) (bytes : List ℕ) → IsPart p rest → part_bytes p ++ rest ≡ b ∷ bytes → p ≡ part_of b bytes
 part_is (Comment taken) rest b bytes h e =
     let line = h.0 in
     let whole : 45 ∷ 45 ∷ (line ++ rest) ≡ b ∷ bytes = sym (ap (λ (xs : List ℕ). xs ++ rest) h.1) ∙ e in
@@ -178,13 +178,13 @@ part_is (Other byte) rest b bytes h e =
     other_is byte rest h.0 h.1 ∙ (λ i. part_of (heads i) (tails i))
 
 -- a part has some byte
-pub part_some : (p : Part) (rest : List ℕ) → IsPart p rest → 0 < length (part_bytes p)
+pub part_some : (p : ScriptPart) (rest : List ℕ) → IsPart p rest → 0 < length (part_bytes p)
 part_some (Comment taken) rest h = rw h.1 (omega arith)
 part_some (Quoted taken) rest h = elim h.2 [ inl closed ↦ rw closed (omega arith) | inr ends ↦ rw ends.0 (omega arith) ]
 part_some (Other byte) rest h = omega arith
 
 -- two parts at the front of the same bytes are one
-pub parts_agree : (p q : Part) (r s : List ℕ) → IsPart p r → IsPart q s → part_bytes p ++ r ≡ part_bytes q ++ s → (p ≡ q) × (r ≡ s)
+pub parts_agree : (p q : ScriptPart) (r s : List ℕ) → IsPart p r → IsPart q s → part_bytes p ++ r ≡ part_bytes q ++ s → (p ≡ q) × (r ≡ s)
 parts_agree p q r s a b e = agree (part_bytes q ++ s) refl where
   agree : (bytes : List ℕ) → part_bytes q ++ s ≡ bytes → (p ≡ q) × (r ≡ s)
   agree [] none = absurd (omega (arith, part_some q s b, length-append (part_bytes q) s, ap length none))

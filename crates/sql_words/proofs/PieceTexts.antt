@@ -9,7 +9,7 @@ use Rattle.std.proofs.lemmas.List.{drop-drop, drop_all, drop_at, get_or-drop, le
 use Rattle.std.proofs.lemmas.List.Elements.{All-nil, All-cons, All-append}
 use Rattle.std.proofs.lemmas.Str.{IsUtf8-between, IsCharBoundary-start, IsCharBoundary-end, IsCharBoundary-before_ascii, IsCharBoundary-after_ascii}
 use Rattle.cube_language.specs.declared.piece.Piece.{Piece}
-use Rattle.cube_language.specs.Parts.{Part, Comment, Quoted, Other, part_bytes, is_space, stays_on_line, Stops, AreParts, is_blank}
+use Rattle.cube_language.specs.Parts.{ScriptPart, Comment, Quoted, Other, part_bytes, is_space, stays_on_line, EndsRun, AreParts, is_blank}
 use Rattle.sql_words.specs.Fronts.{goes_on, IsBehindGap, IsBehindBody}
 use Rattle.sql_words.specs.Texts.{IsTextAt}
 use Rattle.sql_words.proofs.Gaps.{parts_flat}
@@ -75,11 +75,11 @@ module _ (script : List ℕ) (utf8 : IsUtf8 script) where
   space_is_ascii b h = grind (arith, nat_tests)
 
   -- a comment ends before LF, or with the script
-  behind_comment : (rest front behind : List ℕ) → IsLeft script rest → rest ≡ front ++ behind → Stops stays_on_line behind → IsLeft script behind
+  behind_comment : (rest front behind : List ℕ) → IsLeft script rest → rest ≡ front ++ behind → EndsRun stays_on_line behind → IsLeft script behind
   behind_comment rest front [] left e stops = at_end
   behind_comment rest front (b ∷ behind) left e stops = before_ascii b behind (omega (arith, ends_line b stops)) (shorter_behind rest front (b ∷ behind) left e) (left_behind rest front (b ∷ behind) left e)
 
-  behind_gap : (parts : List Part) (rest body : List ℕ) → list_all is_blank parts ≡ true → AreParts rest parts body → IsLeft script rest → IsLeft script body
+  behind_gap : (parts : List ScriptPart) (rest body : List ℕ) → list_all is_blank parts ≡ true → AreParts rest parts body → IsLeft script rest → IsLeft script body
   behind_gap [] rest body blank are left = subst (IsLeft script) are left
   behind_gap (Comment bytes ∷ parts) rest body blank are left = behind_gap parts are.0 body blank are.3 (behind_comment rest bytes are.0 left are.1 are.2.3)
   behind_gap (Quoted bytes ∷ parts) rest body blank are left = absurd cc

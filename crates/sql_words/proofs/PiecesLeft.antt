@@ -11,42 +11,42 @@ use Rattle.std.proofs.lemmas.List.Folds.{list_all-append}
 use Rattle.std.proofs.lemmas.List.Splits.{slice_split_at, slice_split_none}
 use Rattle.std.proofs.lemmas.List.Sums.{AllPass-from_list_all, sum_by-append, take_while-cons}
 use Rattle.cube_language.specs.declared.piece.Piece.{Piece}
-use Rattle.cube_language.specs.Parts.{Part, Comment, Quoted, Other, part_bytes, AreParts, is_blank}
+use Rattle.cube_language.specs.Parts.{ScriptPart, Comment, Quoted, Other, part_bytes, AreParts, is_blank}
 use Rattle.cube_language.specs.Pieces.{is_end, bytes_in, piece_at, pieces_from, Splits, statements_limit}
 use Rattle.sql_words.specs.Fronts.{begins_gap, part_len, goes_on, is_inside, IsBehindGap, IsBehindBody}
 use Rattle.sql_words.proofs.PartFronts.{part_of, part_some}
 use Rattle.sql_words.proofs.Gaps.{parts_append, parts_flat, one_part, shorter, begins_like}
 
 -- how many bytes parts have
-bytes_are : (ps : List Part) (bytes rest : List ℕ) → AreParts bytes ps rest → length bytes ≡ bytes_in ps + length rest
+bytes_are : (ps : List ScriptPart) (bytes rest : List ℕ) → AreParts bytes ps rest → length bytes ≡ bytes_in ps + length rest
 bytes_are ps bytes rest are = ap length (parts_flat ps bytes rest are) ∙ length-append (flat_map part_bytes ps) rest ∙ ap (λ n. n + length rest) (length-flat_map part_bytes ps)
 
 -- ---- a gap, and the text of a statement behind it
 
-blank_is_inside : (p : Part) → is_blank p ≡ true → is_end p ≡ false
+blank_is_inside : (p : ScriptPart) → is_blank p ≡ true → is_end p ≡ false
 blank_is_inside (Comment bytes) blank = refl
 blank_is_inside (Quoted bytes) blank = refl
 blank_is_inside (Other byte) blank = grind (arith, nat_tests)
 
-none_ends : (gap body : List Part) → list_all is_blank gap ≡ true → list_all is_inside body ≡ true → All (λ p. is_end p ≡ false) (gap ++ body)
+none_ends : (gap body : List ScriptPart) → list_all is_blank gap ≡ true → list_all is_inside body ≡ true → All (λ p. is_end p ≡ false) (gap ++ body)
 none_ends gap body blank inside =
     All-append (λ p. is_end p ≡ false) gap body (All-weaker (λ p. is_blank p ≡ true) (λ p. is_end p ≡ false) blank_is_inside gap (AllPass-from_list_all is_blank gap blank))
     (All-weaker (λ p. is_inside p ≡ true) (λ p. is_end p ≡ false) (λ p h. not-true (is_end p) h) body (AllPass-from_list_all is_inside body inside))
 
 -- what one list of parts between two ends gives
-abbrev pub one_piece : ℕ → List Part → List Piece
+abbrev pub one_piece : ℕ → List ScriptPart → List Piece
 one_piece place parts = cond (list_all is_blank parts) [] (piece_at place parts ∷ [])
 
-nothing_there : (place : ℕ) (gap : List Part) → list_all is_blank gap ≡ true → one_piece place (gap ++ []) ≡ []
+nothing_there : (place : ℕ) (gap : List ScriptPart) → list_all is_blank gap ≡ true → one_piece place (gap ++ []) ≡ []
 nothing_there place gap blank = let all : list_all is_blank (gap ++ []) ≡ true = ap (list_all is_blank) (append-nil gap) ∙ blank in rw all refl
 
-gap_taken : (gap : List Part) (p : Part) (body : List Part) → list_all is_blank gap ≡ true → is_blank p ≡ false → take_while is_blank (gap ++ p ∷ body) ≡ gap
+gap_taken : (gap : List ScriptPart) (p : ScriptPart) (body : List ScriptPart) → list_all is_blank gap ≡ true → is_blank p ≡ false → take_while is_blank (gap ++ p ∷ body) ≡ gap
 gap_taken [] p body blank first = take_while-cons is_blank p body ∙ cond-false (is_blank p) _ _ first
 gap_taken (q ∷ gap) p body blank first =
     let both = and_parts (is_blank q) (list_all is_blank gap) blank in
-    take_while-cons is_blank q (gap ++ p ∷ body) ∙ cond-true (is_blank q) _ _ both.0 ∙ ap (λ (ps : List Part). q ∷ ps) (gap_taken gap p body both.1 first)
+    take_while-cons is_blank q (gap ++ p ∷ body) ∙ cond-true (is_blank q) _ _ both.0 ∙ ap (λ (ps : List ScriptPart). q ∷ ps) (gap_taken gap p body both.1 first)
 
-piece_there : (place : ℕ) (gap : List Part) (p : Part) (body : List Part) → list_all is_blank gap ≡ true → is_blank p ≡ false
+piece_there : (place : ℕ) (gap : List ScriptPart) (p : ScriptPart) (body : List ScriptPart) → list_all is_blank gap ≡ true → is_blank p ≡ false
     → one_piece place (gap ++ p ∷ body) ≡ record { start = place + bytes_in gap; end = place + (bytes_in gap + bytes_in (p ∷ body)) } ∷ []
 piece_there place gap p body blank first =
     let some : list_all is_blank (gap ++ p ∷ body) ≡ false = list_all-append is_blank gap (p ∷ body) ∙ and_right (list_all is_blank gap) _ (ap (λ b. b && list_all is_blank body) first) in
@@ -55,7 +55,7 @@ piece_there place gap p body blank first =
 
 -- ---- one step: up to the end of the first statement and past it
 
-pub no_parts : (ps : List Part) → AreParts [] ps [] → ps ≡ []
+pub no_parts : (ps : List ScriptPart) → AreParts [] ps [] → ps ≡ []
 no_parts [] are = refl
 no_parts (p ∷ ps) are = absurd (omega (arith, part_some p are.0 are.2, length-append (part_bytes p) are.0, ap length are.1))
 
@@ -65,15 +65,15 @@ ends_at b rest stops = grind (arith, nat_tests)
 -- what the parts behind a step give, with what the step gives, is what all parts give
 record IsStep (at : ℕ) (bytes : List ℕ) (found : List Piece) (rest : List ℕ) : Type 0 where
   within : length rest ≤ length bytes
-  so_far : (parts : List Part) → AreParts rest parts []
-      → (all : List Part) × (AreParts bytes all [] × (pieces_from at (slice_split is_end all) ≡ found ++ pieces_from (at + (length bytes - length rest)) (slice_split is_end parts)))
+  so_far : (parts : List ScriptPart) → AreParts rest parts []
+      → (all : List ScriptPart) × (AreParts bytes all [] × (pieces_from at (slice_split is_end all) ≡ found ++ pieces_from (at + (length bytes - length rest)) (slice_split is_end parts)))
 
-step_is : (at : ℕ) (ps : List Part) (bytes end : List ℕ) → All (λ p. is_end p ≡ false) ps → AreParts bytes ps end → goes_on end ≡ false → IsStep at bytes (one_piece at ps) (drop 1 end)
+step_is : (at : ℕ) (ps : List ScriptPart) (bytes end : List ℕ) → All (λ p. is_end p ≡ false) ps → AreParts bytes ps end → goes_on end ≡ false → IsStep at bytes (one_piece at ps) (drop 1 end)
 step_is at ps bytes [] none are stops = record {
   within = omega arith;
   so_far = λ parts left.
       let last : one_piece at ps ++ [] ≡ one_piece at ps ++ pieces_from (at + (length bytes - 0)) (slice_split is_end parts) =
-      ap (λ (qs : List Part). one_piece at ps ++ pieces_from (at + (length bytes - 0)) (slice_split is_end qs)) (sym (no_parts parts left)) in
+      ap (λ (qs : List ScriptPart). one_piece at ps ++ pieces_from (at + (length bytes - 0)) (slice_split is_end qs)) (sym (no_parts parts left)) in
       (ps, (are, ap (pieces_from at) (slice_split_none is_end ps none) ∙ last));
 }
 step_is at ps bytes (b ∷ rest) none are stops =
@@ -88,12 +88,12 @@ step_is at ps bytes (b ∷ rest) none are stops =
           (ps ++ Other b ∷ parts, (parts_append ps (Other b ∷ parts) bytes (b ∷ rest) [] are semicolon, ap (pieces_from at) (slice_split_at is_end ps (Other b) parts none ends) ∙ ap (λ n. one_piece at ps ++ pieces_from n (slice_split is_end parts)) places));
     }
 
-found_none : (at : ℕ) (gap body : List Part) (bytes rest : List ℕ) → list_all is_blank gap ≡ true → AreParts bytes body rest → length bytes ≤ length rest → one_piece at (gap ++ body) ≡ []
+found_none : (at : ℕ) (gap body : List ScriptPart) (bytes rest : List ℕ) → list_all is_blank gap ≡ true → AreParts bytes body rest → length bytes ≤ length rest → one_piece at (gap ++ body) ≡ []
 found_none at gap [] bytes rest blank are none = nothing_there at gap blank
 found_none at gap (p ∷ body) bytes rest blank are none =
     absurd (omega (arith, bytes_are body are.0 rest are.3, part_some p are.0 are.2, ap length are.1, length-append (part_bytes p) are.0))
 
-found_some : (at : ℕ) (gap body : List Part) (bytes from rest : List ℕ) → list_all is_blank gap ≡ true → AreParts bytes gap from → AreParts from body rest → begins_gap from ≡ false → length rest < length from
+found_some : (at : ℕ) (gap body : List ScriptPart) (bytes from rest : List ℕ) → list_all is_blank gap ≡ true → AreParts bytes gap from → AreParts from body rest → begins_gap from ≡ false → length rest < length from
     → one_piece at (gap ++ body) ≡ record { start = at + (length bytes - length from); end = at + (length bytes - length rest) } ∷ []
 found_some at gap [] bytes from rest blank are inside stops some = absurd (omega (arith, ap length inside))
 found_some at gap (p ∷ body) bytes from rest blank are inside stops some =
@@ -108,8 +108,8 @@ found_some at gap (p ∷ body) bytes from rest blank are inside stops some =
 
 pub record AreSplit (script : List ℕ) (front : List Piece) (rest : List ℕ) : Type 0 where
   pub within : length rest ≤ length script
-  pub so_far : (parts : List Part) → AreParts rest parts []
-      → (all : List Part) × (AreParts script all [] × (pieces_from 0 (slice_split is_end all) ≡ front ++ pieces_from (length script - length rest) (slice_split is_end parts)))
+  pub so_far : (parts : List ScriptPart) → AreParts rest parts []
+      → (all : List ScriptPart) × (AreParts script all [] × (pieces_from 0 (slice_split is_end all) ≡ front ++ pieces_from (length script - length rest) (slice_split is_end parts)))
 
 pub split_none : (script : List ℕ) → AreSplit script [] script
 split_none script = record {
@@ -161,7 +161,7 @@ split_all script front [] r none =
 split_all script front (b ∷ rest) r none = absurd (omega arith)
 
 -- bytes have parts
-parts_exist : (n : ℕ) (bytes : List ℕ) → length bytes ≤ n → (parts : List Part) × AreParts bytes parts []
+parts_exist : (n : ℕ) (bytes : List ℕ) → length bytes ≤ n → (parts : List ScriptPart) × AreParts bytes parts []
 parts_exist n [] short = ([], refl)
 parts_exist (suc n) (b ∷ bytes) short =
     let behind = drop (part_len (b ∷ bytes)) (b ∷ bytes) in

@@ -3,10 +3,10 @@ use Rattle.std.proofs.Common.{◌≡◌, ℕ, suc, ◌+◌, ◌≤◌, Bool, tru
 use Rattle.std.specs.List.{list_all, prefix_len}
 use Rattle.std.proofs.lemmas.Bool.{and_parts, cond_both}
 use Rattle.std.proofs.lemmas.List.Sums.{prefix_len-le-length}
-use Rattle.cube_language.specs.Parts.{Stops}
+use Rattle.cube_language.specs.Parts.{EndsRun}
 
 -- bytes that pass, before one that does not, are that front
-pub prefix_is : (p : ℕ → Bool) (xs ys : List ℕ) → list_all p xs ≡ true → Stops p ys → prefix_len p (xs ++ ys) ≡ length xs
+pub prefix_is : (p : ℕ → Bool) (xs ys : List ℕ) → list_all p xs ≡ true → EndsRun p ys → prefix_len p (xs ++ ys) ≡ length xs
 prefix_is p [] [] all stops = refl
 prefix_is p [] (y ∷ ys) all stops = rw stops refl
 prefix_is p (x ∷ xs) ys all stops =
@@ -31,7 +31,7 @@ prefix_passes p [] = refl
 prefix_passes p (x ∷ xs) =
     cond_both (p x) (1 + prefix_len p xs) 0 (λ n. list_all p (take n (x ∷ xs)) ≡ true) (λ one. rw (front_one (prefix_len p xs) x xs, one) (prefix_passes p xs)) (λ none. refl)
 
-pub prefix_stops : (p : ℕ → Bool) (xs : List ℕ) → Stops p (drop (prefix_len p xs) xs)
+pub prefix_stops : (p : ℕ → Bool) (xs : List ℕ) → EndsRun p (drop (prefix_len p xs) xs)
 prefix_stops p [] = tt
 prefix_stops p (x ∷ xs) =
-    cond_both (p x) (1 + prefix_len p xs) 0 (λ n. Stops p (drop n (x ∷ xs))) (λ one. rw (rest_one (prefix_len p xs) x xs) (prefix_stops p xs)) (λ none. none)
+    cond_both (p x) (1 + prefix_len p xs) 0 (λ n. EndsRun p (drop n (x ∷ xs))) (λ one. rw (rest_one (prefix_len p xs) x xs) (prefix_stops p xs)) (λ none. none)

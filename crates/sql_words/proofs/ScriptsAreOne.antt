@@ -9,12 +9,12 @@ use Rattle.std.proofs.lemmas.List.Elements.{All-head, All-tail}
 use Rattle.cube_language.specs.declared.piece.Piece.{Piece}
 use Rattle.cube_language.specs.declared.piece.ScriptFault.{ScriptFault}
 use Rattle.cube_language.specs.declared.piece.ScriptFault.TheVariants.{NotUtf8, TooManyStatements, StatementTooLong}
-use Rattle.cube_language.specs.Parts.{Part, AreParts}
+use Rattle.cube_language.specs.Parts.{ScriptPart, AreParts}
 use Rattle.cube_language.specs.Pieces.{is_end, pieces_from, Splits, statement_limit, is_long, IsScript, HasScriptFault}
 use Rattle.sql_words.proofs.PartFronts.{parts_agree}
 use Rattle.sql_words.proofs.PiecesLeft.{no_parts}
 
-parts_are_one : (ps qs : List Part) (bytes : List ℕ) → AreParts bytes ps [] → AreParts bytes qs [] → ps ≡ qs
+parts_are_one : (ps qs : List ScriptPart) (bytes : List ℕ) → AreParts bytes ps [] → AreParts bytes qs [] → ps ≡ qs
 parts_are_one [] qs bytes a b = sym (no_parts qs (subst (λ (xs : List ℕ). AreParts xs qs []) a b))
 parts_are_one (p ∷ ps) [] bytes a b = no_parts (p ∷ ps) (subst (λ (xs : List ℕ). AreParts xs (p ∷ ps) []) b a)
 parts_are_one (p ∷ ps) (q ∷ qs) bytes a b =

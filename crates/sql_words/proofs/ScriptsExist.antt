@@ -5,7 +5,7 @@ use Rattle.std.proofs.lemmas.Bool.{cases_lt}
 use Rattle.std.proofs.lemmas.List.{take-append-drop}
 use Rattle.cube_language.specs.declared.piece.Piece.{Piece}
 use Rattle.cube_language.specs.declared.piece.ScriptFault.TheVariants.{NotUtf8, TooManyStatements, StatementTooLong}
-use Rattle.cube_language.specs.Parts.{Part, AreParts}
+use Rattle.cube_language.specs.Parts.{ScriptPart, AreParts}
 use Rattle.cube_language.specs.Pieces.{Splits, is_end, is_long, pieces_from, statements_limit}
 use Rattle.cube_language.proofs.ValidFronts.{utf8_or_not}
 use Rattle.sql_words.specs.Fronts.{part_len}
@@ -15,7 +15,7 @@ use Rattle.sql_words.proofs.Gaps.{shorter}
 use Rattle.sql_words.proofs.Bodies.{none_long}
 
 -- all bytes are parts in order
-parts_to_end : (n : ℕ) (bytes : List ℕ) → length bytes < n → (parts : List Part) × AreParts bytes parts []
+parts_to_end : (n : ℕ) (bytes : List ℕ) → length bytes < n → (parts : List ScriptPart) × AreParts bytes parts []
 parts_to_end zero bytes lt = absurd (omega arith)
 parts_to_end (suc n) [] lt = ([], refl)
 parts_to_end (suc n) (b ∷ bytes) lt =

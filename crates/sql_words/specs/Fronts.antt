@@ -7,7 +7,7 @@ use Rattle.std.specs.Str.Parse.{signed_digits_value}
 use Rattle.cube_language.specs.Names.{begins_name}
 use Rattle.cube_language.specs.declared.token.TokenFault.TheVariants.{NumberTooWide}
 use Rattle.cube_language.specs.declared.token.TokenKind.{TokenKind}
-use Rattle.cube_language.specs.Parts.{Part, is_space, is_no_quote, stays_on_line, is_blank, AreParts}
+use Rattle.cube_language.specs.Parts.{ScriptPart, is_space, is_no_quote, stays_on_line, is_blank, AreParts}
 use Rattle.cube_language.specs.Pieces.{is_end}
 use Rattle.cube_language.specs.Quotes.{opened}
 use Rattle.cube_language.specs.Tokens.{IsFault, IsToken, is_mark}
@@ -38,7 +38,7 @@ part_len (byte ∷ bytes) =
 
 -- The bytes are white space and comments, and then the rest, which begins with neither.
 pub record IsBehindGap (bytes rest : List ℕ) : Type 0 where
-  pub parts : List Part
+  pub parts : List ScriptPart
   pub blank : IsTrue (list_all is_blank parts)
   pub are : AreParts bytes parts rest
   pub stops : begins_gap rest ≡ false
@@ -49,12 +49,12 @@ goes_on [] = false
 goes_on (byte ∷ bytes) = not (byte == 59)
 
 -- A part that does not end a statement.
-abbrev pub is_inside : Part → Bool
+abbrev pub is_inside : ScriptPart → Bool
 is_inside part = not (is_end part)
 
 -- The bytes are parts that end no statement, and then the rest, where none goes on.
 pub record IsBehindBody (bytes rest : List ℕ) : Type 0 where
-  pub parts : List Part
+  pub parts : List ScriptPart
   pub inside : IsTrue (list_all is_inside parts)
   pub are : AreParts bytes parts rest
   pub stops : goes_on rest ≡ false

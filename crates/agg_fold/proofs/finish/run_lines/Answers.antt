@@ -3,7 +3,7 @@ use Rattle.std.proofs.lemmas.List.Elements.{All-take}
 use Rattle.cube_values.specs.declared.table.Field.{Field}
 use Rattle.cube_values.specs.declared.value.Value.{Value}
 use Rattle.agg_fold.specs.declared.finish.Named.{Named}
-use Rattle.agg_fold.specs.Tables.{AreNamed, IsRun, key_at, lines_of, line_of_tallies, run_metrics}
+use Rattle.agg_fold.specs.Tables.{AreNamed, IsRun, key_at, table_lines, line_of_tallies, run_metrics}
 use Rattle.agg_fold.proofs.Runs.{once_take}
 use Rattle.agg_fold.proofs.RunLines.{run_rest, run_lines_of, run_few}
 use Rattle.agg_fold.proofs.finish.run_lines.Goals as goal
@@ -43,9 +43,9 @@ runs-preserved c = λ rows s named.
     c.in_ok-run_line.ensures rows s ∙ (λ k. line_of_tallies query (c.as_slice-in-len1-up.ensures k) (run_metrics query.group rows groups.keys (c.split_at.ensures.front k))) in
     let pushed : c.push.new.self.items ≡ c.runs.lines.items ++ c.in_ok-run_line.field-0 ∷ [] = search rules in (
       subst (AreNamed lists query rows groups) (sym back) (run_rest lists query rows groups rest c.first-item.result n v some first s r run),
-      (λ k. pushed k ++ lines_of lists query rows (back k))
-          ∙ append_assoc c.runs.lines.items (c.in_ok-run_line.field-0 ∷ []) (lines_of lists query rows (drop n rest))
-          ∙ (λ k. c.runs.lines.items ++ (line k ∷ lines_of lists query rows (drop n rest)))
+      (λ k. pushed k ++ table_lines lists query rows (back k))
+          ∙ append_assoc c.runs.lines.items (c.in_ok-run_line.field-0 ∷ []) (table_lines lists query rows (drop n rest))
+          ∙ (λ k. c.runs.lines.items ++ (line k ∷ table_lines lists query rows (drop n rest)))
           ∙ ap (λ (ls : List (List Field)). c.runs.lines.items ++ ls) (sym (run_lines_of lists query rows groups rest c.first-item.result n v some first s r run))
           ∙ e,
     )

@@ -7,7 +7,7 @@ use Rattle.std.proofs.lemmas.List.{nil_from_length}
 use Rattle.cube_values.specs.Values.{values_cmp}
 use Rattle.agg_fold.specs.declared.finish.Named.{Named}
 use Rattle.agg_fold.specs.Lines.{empty_field}
-use Rattle.agg_fold.specs.Tables.{AreNamed, lines_of, named_from}
+use Rattle.agg_fold.specs.Tables.{AreNamed, table_lines, named_from}
 use Rattle.agg_fold.proofs.NamedGroups.{named_sorted, rows_named, table_is, empty_table}
 use Rattle.agg_fold.proofs.Order.{values_total}
 use Rattle.agg_fold.proofs.finish.table_for.Goals as goal
@@ -58,4 +58,4 @@ returns c = λ rows s.
           let no : ⊥ = search rules in absurd no
     ] in
     c.from_vec-2.ensures ∙ c.in_ok-lines.ensures rows s (subst (AreNamed lists query rows groups) (sym c.as_slice-2.ensures.value) r.0)
-    ∙ ap (lines_of lists query rows) c.as_slice-2.ensures.value ∙ table_is lists query rows groups ns s r.0 r.1 some
+    ∙ ap (table_lines lists query rows) c.as_slice-2.ensures.value ∙ table_is lists query rows groups ns s r.0 r.1 some

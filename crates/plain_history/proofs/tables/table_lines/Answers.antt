@@ -3,7 +3,7 @@ use Rattle.cube_values.specs.declared.row.Row.{Row}
 use Rattle.cube_values.specs.Answer.{key_of}
 use Rattle.plain_history.specs.Tables.{line_of_key}
 use Rattle.plain_history.proofs.KeyPlaces.{one_more_key}
-use Rattle.plain_history.proofs.tables.lines_of.Goals as goal
+use Rattle.plain_history.proofs.tables.table_lines.Goals as goal
 
 pub loop-first-preserved : goal.loop-first-preserved
 loop-first-preserved c =

@@ -1,7 +1,7 @@
 use Rattle.std.proofs.Common.{◌≡◌, take, map}
 use Rattle.cube_values.specs.Answer.{key_of}
 use Rattle.plain_history.specs.Tables.{line_of_key}
-use Rattle.plain_history.proofs.tables.lines_of.Given as goal
+use Rattle.plain_history.proofs.tables.table_lines.Given as goal
 
 abbrev pub invariant-loop-first : goal.invariant-loop-first
 invariant-loop-first l =

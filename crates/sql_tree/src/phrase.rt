@@ -13,7 +13,7 @@ use cube_values::{CallError, Sequence, Text, Value};
 use std::alloc::Global;
 
 /// A part of a statement that is read from its tokens.
-pub(crate) trait Part: Sized {
+pub(crate) trait Phrase: Sized {
     /// How it is read from symbols.
     ghost reading: { List Symbol → Readout Self };
 
@@ -24,7 +24,7 @@ pub(crate) trait Part: Sized {
         ensures rest { IfOk result (λ x. IsRest text.now tokens.now x.1.now) };
 }
 
-impl Part for Text {
+impl Phrase for Text {
     ghost reading = { read_name };
 
     fn part<'a>(
@@ -36,7 +36,7 @@ impl Part for Text {
     }
 }
 
-impl Part for Value {
+impl Phrase for Value {
     ghost reading = { read_value };
 
     fn part<'a>(
@@ -48,7 +48,7 @@ impl Part for Value {
     }
 }
 
-impl Part for i64 {
+impl Phrase for i64 {
     ghost reading = { read_number };
 
     fn part<'a>(
@@ -61,7 +61,7 @@ impl Part for i64 {
 }
 
 /// Parts with a sign between each two, one at least, and the tokens behind them.
-pub(crate) fn listed<'a, T: Part + Drop>(
+pub(crate) fn listed<'a, T: Phrase + Drop>(
     alloc: Global,
     text: &str,
     tokens: &'a [Token],
@@ -85,7 +85,7 @@ pub(crate) fn listed<'a, T: Part + Drop>(
 
 /// `(part, ..)`, and the tokens behind it.
 #[tactic(auto, unfolding(crate::specs::Reading::enclosed))]
-pub(crate) fn enclosed<'a, T: Part + Drop>(
+pub(crate) fn enclosed<'a, T: Phrase + Drop>(
     alloc: Global,
     text: &str,
     tokens: &'a [Token],
