@@ -16,6 +16,7 @@ pub use Rattle.cube_values.specs.Batches
 pub use Rattle.cube_values.specs.Rooms
 pub use Rattle.cube_language.specs.Keywords
 pub use Rattle.cube_language.specs.Names
+pub use Rattle.cube_language.specs.Columns
 pub use Rattle.cube_language.specs.Cubes
 pub use Rattle.cube_language.specs.CubesText
 pub use Rattle.cube_language.specs.Quotes

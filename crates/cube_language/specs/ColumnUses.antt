@@ -47,7 +47,8 @@ group_use name = record { name = name; purpose = Grouping }
 
 -- The columns of a statement, as they come in its text. A condition has the place of its column.
 abbrev pub column_uses : Statement → List ColumnUse
-column_uses s = flat_map item_uses (items_of s) ++ (map cond_use (conds_of s) ++ (map group_use (group_of s) ++ flat_map item_uses (asked_items s)))
+column_uses s = flat_map item_uses (items_of s)
+    ++ (map cond_use (conds_of s) ++ (map group_use (group_of s) ++ flat_map item_uses (asked_items s)))
 
 -- The dimension of a name, if the cube has one.
 abbrev pub dim_named : Decl → List ℕ → Option DimDecl
