@@ -24,9 +24,9 @@ is_whole (Int n) = true
 is_whole (Text text) = false
 
 -- The number of a value, or 0 where it is a text.
-abbrev pub number_of : Value → ℤ
-number_of (Int n) = n
-number_of (Text text) = pos 0
+abbrev pub value_number : Value → ℤ
+value_number (Int n) = n
+value_number (Text text) = pos 0
 
 -- A number is below a bound and not below 0.
 abbrev pub is_within_bound : ℕ → ℤ → Bool
@@ -55,7 +55,7 @@ cube_named cubes name = find (λ d. bytes_eq name d.name) cubes
 -- The row of the values of an INSERT, dimensions first.
 abbrev pub row_of : Decl → List Value → StoredRow
 row_of d values =
-    record { cube = d.name; row = record { dims = take (length d.dims) values; metrics = map number_of (drop (length d.dims) values) } }
+    record { cube = d.name; row = record { dims = take (length d.dims) values; metrics = map value_number (drop (length d.dims) values) } }
 
 -- An INSERT of a row that fits a cube of numbers stores it.
 abbrev pub store_on : Decl → List Value → Option Action
