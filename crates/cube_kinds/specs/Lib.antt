@@ -32,6 +32,7 @@ pub use Rattle.cube_language.specs.SameItems
 pub use Rattle.cube_language.specs.ColumnUses
 pub use Rattle.cube_language.specs.RowFaults
 pub use Rattle.cube_language.specs.Misfits
+pub use Rattle.cube_language.specs.ResolvedNames
 pub use Rattle.cube_journal.specs.Entries
 pub use Rattle.cube_journal.specs.Counters
 pub use Rattle.cube_journal.specs.Legal
