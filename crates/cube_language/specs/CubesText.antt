@@ -57,7 +57,7 @@ IsLine words Skipped = IsSkipped words
 IsLine words (Cube name) = (words ≡ codes "cube" ∷ name ∷ []) × IsTrue (is_name name)
 IsLine words (Dim d) =
     (cardinality range : List ℕ) × (words ≡ codes "dim" ∷ d.name ∷ kind_text d.text ∷ cardinality ∷ range ∷ [])
-      × IsTrue (is_name d.name) × IsNumberWord cardinality d.cardinality × IsNumberWord range d.range
+    × IsTrue (is_name d.name) × IsNumberWord cardinality d.cardinality × IsNumberWord range d.range
 IsLine words (Metric name) = (words ≡ codes "metric" ∷ name ∷ []) × IsTrue (is_name name)
 
 -- Each line has the form of the one in its place.
@@ -94,8 +94,11 @@ columns_in lines = take_while (λ line. not (is_cube line)) lines
 abbrev pub cubes_in : List Line → List Decl
 cubes_in [] = []
 cubes_in (Cube name ∷ lines) =
-    record { name = name; dims = filter_map dim_in (columns_in lines);
-      metrics = filter_map metric_in (columns_in lines) } ∷ cubes_in lines
+    record {
+      name = name;
+      dims = filter_map dim_in (columns_in lines);
+      metrics = filter_map metric_in (columns_in lines);
+    } ∷ cubes_in lines
 cubes_in (_ ∷ lines) = cubes_in lines
 
 -- A line that declares a column stands behind one that begins a cube.

@@ -29,7 +29,7 @@ abbrev pub pieces_from : ℕ → List (List ScriptPart) → List Piece
 pieces_from place [] = []
 pieces_from place (parts ∷ others) =
     (if list_all is_blank parts then [] else piece_at place parts ∷ [])
-      ++ pieces_from (place + bytes_in parts + 1) others
+    ++ pieces_from (place + bytes_in parts + 1) others
 
 -- The script has its statements at these places.
 abbrev pub Splits : List ℕ → List Piece → Type 0
