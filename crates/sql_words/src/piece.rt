@@ -53,7 +53,7 @@ fn behind_end(bytes: &[u8]) -> &[u8]
     }
 }
 
-/// The statements of a script by their places, or None where there are more than 65,536.
+/// The statements of a script by their places, or None where there are more than `STATEMENTS`.
 fn pieces_of(alloc: Global, script: &[u8]) -> Result<Option<Pieces>, AllocError>
     requires { IsUtf8 script.now }
     ensures some { IfOk result (λ found. IfSome found (λ pieces. SplitsInFew script.now pieces)) }
@@ -102,7 +102,7 @@ fn first_long(pieces: &[Piece]) -> Option<u64>
 /// The statements of a script by their places, or why the script is refused whole. The text of a statement
 /// begins behind the white space and the comments in front of it, and ends at the semicolon, or at the end of
 /// the script. The time taken is linear in the bytes of the script, and the memory in its statements, of
-/// which no more than 65,536 are kept.
+/// which no more than `STATEMENTS` are kept.
 pub fn split(alloc: Global, script: &[u8]) -> Result<Pieces, CallError<ScriptFault>>
     ensures found { IfOk result (λ pieces. IsScript script.now pieces) }
     ensures texts { IfOk result (λ pieces. AreTextsAt script.now pieces) }
