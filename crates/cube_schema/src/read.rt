@@ -67,7 +67,8 @@ fn check_cube(alloc: Global, cube: &Begun) -> Result<Schema, CallError<CubesFaul
 fn check_cubes(alloc: Global, cubes: &[Begun]) -> Result<Vec<Schema>, CallError<CubesFault>>
     ensures stored { IfOk result (λ schemas. schemas.items ≡ begun_decls cubes.now) }
     ensures storable { OnOk result (unstorable_in (begun_decls cubes.now) ≡ None) }
-    ensures fault { IfFault result (λ fault. unstorable_in (begun_decls cubes.now) ≡ Some fault) }
+    ensures fault { IfFault result (λ fault.
+        unstorable_in (begun_decls cubes.now) ≡ Some fault) }
 {
     let mut schemas = Vec::new(alloc);
     'cubes: for cube in cubes {

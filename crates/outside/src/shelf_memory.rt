@@ -113,7 +113,7 @@ impl Shelf for ShelfMemory {
         // As many bytes as there are and the piece holds; none of an absent file.
         ensures most { result ≢ ReadAnswer.Failed →
             result ≡ ReadAnswer.Got
-                (min (length into.new) (bytes_left self.old.files name.now at)) }
+            (min (length into.new) (bytes_left self.old.files name.now at)) }
     {
         if self.calls.fails() {
             self.calls.count_fault();

@@ -150,7 +150,7 @@ impl DiskMemory {
         ensures exact { IsOk result ↔ (Fails self.old (1 + length bytes.now) → ⊥) }
         ensures after { self.new ≡
             after_call result
-                (fitting_events self.old.tape.room (write_events at bytes.now)) self.old }
+            (fitting_events self.old.tape.room (write_events at bytes.now)) self.old }
     {
         if self.tape.room() <= bytes.len() {
             return self.fail();
@@ -255,15 +255,15 @@ impl Disk for DiskMemory {
 
     fn write_at(&mut self, at: u64, bytes: &[u8]) -> Result<(), Failed>
         requires { IfSome (disk_view self.old).told (λ f. at ≤ length f) }
-        ensures goes {
-            Goes (Torn at (length bytes.now)) result (disk_view self.old) (disk_view self.new) }
+        ensures goes { Goes (Torn at (length bytes.now)) result
+            (disk_view self.old) (disk_view self.new) }
         ensures told { IfSome (disk_view self.old).told (λ f.
             OnOk result ((disk_view self.new).told ≡ Some (with_bytes at bytes.now f))) }
 
         ensures exact { IsOk result ↔ (Fails self.old (1 + length bytes.now) → ⊥) }
         ensures after { self.new ≡
             after_call result
-                (fitting_events self.old.tape.room (write_events at bytes.now)) self.old }
+            (fitting_events self.old.tape.room (write_events at bytes.now)) self.old }
     {
         self.write(at, bytes)
     }
