@@ -8,6 +8,7 @@ use Rattle.cube_language.specs.Names.{is_name}
 use Rattle.cube_language.specs.declared.cubes_fault.CubesFault.{CubesFault}
 use Rattle.cube_language.specs.declared.cubes_fault.CubesFault.TheVariants.{NotUtf8, BadLine, DuplicateCube, TooManyCubes, Schema}
 use Rattle.cube_language.specs.declared.cubes_fault.SchemaFault.{SchemaFault}
+use Rattle.cube_language.specs.declared.decl.TheConstants.{MOST_CUBES}
 use Rattle.cube_language.specs.declared.decl.DimDecl.{DimDecl}
 use Rattle.cube_language.specs.declared.decl.Decl.{Decl}
 use Rattle.cube_language.specs.Cubes.{kind_text, first_repeated, schema_fault, IsStorable}
@@ -121,7 +122,7 @@ pub record HasLines (text : List ℕ) (lines : List Line) : Type 0 where
 
 -- The most cubes of a text.
 abbrev pub cubes_limit : ℕ
-cubes_limit = 16
+cubes_limit = MOST_CUBES
 
 -- The text declares these cubes.
 pub record Declares (text : List ℕ) (cubes : List Decl) : Type 0 where
