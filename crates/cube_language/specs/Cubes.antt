@@ -20,8 +20,8 @@ kind_text text = if text then codes "text" else codes "int"
 abbrev pub dim_text : DimDecl → List ℕ
 dim_text d =
     codes "dim " ++ (d.name ++ (codes " "
-      ++ (kind_text d.text ++ (codes " "
-        ++ (decimal d.cardinality ++ (codes " " ++ (decimal d.range ++ codes "\n")))))))
+    ++ (kind_text d.text ++ (codes " "
+    ++ (decimal d.cardinality ++ (codes " " ++ (decimal d.range ++ codes "\n")))))))
 
 -- `metric NAME`
 abbrev pub metric_text : List ℕ → List ℕ
@@ -107,7 +107,7 @@ first_some (None ∷ others) = first_some others
 abbrev pub schema_fault : Decl → Option SchemaFault
 schema_fault d =
     first_some (duplicate_in d ∷ zero_in d ∷ large_range_in d ∷ many_bricks_in d ∷ many_columns_in d
-      ∷ no_metric_in d ∷ [])
+    ∷ no_metric_in d ∷ [])
 
 -- The declaration can be stored.
 abbrev pub IsStorable : Decl → Type 0

@@ -92,7 +92,7 @@ group_form (name ∷ names) = Keyword keyword.Group ∷ Keyword keyword.By ∷ s
 abbrev pub query_form : List Item → List ℕ → List Cond → List (List ℕ) → List Symbol
 query_form items cube conds group =
     Keyword keyword.Select ∷ (separated Comma item_form items
-      ++ Keyword keyword.From ∷ Word cube ∷ (where_form conds ++ group_form group))
+    ++ Keyword keyword.From ∷ Word cube ∷ (where_form conds ++ group_form group))
 
 -- ---- HAVING, ORDER BY and LIMIT
 
@@ -154,7 +154,7 @@ kind_keyword text = if text then keyword.Text else keyword.Int
 abbrev pub column_form : Column → List Symbol
 column_form (column.Dim dim) =
     Keyword keyword.Dim ∷ Word dim.name ∷ Keyword (kind_keyword dim.text) ∷ Number (pos dim.cardinality)
-      ∷ number_form (pos dim.range)
+    ∷ number_form (pos dim.range)
 column_form (column.Metric name) = Keyword keyword.Metric ∷ name_form name
 
 -- `CREATE CUBE name (column, ..)`
@@ -171,7 +171,7 @@ form_of (Insert cube rows) = Keyword keyword.Insert ∷ Keyword keyword.Into ∷
     ∷ separated Comma tuple_form rows
 form_of (Load cube path reject) =
     Keyword keyword.Load ∷ Word cube ∷ Keyword keyword.From ∷ Text path ∷ Keyword keyword.Reject
-      ∷ number_form (pos reject)
+    ∷ number_form (pos reject)
 form_of (Delete cube conds) = Keyword keyword.Delete ∷ Keyword keyword.From ∷ Word cube ∷ where_form conds
 form_of Begin = Keyword keyword.Begin ∷ []
 form_of Commit = Keyword keyword.Commit ∷ []
@@ -188,7 +188,7 @@ form_of ShowWatch = Keyword keyword.Show ∷ Keyword keyword.Watch ∷ []
 abbrev pub IsFormOf : Statement → List Symbol → Type 0
 IsFormOf (Select items cube conds group having order limit) symbols =
     (keys : List WrittenKey) × (order ≡ map sort_key_of keys)
-      × (symbols ≡ query_form items cube conds group ++ top_form key_form having keys limit)
+    × (symbols ≡ query_form items cube conds group ++ top_form key_form having keys limit)
 IsFormOf (CreateCube decl) symbols =
     (columns : List Column) × (decl ≡ decl_of decl.name columns) × (symbols ≡ create_form decl.name columns)
 IsFormOf statement symbols = symbols ≡ form_of statement

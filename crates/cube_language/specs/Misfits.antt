@@ -81,7 +81,7 @@ pub record ShareRange (dim : DimDecl) (x y : ℕ) : Type 0 where
 abbrev pub HaveWholeRanges : List Cond → DimDecl → Type 0
 HaveWholeRanges conds dim =
     (x y : ℕ) → ShareRange dim x y
-      → all_pass conds dim.name (value.Int (pos x)) ≡ all_pass conds dim.name (value.Int (pos y))
+    → all_pass conds dim.name (value.Int (pos x)) ≡ all_pass conds dim.name (value.Int (pos y))
 
 -- The coordinates of texts are not known before: a condition on texts has whole ranges where each range is one
 -- coordinate, and is refused else.

@@ -42,7 +42,7 @@ IsComment bytes rest =
 abbrev pub IsQuoted : List ℕ → List ℕ → Type 0
 IsQuoted bytes rest =
     (inner : List ℕ) × IsTrue (list_all is_no_quote inner)
-      × ((bytes ≡ codes "'" ++ (inner ++ codes "'")) ⊎ ((bytes ≡ codes "'" ++ inner) × (rest ≡ [])))
+    × ((bytes ≡ codes "'" ++ (inner ++ codes "'")) ⊎ ((bytes ≡ codes "'" ++ inner) × (rest ≡ [])))
 
 -- A part at the front of a script, before the rest. A byte by itself is no quote, and no dash before a dash.
 abbrev pub IsPart : ScriptPart → List ℕ → Type 0

@@ -3,6 +3,7 @@
 use Rattle.std.specs.Prelude.{◌≡◌, ℕ, ◌+◌, ◌<◌, ◌≤◌, Bool, false, ◌==◌, nat_lt, List, [], ◌∷◌, ◌++◌, length, take_while, sum_by, Some, IsUtf8, All, if◌then◌else◌}
 use Rattle.std.specs.List.{list_all, slice_split, position_from}
 use Rattle.std.specs.Str.{IsValidUpTo}
+use Rattle.cube_language.specs.declared.piece.TheConstants.{MOST_STATEMENTS, MOST_STATEMENT_BYTES}
 use Rattle.cube_language.specs.declared.piece.Piece.{Piece}
 use Rattle.cube_language.specs.declared.piece.ScriptFault.{ScriptFault}
 use Rattle.cube_language.specs.declared.piece.ScriptFault.TheVariants.{NotUtf8, TooManyStatements, StatementTooLong}
@@ -29,7 +30,7 @@ abbrev pub pieces_from : ℕ → List (List ScriptPart) → List Piece
 pieces_from place [] = []
 pieces_from place (parts ∷ others) =
     (if list_all is_blank parts then [] else piece_at place parts ∷ [])
-      ++ pieces_from (place + bytes_in parts + 1) others
+    ++ pieces_from (place + bytes_in parts + 1) others
 
 -- The script has its statements at these places.
 abbrev pub Splits : List ℕ → List Piece → Type 0
@@ -38,10 +39,10 @@ Splits script pieces = (parts : List ScriptPart) × AreParts script parts []
 
 -- The most statements of a script, and the most bytes of a statement.
 abbrev pub statements_limit : ℕ
-statements_limit = 65536
+statements_limit = MOST_STATEMENTS
 
 abbrev pub statement_limit : ℕ
-statement_limit = 65536
+statement_limit = MOST_STATEMENT_BYTES
 
 -- A statement of too many bytes.
 abbrev pub is_long : Piece → Bool

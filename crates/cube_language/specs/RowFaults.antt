@@ -45,8 +45,8 @@ column_fault columns values = None
 abbrev pub row_fault : Decl → List Value → Option BadRow
 row_fault d values =
     if length values == length (columns_of d)
-      then column_fault (columns_of d) values
-      else Some (bad.WrongCount (length values))
+    then column_fault (columns_of d) values
+    else Some (bad.WrongCount (length values))
 
 -- The first row that cannot be stored, with its number, of which the first row has this one.
 abbrev pub bad_row_from : ℕ → Decl → List (List Value) → Option (ℕ × BadRow)

@@ -78,7 +78,7 @@ is_stray (byte ∷ []) = not (is_space byte
     || (begins_name byte || (is_ascii_digit byte || (is_mark byte || byte == 39))))
 is_stray (byte ∷ next ∷ bytes) =
     if byte == 45 then not (is_ascii_digit next || next == 45)
-      else not (is_space byte || (begins_name byte || (is_ascii_digit byte || (is_mark byte || byte == 39))))
+    else not (is_space byte || (begins_name byte || (is_ascii_digit byte || (is_mark byte || byte == 39))))
 
 -- The place of a fault.
 abbrev pub fault_at : TokenFault → ℕ
@@ -92,10 +92,10 @@ IsFault bytes (BadByte at) = IsTrue (is_stray bytes)
 IsFault bytes (UnclosedText at) = (text : List ℕ) × (bytes ≡ opened text)
 IsFault bytes (NumberTooWide at) =
     (number rest : List ℕ) × (bytes ≡ number ++ rest) × IsNumberBefore number rest
-      × (FitsSigned w64 (signed_digits_value 10 number) → ⊥)
+    × (FitsSigned w64 (signed_digits_value 10 number) → ⊥)
 
 -- The first fault of a text: behind some tokens no token stands, but this.
 abbrev pub HasTokenFault : List ℕ → TokenFault → Type 0
 HasTokenFault text fault =
     (tokens : List Token) × (bad : List ℕ) × AreTokensBefore 0 text tokens bad × IsFault bad fault
-      × (fault_at fault + length bad ≡ length text)
+    × (fault_at fault + length bad ≡ length text)

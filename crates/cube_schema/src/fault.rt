@@ -8,14 +8,8 @@ ghost use Rattle.cube_schema.specs.Repeats.{names_lent};
 
 use crate::repeat::first_repeat;
 use cube_language::{Decl, DimDecl, SchemaFault};
-use cube_values::Text;
+use cube_values::{MOST_BRICKS, MOST_COLUMNS, Text};
 use std::alloc::{AllocError, Global};
-
-/// The most dimensions of a cube, and the most metrics.
-const MOST_COLUMNS: usize = 16;
-
-/// The most bricks of a cube.
-const MOST_BRICKS: u128 = 1 << 62;
 
 /// Why a declaration cannot be stored, the first that applies, or None where it can.
 pub(crate) fn fault_of(alloc: Global, decl: &Decl) -> Result<Option<SchemaFault>, AllocError>
@@ -133,15 +127,15 @@ fn ranges(dim: &DimDecl) -> u64
     (u64::from(dim.cardinality) + (range - 1)) / range
 }
 
-/// Whether there are more bricks than a cube has at most. EndsRun at the first product above it.
+/// Whether there are more bricks than a cube has at most. It ends at the first product above that.
 fn has_many_bricks(dims: &[DimDecl]) -> bool
     requires { AreNotZero dims.now }
-    ensures { result ≡ nat_lt (2 ^ 62) (bricks_of (sizes_of dims.now)) }
+    ensures { result ≡ nat_lt MOST_BRICKS (bricks_of (sizes_of dims.now)) }
 {
     let mut bricks: u128 = 1;
     'dims: for dim in dims {
         let more = bricks * u128::from(ranges(dim));
-        if MOST_BRICKS < more {
+        if u128::from(MOST_BRICKS) < more {
             return true;
         }
         bricks = more;
@@ -150,7 +144,9 @@ fn has_many_bricks(dims: &[DimDecl]) -> bool
 }
 
 fn has_many_columns(decl: &Decl) -> bool
-    ensures { result ≡ (nat_lt 16 (length decl.now.dims) || nat_lt 16 (length decl.now.metrics)) }
+    ensures { result ≡ (nat_lt MOST_COLUMNS (length decl.now.dims)
+        || nat_lt MOST_COLUMNS (length decl.now.metrics)) }
 {
-    decl.dims.len() > MOST_COLUMNS || decl.metrics.len() > MOST_COLUMNS
+    let most = MOST_COLUMNS as usize;
+    decl.dims.len() > most || decl.metrics.len() > most
 }

@@ -1,7 +1,7 @@
 -- The calls of a shelf, one after the other.
 use Rattle.std.proofs.Common.{◌≡◌, ℕ, ◌+◌, ◌<◌, ◌≤◌, List, [], ◌∷◌, ◌++◌, length, take, Option, Some, ◌∙◌, refl, sym, ap, subst, inl, inr, arith}
 use Rattle.std.proofs.lemmas.List.{length-take-le}
-use Rattle.outside.specs.ShelfCalls.{ShelfCall, gave, read_failed, with_call, ReadsPrefix, no_piece, one_more, ReadsToEnd, ReadsToFault, WhereKnown}
+use Rattle.outside.specs.ShelfCalls.{ShelfCall, gave, read_failed, with_call, ReadsPrefix, one_more, ReadsToEnd, ReadsToFault, WhereKnown}
 
 -- one call more
 one_call : (call : ShelfCall) (before after : Option (List ShelfCall)) (past : List ShelfCall) →

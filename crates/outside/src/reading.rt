@@ -71,11 +71,13 @@ fn fill<S: Shelf>(shelf: &mut S, name: &str, into: &mut [u8]) -> ReadAnswer
     ensures later { S.fault_count shelf.old ≤ S.fault_count shelf.new }
     ensures failed { result ≡ ReadAnswer.Failed →
         Rose (S.fault_count shelf.old) (S.fault_count shelf.new) }
-    ensures quiet { result ≢ ReadAnswer.Failed → S.fault_count shelf.new ≡ S.fault_count shelf.old }
+    ensures quiet { result ≢ ReadAnswer.Failed →
+        S.fault_count shelf.new ≡ S.fault_count shelf.old }
     ensures absences { S.absence_count shelf.new ≡ S.absence_count shelf.old }
     ensures fits { (n : ℕ) → result ≡ ReadAnswer.Got n → n ≤ length into.new }
     ensures prefix { TellsPrefix (S.told shelf.old) name.now into.new result }
-    ensures calls { WhereKnown (λ past now. FillsBy name.now (length into.new) past now into.new result)
+    ensures calls { WhereKnown
+        (λ past now. FillsBy name.now (length into.new) past now into.new result)
         (S.call_list shelf.old) (S.call_list shelf.new) }
 {
     let mut filled = 0;

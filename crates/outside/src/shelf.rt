@@ -31,12 +31,14 @@ pub trait Shelf {
         ensures later { fault_count self.old ≤ fault_count self.new }
         ensures failed { result ≡ SizeAnswer.Failed →
             Rose (fault_count self.old) (fault_count self.new) }
-        ensures quiet { result ≢ SizeAnswer.Failed → fault_count self.new ≡ fault_count self.old }
+        ensures quiet { result ≢ SizeAnswer.Failed →
+            fault_count self.new ≡ fault_count self.old }
         ensures absent { result ≡ SizeAnswer.Absent →
             Rose (absence_count self.old) (absence_count self.new) }
         ensures present { result ≢ SizeAnswer.Absent →
             absence_count self.new ≡ absence_count self.old }
-        ensures call { call_list self.new ≡ with_call (sized name.now result) (call_list self.old) }
+        ensures call { call_list self.new ≡
+            with_call (sized name.now result) (call_list self.old) }
         ensures value { TellsSize (told self.old) name.now result };
 
     /// Puts bytes of the file of this name at the front of `into`, those from `at` on, and answers
@@ -46,7 +48,8 @@ pub trait Shelf {
         ensures later { fault_count self.old ≤ fault_count self.new }
         ensures failed { result ≡ ReadAnswer.Failed →
             Rose (fault_count self.old) (fault_count self.new) }
-        ensures quiet { result ≢ ReadAnswer.Failed → fault_count self.new ≡ fault_count self.old }
+        ensures quiet { result ≢ ReadAnswer.Failed →
+            fault_count self.new ≡ fault_count self.old }
         ensures absences { absence_count self.new ≡ absence_count self.old }
         ensures fits { (n : ℕ) → result ≡ ReadAnswer.Got n → n ≤ length into.new }
         ensures call { call_list self.new ≡

@@ -112,7 +112,8 @@ impl Shelf for ShelfMemory {
         ensures after { self.new ≡ shelf_after_read result self.old }
         // As many bytes as there are and the piece holds; none of an absent file.
         ensures most { result ≢ ReadAnswer.Failed →
-            result ≡ ReadAnswer.Got (min (length into.new) (bytes_left self.old.files name.now at)) }
+            result ≡ ReadAnswer.Got
+            (min (length into.new) (bytes_left self.old.files name.now at)) }
     {
         if self.calls.fails() {
             self.calls.count_fault();

@@ -23,7 +23,8 @@ pub trait Sink {
         ensures later { fault_count self.old ≤ fault_count self.new }
         ensures failed { result ≡ PutAnswer.Failed →
             Rose (fault_count self.old) (fault_count self.new) }
-        ensures quiet { result ≢ PutAnswer.Failed → fault_count self.new ≡ fault_count self.old }
+        ensures quiet { result ≢ PutAnswer.Failed →
+            fault_count self.new ≡ fault_count self.old }
         ensures some { TakesSome result bytes.now }
         ensures gained { Gained (taken self.old) (taken_by result bytes.now) (taken self.new) };
 }

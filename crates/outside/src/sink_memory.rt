@@ -34,7 +34,8 @@ impl Model for SinkMemory {
       faults = sink.calls.faults;
     } };
 
-    ghost invariant = { λ sink. (length sink.bytes.items ≤ sink.room) × (sink.room ≤ vec_capacity sink.bytes) };
+    ghost invariant = { λ sink.
+        (length sink.bytes.items ≤ sink.room) × (sink.room ≤ vec_capacity sink.bytes) };
 }
 
 impl SinkMemory {
@@ -83,14 +84,16 @@ impl Sink for SinkMemory {
         ensures failed { result ≡ PutAnswer.Failed → Rose self.old.faults self.new.faults }
         ensures quiet { result ≢ PutAnswer.Failed → self.new.faults ≡ self.old.faults }
         ensures some { TakesSome result bytes.now }
-        ensures gained { Gained (Some self.old.taken) (taken_by result bytes.now) (Some self.new.taken) }
+        ensures gained { Gained (Some self.old.taken) (taken_by result bytes.now)
+            (Some self.new.taken) }
 
         ensures exact { result ≡ PutAnswer.Failed ↔
             (IsFailing self.old.failing self.old.calls ⊎ LacksRoom self.old bytes.now) }
         ensures after { self.new ≡ after_put result bytes.now self.old }
         // As many bytes as the piece has and have room.
         ensures most { result ≢ PutAnswer.Failed →
-            result ≡ PutAnswer.Took (min (length bytes.now) (self.old.room - length self.old.taken)) }
+            result ≡ PutAnswer.Took
+            (min (length bytes.now) (self.old.room - length self.old.taken)) }
     {
         let left = self.room - self.bytes.len();
         let lacks_room = left == 0 && !bytes.is_empty();

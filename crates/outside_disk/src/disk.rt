@@ -37,7 +37,8 @@ pub trait Disk {
         ensures goes { Goes IsSame result (view self.old) (view self.new) }
         ensures told { (view self.new).told ≡ (view self.old).told }
         ensures fits { IfOk result (λ n. n ≤ length into.new) }
-        ensures piece { IfSome (view self.old).told (λ f. IfOk result (λ n. IsPiece f at n into.new)) };
+        ensures piece { IfSome (view self.old).told (λ f.
+            IfOk result (λ n. IsPiece f at n into.new)) };
 
     /// Writes over what is there, and past the end. Until a sync a crash may leave any bytes in the
     /// range, also where the write failed.
@@ -62,7 +63,8 @@ pub trait Disk {
         ensures synced { OnOk result (IsSynced (view self.new)) };
 
     // what a read gives is an image
-    ghost reads_image: { (disk : Self) (f : List ℕ) → (view disk).told ≡ Some f → (view disk).image f };
+    ghost reads_image: { (disk : Self) (f : List ℕ) →
+        (view disk).told ≡ Some f → (view disk).image f };
 
     // this moment is one of those since an earlier one
     ghost counts_now: { (disk : Self) (t : ℕ) (c : List ℕ) →

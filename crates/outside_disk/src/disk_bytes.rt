@@ -111,7 +111,8 @@ fn push_read(image: &mut Vec<u8>, bytes: &[DiskByte]) -> Result<(), AllocError>
 
 fn push_filled(image: &mut Vec<u8>, bytes: &[DiskByte], fill: &[u8]) -> Result<(), AllocError>
     requires { 0 < length fill.now }
-    ensures { OnOk result (image.new.items ≡ image.old.items ++ filled_from fill.now 0 bytes.now) }
+    ensures { OnOk result (image.new.items ≡
+        image.old.items ++ filled_from fill.now 0 bytes.now) }
 {
     let mut unsettled = 0;
     let mut left = bytes;

@@ -53,7 +53,8 @@ impl DiskMemory {
         failing: Vec<u64>,
         stop: Option<u64>,
     ) -> Result<DiskMemory, AllocError>
-        ensures exact { IfOk result (λ disk. disk ≡ new_disk bytes.items room failing.items stop) }
+        ensures exact { IfOk result (λ disk.
+            disk ≡ new_disk bytes.items room failing.items stop) }
         ensures told { IfOk result (λ disk. (disk_view disk).told ≡ Some bytes.items) }
         ensures synced { IfOk result (λ disk. IsSynced (disk_view disk)) }
     {
@@ -148,7 +149,8 @@ impl DiskMemory {
         ensures later { self.old.faults ≤ self.new.faults }
         ensures exact { IsOk result ↔ (Fails self.old (1 + length bytes.now) → ⊥) }
         ensures after { self.new ≡
-            after_call result (fitting_events self.old.tape.room (write_events at bytes.now)) self.old }
+            after_call result
+            (fitting_events self.old.tape.room (write_events at bytes.now)) self.old }
     {
         if self.tape.room() <= bytes.len() {
             return self.fail();
@@ -223,7 +225,8 @@ impl Disk for DiskMemory {
     fn size(&mut self) -> Result<u64, Failed>
         ensures goes { Goes IsSame result (disk_view self.old) (disk_view self.new) }
         ensures told { (disk_view self.new).told ≡ (disk_view self.old).told }
-        ensures value { IfSome (disk_view self.old).told (λ f. IfOk result (λ n. n ≡ length f)) }
+        ensures value { IfSome (disk_view self.old).told (λ f.
+            IfOk result (λ n. n ≡ length f)) }
 
         ensures exact { IsOk result ↔ (IsFaulty self.old → ⊥) }
         ensures after { self.new ≡ after_call result [] self.old }
@@ -237,7 +240,8 @@ impl Disk for DiskMemory {
         ensures goes { Goes IsSame result (disk_view self.old) (disk_view self.new) }
         ensures told { (disk_view self.new).told ≡ (disk_view self.old).told }
         ensures fits { IfOk result (λ n. n ≤ length into.new) }
-        ensures piece { IfSome (disk_view self.old).told (λ f. IfOk result (λ n. IsPiece f at n into.new)) }
+        ensures piece { IfSome (disk_view self.old).told (λ f.
+            IfOk result (λ n. IsPiece f at n into.new)) }
 
         ensures exact { IsOk result ↔ (IsFaulty self.old → ⊥) }
         ensures after { self.new ≡ after_call result [] self.old }
@@ -251,13 +255,15 @@ impl Disk for DiskMemory {
 
     fn write_at(&mut self, at: u64, bytes: &[u8]) -> Result<(), Failed>
         requires { IfSome (disk_view self.old).told (λ f. at ≤ length f) }
-        ensures goes { Goes (Torn at (length bytes.now)) result (disk_view self.old) (disk_view self.new) }
+        ensures goes { Goes (Torn at (length bytes.now)) result
+            (disk_view self.old) (disk_view self.new) }
         ensures told { IfSome (disk_view self.old).told (λ f.
             OnOk result ((disk_view self.new).told ≡ Some (with_bytes at bytes.now f))) }
 
         ensures exact { IsOk result ↔ (Fails self.old (1 + length bytes.now) → ⊥) }
         ensures after { self.new ≡
-            after_call result (fitting_events self.old.tape.room (write_events at bytes.now)) self.old }
+            after_call result
+            (fitting_events self.old.tape.room (write_events at bytes.now)) self.old }
     {
         self.write(at, bytes)
     }

@@ -15,7 +15,8 @@ pub fn write_through<D: Disk>(disk: &mut D, at: u64, bytes: &[u8]) -> Result<(),
     ensures written { IfSome (D.view disk.old).told (λ f.
         OnOk result ((D.view disk.new).told ≡ Some (with_bytes at bytes.now f))) }
     ensures synced { OnOk result (IsSynced (D.view disk.new)) }
-    ensures any_moment { AnyMoment (Torn at (length bytes.now)) (D.view disk.old) (D.view disk.new) }
+    ensures any_moment { AnyMoment (Torn at (length bytes.now))
+        (D.view disk.old) (D.view disk.new) }
     ensures count { (D.view disk.old).faults ≤ (D.view disk.new).faults }
     ensures failed { OnErr result (Rose (D.view disk.old).faults (D.view disk.new).faults) }
     ensures quiet { OnOk result ((D.view disk.new).faults ≡ (D.view disk.old).faults) }
@@ -32,7 +33,8 @@ pub fn replace_from<D: Disk>(disk: &mut D, at: u64, bytes: &[u8]) -> Result<(), 
     ensures written { IfSome (D.view disk.old).told (λ f.
         OnOk result ((D.view disk.new).told ≡ Some (take at f ++ bytes.now))) }
     ensures synced { OnOk result (IsSynced (D.view disk.new)) }
-    ensures any_moment { AnyMoment (AnyFrom at (length bytes.now)) (D.view disk.old) (D.view disk.new) }
+    ensures any_moment { AnyMoment (AnyFrom at (length bytes.now))
+        (D.view disk.old) (D.view disk.new) }
     ensures count { (D.view disk.old).faults ≤ (D.view disk.new).faults }
     ensures failed { OnErr result (Rose (D.view disk.old).faults (D.view disk.new).faults) }
     ensures quiet { OnOk result ((D.view disk.new).faults ≡ (D.view disk.old).faults) }

@@ -44,7 +44,8 @@ impl Model for Tape {
 impl Tape {
     /// A file with these bytes, all of them settled. All memory that its calls want is taken here.
     pub fn new(alloc: Global, first: Vec<u8>, room: usize) -> Result<Tape, AllocError>
-        ensures { IfOk result (λ tape. tape ≡ record { first = first.items; events = []; room = room }) }
+        ensures { IfOk result (λ tape.
+            tape ≡ record { first = first.items; events = []; room = room }) }
     {
         let Some(most) = first.len().checked_add(room) else {
             return Err(AllocError);
@@ -165,7 +166,8 @@ impl Tape {
     /// What a crash leaves where the i-th unsettled byte is that of `fill`, over and over; where
     /// `fill` is empty, what a read gives.
     pub fn crash(&self, alloc: Global, fill: &[u8]) -> Result<Vec<u8>, AllocError>
-        ensures { IfOk result (λ image. image.items ≡ crash_image fill.now (tape_course self.now).now) }
+        ensures { IfOk result (λ image.
+            image.items ≡ crash_image fill.now (tape_course self.now).now) }
     {
         filled(alloc, self.bytes.as_slice(), fill)
     }

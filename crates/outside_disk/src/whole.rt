@@ -11,7 +11,8 @@ use std::alloc::Global;
 /// The bytes of a disk's file. The size is asked once, and no more bytes are taken than it says; a
 /// read that gives none before that ends the file. The disk stays as it is.
 pub fn read_disk<D: Disk>(alloc: Global, disk: &mut D) -> Result<Vec<u8>, CallError<Failed>>
-    ensures bytes { IfSome (D.view disk.old).told (λ f. IfOk result (λ bytes. bytes.items ≡ f)) }
+    ensures bytes { IfSome (D.view disk.old).told (λ f.
+        IfOk result (λ bytes. bytes.items ≡ f)) }
     ensures untouched { IsUntouched (D.view disk.old) (D.view disk.new) }
     ensures failed { HasFailed result → Rose (D.view disk.old).faults (D.view disk.new).faults }
     ensures quiet { ¬ HasFailed result → (D.view disk.new).faults ≡ (D.view disk.old).faults }
@@ -34,7 +35,8 @@ pub fn read_disk<D: Disk>(alloc: Global, disk: &mut D) -> Result<Vec<u8>, CallEr
 fn fill<D: Disk>(disk: &mut D, into: &mut [u8]) -> Result<usize, Failed>
     requires { IfSome (D.view disk.old).told (λ f. length into.old ≡ length f) }
     ensures fits { IfOk result (λ n. n ≤ length into.new) }
-    ensures bytes { IfSome (D.view disk.old).told (λ f. IfOk result (λ n. take n into.new ≡ f)) }
+    ensures bytes { IfSome (D.view disk.old).told (λ f.
+        IfOk result (λ n. take n into.new ≡ f)) }
     ensures untouched { IsUntouched (D.view disk.old) (D.view disk.new) }
     ensures failed { OnErr result (Rose (D.view disk.old).faults (D.view disk.new).faults) }
     ensures quiet { OnOk result ((D.view disk.new).faults ≡ (D.view disk.old).faults) }

@@ -1,6 +1,7 @@
 -- Reading a statement from symbols, from left to right: what is read and the symbols behind it, or how many
 -- symbols are left from the first that does not fit, 0 where they end too early.
 use Rattle.std.specs.Prelude.{◌≡◌, ℕ, zero, suc, ◌^◌, Bool, true, false, nat_lt, List, [], ◌∷◌, length, drop, map, ℤ, pos, negsuc, Option, Some, None, Result, Ok, Err, if◌then◌else◌}
+use Rattle.std.specs.Borrow.{Bor}
 use Rattle.std.specs.Option.{option_map, option_map_or}
 use Rattle.std.specs.Str.{bytes_eq}
 use Rattle.cube_values.specs.declared.call_error.CallError.{CallError}
@@ -29,6 +30,8 @@ use Rattle.cube_language.specs.declared.keyword.Keyword.TheVariants as keyword
 use Rattle.cube_language.specs.Keywords.{keyword_text}
 use Rattle.cube_language.specs.declared.symbol.Symbol.{Symbol}
 use Rattle.cube_language.specs.declared.symbol.Symbol.TheVariants.{Keyword, Word, Number, Text, Open, Close, Comma, Equals, Star}
+use Rattle.cube_language.specs.declared.token.Token.{Token}
+use Rattle.cube_language.specs.Symbols.{symbols_of}
 use Rattle.sql_tree.specs.declared.head.Sign.{Sign}
 use Rattle.sql_tree.specs.declared.head.Sign.TheVariants as sign
 use Rattle.sql_tree.specs.declared.head.Aggregate.{Aggregate}
@@ -60,6 +63,18 @@ IsMiss (Fault left) read = read ≡ Err left
 abbrev pub Gives : {X Y : Type 0} → (X → Y) → Result X (CallError ℕ) → Result Y ℕ → Type 0
 Gives view (Ok x) read = read ≡ Ok (view x)
 Gives view (Err e) read = IsMiss e read
+
+-- What was read from tokens of a text, and the symbols of the tokens left, are what reading gives of the symbols.
+abbrev pub ReadsAs : {A : Type 0} → (List Symbol → Readout A) → List ℕ → List Token
+    → Result (A × Bor (List Token)) (CallError ℕ) → Type 0
+ReadsAs reading text tokens result =
+    Gives (λ x. (x.0, symbols_of text x.1.now)) result (reading (symbols_of text tokens))
+
+-- The symbols of the tokens left are what reading leaves of the symbols of the tokens.
+abbrev pub Skips : (List Symbol → Readout (Unit {0})) → List ℕ → List Token
+    → Result (Bor (List Token)) (CallError ℕ) → Type 0
+Skips reading text tokens result =
+    Gives (λ rest. (tt, symbols_of text rest.now)) result (reading (symbols_of text tokens))
 
 -- ---- one symbol
 

@@ -1,9 +1,8 @@
 //! The columns of a CREATE CUBE, read from tokens.
 
 ghost use Rattle.std.specs.Prelude.{◌≡◌, IfOk};
-ghost use Rattle.cube_language.specs.Symbols.{symbols_of};
 ghost use Rattle.sql_tree.specs.Places.{AreIn, IsRest};
-ghost use Rattle.sql_tree.specs.Reading.{Gives, column_behind, kind_in, read_column, read_first};
+ghost use Rattle.sql_tree.specs.Reading.{ReadsAs, column_behind, kind_in, read_column, read_first};
 
 use crate::head::ColumnHead;
 use crate::phrase::Phrase;
@@ -16,7 +15,7 @@ use std::alloc::Global;
 /// Whether a dimension has texts, by the word that stands first, and the tokens behind it.
 fn kind<'a>(text: &str, tokens: &'a [Token]) -> Result<(bool, &'a [Token]), Miss>
     requires { AreIn text.now tokens.now }
-    ensures read { Gives (λ x. (x.0, symbols_of text.now x.1.now)) result (read_first kind_in (symbols_of text.now tokens.now)) }
+    ensures read { ReadsAs (read_first kind_in) text.now tokens.now result }
     ensures rest { IfOk result (λ x. IsRest text.now tokens.now x.1.now) }
 {
     let [first, rest @ ..] = tokens else {
@@ -36,7 +35,7 @@ fn headed<'a>(
     head: ColumnHead,
 ) -> Result<(Column, &'a [Token]), Miss>
     requires { AreIn text.now tokens.now }
-    ensures read { Gives (λ x. (x.0, symbols_of text.now x.1.now)) result (column_behind head (symbols_of text.now tokens.now)) }
+    ensures read { ReadsAs (column_behind head) text.now tokens.now result }
     ensures rest { IfOk result (λ x. IsRest text.now tokens.now x.1.now) }
 {
     match head {

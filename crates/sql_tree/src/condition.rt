@@ -1,9 +1,8 @@
 //! Conditions, read from tokens.
 
 ghost use Rattle.std.specs.Prelude.{◌≡◌, IfOk};
-ghost use Rattle.cube_language.specs.Symbols.{symbols_of};
 ghost use Rattle.sql_tree.specs.Places.{AreIn, IsRest};
-ghost use Rattle.sql_tree.specs.Reading.{Gives, cond_behind, read_cond, read_where};
+ghost use Rattle.sql_tree.specs.Reading.{ReadsAs, cond_behind, read_cond, read_where};
 
 use crate::head::{Operator, Sign};
 use crate::phrase::{Phrase, enclosed, listed};
@@ -23,7 +22,7 @@ fn compared<'a>(
     operator: Operator,
 ) -> Result<(Cond, &'a [Token]), Miss>
     requires { AreIn text.now tokens.now }
-    ensures read { Gives (λ x. (x.0, symbols_of text.now x.1.now)) result (cond_behind name operator (symbols_of text.now tokens.now)) }
+    ensures read { ReadsAs (cond_behind name operator) text.now tokens.now result }
     ensures rest { IfOk result (λ x. IsRest text.now tokens.now x.1.now) }
 {
     match operator {
@@ -52,7 +51,7 @@ fn condition<'a>(
     tokens: &'a [Token],
 ) -> Result<(Cond, &'a [Token]), Miss>
     requires { AreIn text.now tokens.now }
-    ensures read { Gives (λ x. (x.0, symbols_of text.now x.1.now)) result (read_cond (symbols_of text.now tokens.now)) }
+    ensures read { ReadsAs read_cond text.now tokens.now result }
     ensures rest { IfOk result (λ x. IsRest text.now tokens.now x.1.now) }
 {
     let (name, left) = name(alloc, text, tokens)?;
@@ -85,7 +84,7 @@ pub(crate) fn conditions<'a>(
     tokens: &'a [Token],
 ) -> Result<(Conds, &'a [Token]), Miss>
     requires { AreIn text.now tokens.now }
-    ensures read { Gives (λ x. (x.0, symbols_of text.now x.1.now)) result (read_where (symbols_of text.now tokens.now)) }
+    ensures read { ReadsAs read_where text.now tokens.now result }
     ensures rest { IfOk result (λ x. IsRest text.now tokens.now x.1.now) }
 {
     match after(text, tokens, Sign::Keyword(Keyword::Where)) {

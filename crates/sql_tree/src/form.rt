@@ -78,7 +78,8 @@ fn put_query(
     conds: &[Cond],
     group: &[Text],
 ) -> Result<(), AllocError>
-    ensures { OnOk result (out.new.items ≡ out.old.items ++ query_form items.now cube.now conds.now group.now) }
+    ensures { OnOk result (out.new.items ≡
+        out.old.items ++ query_form items.now cube.now conds.now group.now) }
 {
     put_keyword(out, Keyword::Select)?;
     put_separated(out, items, Sign::Comma)?;
@@ -91,7 +92,8 @@ fn put_query(
 
 /// Appends an INSERT.
 fn put_insert(out: &mut Vec<Symbol>, cube: &Text, rows: &[Values]) -> Result<(), AllocError>
-    ensures { OnOk result (out.new.items ≡ out.old.items ++ form_of (statement.Insert cube.now rows.now)) }
+    ensures { OnOk result (out.new.items ≡
+        out.old.items ++ form_of (statement.Insert cube.now rows.now)) }
 {
     put_keyword(out, Keyword::Insert)?;
     put_keyword(out, Keyword::Into)?;
@@ -103,7 +105,8 @@ fn put_insert(out: &mut Vec<Symbol>, cube: &Text, rows: &[Values]) -> Result<(),
 
 /// Appends a LOAD.
 fn put_load(out: &mut Vec<Symbol>, cube: &Text, path: &Text, reject: u64) -> Result<(), AllocError>
-    ensures { OnOk result (out.new.items ≡ out.old.items ++ form_of (statement.Load cube.now path.now reject)) }
+    ensures { OnOk result (out.new.items ≡
+        out.old.items ++ form_of (statement.Load cube.now path.now reject)) }
 {
     put_keyword(out, Keyword::Load)?;
     put_name(out, cube)?;
@@ -116,7 +119,8 @@ fn put_load(out: &mut Vec<Symbol>, cube: &Text, path: &Text, reject: u64) -> Res
 
 /// Appends a DELETE.
 fn put_delete(out: &mut Vec<Symbol>, cube: &Text, conds: &[Cond]) -> Result<(), AllocError>
-    ensures { OnOk result (out.new.items ≡ out.old.items ++ form_of (statement.Delete cube.now conds.now)) }
+    ensures { OnOk result (out.new.items ≡
+        out.old.items ++ form_of (statement.Delete cube.now conds.now)) }
 {
     put_keyword(out, Keyword::Delete)?;
     put_keyword(out, Keyword::From)?;
@@ -155,7 +159,8 @@ fn columns_of(alloc: Global, decl: &Decl) -> Result<Columns, AllocError>
 
 /// Appends a CREATE CUBE.
 fn put_create(alloc: Global, out: &mut Vec<Symbol>, decl: &Decl) -> Result<(), AllocError>
-    ensures { OnOk result (out.new.items ≡ out.old.items ++ form_of (statement.CreateCube decl.now)) }
+    ensures { OnOk result (out.new.items ≡
+        out.old.items ++ form_of (statement.CreateCube decl.now)) }
 {
     let columns = columns_of(alloc, decl)?;
     put_keyword(out, Keyword::Create)?;

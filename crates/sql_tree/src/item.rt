@@ -1,9 +1,8 @@
 //! Tuples and items, read from tokens.
 
 ghost use Rattle.std.specs.Prelude.{◌≡◌, IfOk};
-ghost use Rattle.cube_language.specs.Symbols.{symbols_of};
 ghost use Rattle.sql_tree.specs.Places.{AreIn, IsRest};
-ghost use Rattle.sql_tree.specs.Reading.{Aggregated, Gives, item_behind, read_aggregate, read_item, read_metric, read_star, read_tuple};
+ghost use Rattle.sql_tree.specs.Reading.{ReadsAs, Skips, Aggregated, item_behind, read_aggregate, read_item, read_metric, read_star, read_tuple};
 
 use crate::head::{Aggregate, Sign};
 use crate::phrase::{Phrase, enclosed};
@@ -30,7 +29,7 @@ impl Phrase for Values {
 #[tactic(auto, unfolding(crate::specs::Reading::read_metric))]
 fn metric<'a>(alloc: Global, text: &str, tokens: &'a [Token]) -> Result<(Text, &'a [Token]), Miss>
     requires { AreIn text.now tokens.now }
-    ensures read { Gives (λ x. (x.0, symbols_of text.now x.1.now)) result (read_metric (symbols_of text.now tokens.now)) }
+    ensures read { ReadsAs read_metric text.now tokens.now result }
     ensures rest { IfOk result (λ x. IsRest text.now tokens.now x.1.now) }
 {
     let inside = sign(text, tokens, Sign::Open)?;
@@ -43,7 +42,7 @@ fn metric<'a>(alloc: Global, text: &str, tokens: &'a [Token]) -> Result<(Text, &
 #[tactic(auto, unfolding(crate::specs::Reading::read_star))]
 fn star<'a>(text: &str, tokens: &'a [Token]) -> Result<&'a [Token], Miss>
     requires { AreIn text.now tokens.now }
-    ensures read { Gives (λ rest. (tt, symbols_of text.now rest.now)) result (read_star (symbols_of text.now tokens.now)) }
+    ensures read { Skips read_star text.now tokens.now result }
     ensures rest { IfOk result (λ rest. IsRest text.now tokens.now rest.now) }
 {
     let inside = sign(text, tokens, Sign::Open)?;
@@ -59,7 +58,7 @@ fn aggregated<'a>(
     aggregate: Aggregate,
 ) -> Result<(Item, &'a [Token]), Miss>
     requires { AreIn text.now tokens.now }
-    ensures read { Gives (λ x. (x.0, symbols_of text.now x.1.now)) result (item_behind (Aggregated aggregate) (symbols_of text.now tokens.now)) }
+    ensures read { ReadsAs (item_behind (Aggregated aggregate)) text.now tokens.now result }
     ensures rest { IfOk result (λ x. IsRest text.now tokens.now x.1.now) }
 {
     match aggregate {
@@ -94,7 +93,7 @@ pub(crate) fn aggregate<'a>(
     tokens: &'a [Token],
 ) -> Result<(Item, &'a [Token]), Miss>
     requires { AreIn text.now tokens.now }
-    ensures read { Gives (λ x. (x.0, symbols_of text.now x.1.now)) result (read_aggregate (symbols_of text.now tokens.now)) }
+    ensures read { ReadsAs read_aggregate text.now tokens.now result }
     ensures rest { IfOk result (λ x. IsRest text.now tokens.now x.1.now) }
 {
     let [first, behind @ ..] = tokens else {
@@ -114,7 +113,7 @@ pub(crate) fn item<'a>(
     tokens: &'a [Token],
 ) -> Result<(Item, &'a [Token]), Miss>
     requires { AreIn text.now tokens.now }
-    ensures read { Gives (λ x. (x.0, symbols_of text.now x.1.now)) result (read_item (symbols_of text.now tokens.now)) }
+    ensures read { ReadsAs read_item text.now tokens.now result }
     ensures rest { IfOk result (λ x. IsRest text.now tokens.now x.1.now) }
 {
     let [first, behind @ ..] = tokens else {

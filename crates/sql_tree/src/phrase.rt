@@ -2,9 +2,8 @@
 
 ghost use Rattle.std.specs.Prelude.{◌≡◌, List, IfOk};
 ghost use Rattle.cube_language.specs.declared.symbol.Symbol.{Symbol};
-ghost use Rattle.cube_language.specs.Symbols.{symbols_of};
 ghost use Rattle.sql_tree.specs.Places.{AreIn, IsRest};
-ghost use Rattle.sql_tree.specs.Reading.{Gives, Readout, enclosed, listed, read_name, read_number, read_value};
+ghost use Rattle.sql_tree.specs.Reading.{ReadsAs, Readout, enclosed, listed, read_name, read_number, read_value};
 
 use crate::head::Sign;
 use crate::read::{Miss, after, name, number, sign, value};
@@ -20,7 +19,7 @@ pub(crate) trait Phrase: Sized {
     /// The part that stands first, and the tokens behind it.
     fn part<'a>(alloc: Global, text: &str, tokens: &'a [Token]) -> Result<(Self, &'a [Token]), Miss>
         requires { AreIn text.now tokens.now }
-        ensures read { Gives (λ x. (x.0, symbols_of text.now x.1.now)) result (reading (symbols_of text.now tokens.now)) }
+        ensures read { ReadsAs reading text.now tokens.now result }
         ensures rest { IfOk result (λ x. IsRest text.now tokens.now x.1.now) };
 }
 
@@ -68,7 +67,7 @@ pub(crate) fn listed<'a, T: Phrase + Drop>(
     between: Sign,
 ) -> Result<(Sequence<T>, &'a [Token]), Miss>
     requires { AreIn text.now tokens.now }
-    ensures read { Gives (λ x. (x.0, symbols_of text.now x.1.now)) result (listed between T.reading (symbols_of text.now tokens.now)) }
+    ensures read { ReadsAs (listed between T.reading) text.now tokens.now result }
     ensures rest { IfOk result (λ x. IsRest text.now tokens.now x.1.now) }
 {
     let mut parts = Sequence::new(alloc);
@@ -91,7 +90,7 @@ pub(crate) fn enclosed<'a, T: Phrase + Drop>(
     tokens: &'a [Token],
 ) -> Result<(Sequence<T>, &'a [Token]), Miss>
     requires { AreIn text.now tokens.now }
-    ensures read { Gives (λ x. (x.0, symbols_of text.now x.1.now)) result (enclosed T.reading (symbols_of text.now tokens.now)) }
+    ensures read { ReadsAs (enclosed T.reading) text.now tokens.now result }
     ensures rest { IfOk result (λ x. IsRest text.now tokens.now x.1.now) }
 {
     let inside = sign(text, tokens, Sign::Open)?;

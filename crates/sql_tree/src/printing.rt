@@ -11,7 +11,8 @@ use std::alloc::{AllocError, Global};
 
 /// Appends a keyword in capitals.
 fn put_capitals(out: &mut Vec<u8>, keyword: Keyword) -> Result<(), AllocError>
-    ensures { OnOk result (out.new.items ≡ out.old.items ++ map to_ascii_uppercase (keyword_text keyword)) }
+    ensures { OnOk result (out.new.items ≡
+        out.old.items ++ map to_ascii_uppercase (keyword_text keyword)) }
 {
     let letters = keyword_text(keyword).as_bytes();
     'letters: for letter in letters {
@@ -73,7 +74,8 @@ fn touch(symbol: &Symbol, next: &Symbol) -> bool
 
 /// Appends the text of a symbol behind another one.
 fn put_behind(out: &mut Vec<u8>, before: &Symbol, symbol: &Symbol) -> Result<(), AllocError>
-    ensures { OnOk result (out.new.items ≡ out.old.items ++ (gap before.now symbol.now ++ symbol_text symbol.now)) }
+    ensures { OnOk result (out.new.items ≡
+        out.old.items ++ (gap before.now symbol.now ++ symbol_text symbol.now)) }
 {
     if !touch(before, symbol) {
         out.push(b' ')?;

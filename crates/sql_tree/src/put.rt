@@ -81,7 +81,8 @@ pub(crate) fn put_separated<T: Form>(
     parts: &[T],
     between: Sign,
 ) -> Result<(), AllocError>
-    ensures { OnOk result (out.new.items ≡ out.old.items ++ separated (sign_symbol between) T.form parts.now) }
+    ensures { OnOk result (out.new.items ≡
+        out.old.items ++ separated (sign_symbol between) T.form parts.now) }
 {
     let [first, others @ ..] = parts else {
         return Ok(());

@@ -3,7 +3,7 @@
 ghost use Rattle.std.specs.Prelude.{◌≡◌, false, IfOk, IfSome, IfNone};
 ghost use Rattle.cube_language.specs.Symbols.{symbols_of};
 ghost use Rattle.sql_tree.specs.Places.{AreIn, BeginsWith, IsRest};
-ghost use Rattle.sql_tree.specs.Reading.{Gives, expect, stands_first, read_count, read_name, read_number, read_size, read_text, read_value};
+ghost use Rattle.sql_tree.specs.Reading.{ReadsAs, Skips, expect, stands_first, read_count, read_name, read_number, read_size, read_text, read_value};
 
 use crate::head::Sign;
 use crate::symbol::{count_in, is_sign, name_in, number_in, size_in, text_in, value_in};
@@ -31,7 +31,7 @@ pub(crate) fn after<'a>(text: &str, tokens: &'a [Token], wanted: Sign) -> Option
 #[tactic(auto, unfolding(crate::specs::Reading::expect))]
 pub(crate) fn sign<'a>(text: &str, tokens: &'a [Token], wanted: Sign) -> Result<&'a [Token], Miss>
     requires { AreIn text.now tokens.now }
-    ensures read { Gives (λ rest. (tt, symbols_of text.now rest.now)) result (expect wanted (symbols_of text.now tokens.now)) }
+    ensures read { Skips (expect wanted) text.now tokens.now result }
     ensures rest { IfOk result (λ rest. IsRest text.now tokens.now rest.now) }
 {
     match tokens {
@@ -48,7 +48,7 @@ pub(crate) fn name<'a>(
     tokens: &'a [Token],
 ) -> Result<(Text, &'a [Token]), Miss>
     requires { AreIn text.now tokens.now }
-    ensures read { Gives (λ x. (x.0, symbols_of text.now x.1.now)) result (read_name (symbols_of text.now tokens.now)) }
+    ensures read { ReadsAs read_name text.now tokens.now result }
     ensures rest { IfOk result (λ x. IsRest text.now tokens.now x.1.now) }
 {
     let [first, rest @ ..] = tokens else {
@@ -68,7 +68,7 @@ pub(crate) fn value<'a>(
     tokens: &'a [Token],
 ) -> Result<(Value, &'a [Token]), Miss>
     requires { AreIn text.now tokens.now }
-    ensures read { Gives (λ x. (x.0, symbols_of text.now x.1.now)) result (read_value (symbols_of text.now tokens.now)) }
+    ensures read { ReadsAs read_value text.now tokens.now result }
     ensures rest { IfOk result (λ x. IsRest text.now tokens.now x.1.now) }
 {
     let [first, rest @ ..] = tokens else {
@@ -88,7 +88,7 @@ pub(crate) fn path<'a>(
     tokens: &'a [Token],
 ) -> Result<(Text, &'a [Token]), Miss>
     requires { AreIn text.now tokens.now }
-    ensures read { Gives (λ x. (x.0, symbols_of text.now x.1.now)) result (read_text (symbols_of text.now tokens.now)) }
+    ensures read { ReadsAs read_text text.now tokens.now result }
     ensures rest { IfOk result (λ x. IsRest text.now tokens.now x.1.now) }
 {
     let [first, rest @ ..] = tokens else {
@@ -104,7 +104,7 @@ pub(crate) fn path<'a>(
 #[tactic(auto, unfolding(crate::specs::Reading::read_count))]
 pub(crate) fn count<'a>(text: &str, tokens: &'a [Token]) -> Result<(u64, &'a [Token]), Miss>
     requires { AreIn text.now tokens.now }
-    ensures read { Gives (λ x. (x.0, symbols_of text.now x.1.now)) result (read_count (symbols_of text.now tokens.now)) }
+    ensures read { ReadsAs read_count text.now tokens.now result }
     ensures rest { IfOk result (λ x. IsRest text.now tokens.now x.1.now) }
 {
     let [first, rest @ ..] = tokens else {
@@ -120,7 +120,7 @@ pub(crate) fn count<'a>(text: &str, tokens: &'a [Token]) -> Result<(u64, &'a [To
 #[tactic(auto, unfolding(crate::specs::Reading::read_number))]
 pub(crate) fn number<'a>(text: &str, tokens: &'a [Token]) -> Result<(i64, &'a [Token]), Miss>
     requires { AreIn text.now tokens.now }
-    ensures read { Gives (λ x. (x.0, symbols_of text.now x.1.now)) result (read_number (symbols_of text.now tokens.now)) }
+    ensures read { ReadsAs read_number text.now tokens.now result }
     ensures rest { IfOk result (λ x. IsRest text.now tokens.now x.1.now) }
 {
     let [first, rest @ ..] = tokens else {
@@ -136,7 +136,7 @@ pub(crate) fn number<'a>(text: &str, tokens: &'a [Token]) -> Result<(i64, &'a [T
 #[tactic(auto, unfolding(crate::specs::Reading::read_size))]
 pub(crate) fn size<'a>(text: &str, tokens: &'a [Token]) -> Result<(u32, &'a [Token]), Miss>
     requires { AreIn text.now tokens.now }
-    ensures read { Gives (λ x. (x.0, symbols_of text.now x.1.now)) result (read_size (symbols_of text.now tokens.now)) }
+    ensures read { ReadsAs read_size text.now tokens.now result }
     ensures rest { IfOk result (λ x. IsRest text.now tokens.now x.1.now) }
 {
     let [first, rest @ ..] = tokens else {

@@ -3,7 +3,7 @@
 ghost use Rattle.std.specs.Prelude.{◌≡◌, [], IfOk};
 ghost use Rattle.cube_language.specs.Symbols.{symbols_of};
 ghost use Rattle.sql_tree.specs.Places.{AreIn, IsRest};
-ghost use Rattle.sql_tree.specs.Reading.{Gives, read_begun, read_by, read_create, read_delete, read_group, read_insert, read_load, read_select, read_selection, read_show, read_statement, read_watch, statement_behind};
+ghost use Rattle.sql_tree.specs.Reading.{ReadsAs, Gives, read_begun, read_by, read_create, read_delete, read_group, read_insert, read_load, read_select, read_selection, read_show, read_statement, read_watch, statement_behind};
 
 use crate::condition::conditions;
 use crate::head::{Selection, Shown, Sign, Verb};
@@ -20,7 +20,7 @@ use std::alloc::Global;
 #[tactic(auto, unfolding(crate::specs::Reading::read_by))]
 fn names<'a>(alloc: Global, text: &str, tokens: &'a [Token]) -> Result<(Names, &'a [Token]), Miss>
     requires { AreIn text.now tokens.now }
-    ensures read { Gives (λ x. (x.0, symbols_of text.now x.1.now)) result (read_by (symbols_of text.now tokens.now)) }
+    ensures read { ReadsAs read_by text.now tokens.now result }
     ensures rest { IfOk result (λ x. IsRest text.now tokens.now x.1.now) }
 {
     let behind = sign(text, tokens, Sign::Keyword(Keyword::By))?;
@@ -31,7 +31,7 @@ fn names<'a>(alloc: Global, text: &str, tokens: &'a [Token]) -> Result<(Names, &
 #[tactic(auto, unfolding(crate::specs::Reading::read_group, crate::specs::Reading::optional))]
 fn group<'a>(alloc: Global, text: &str, tokens: &'a [Token]) -> Result<(Names, &'a [Token]), Miss>
     requires { AreIn text.now tokens.now }
-    ensures read { Gives (λ x. (x.0, symbols_of text.now x.1.now)) result (read_group (symbols_of text.now tokens.now)) }
+    ensures read { ReadsAs read_group text.now tokens.now result }
     ensures rest { IfOk result (λ x. IsRest text.now tokens.now x.1.now) }
 {
     match after(text, tokens, Sign::Keyword(Keyword::Group)) {
@@ -48,7 +48,7 @@ fn selection<'a>(
     tokens: &'a [Token],
 ) -> Result<(Selection, &'a [Token]), Miss>
     requires { AreIn text.now tokens.now }
-    ensures read { Gives (λ x. (x.0, symbols_of text.now x.1.now)) result (read_selection (symbols_of text.now tokens.now)) }
+    ensures read { ReadsAs read_selection text.now tokens.now result }
     ensures rest { IfOk result (λ x. IsRest text.now tokens.now x.1.now) }
 {
     let (items, behind) = listed(alloc, text, tokens, Sign::Comma)?;
@@ -73,7 +73,7 @@ fn select<'a>(
     tokens: &'a [Token],
 ) -> Result<(Statement, &'a [Token]), Miss>
     requires { AreIn text.now tokens.now }
-    ensures read { Gives (λ x. (x.0, symbols_of text.now x.1.now)) result (read_select (symbols_of text.now tokens.now)) }
+    ensures read { ReadsAs read_select text.now tokens.now result }
     ensures rest { IfOk result (λ x. IsRest text.now tokens.now x.1.now) }
 {
     let (asked, behind) = selection(alloc, text, tokens)?;
@@ -100,7 +100,7 @@ fn watch<'a>(
     tokens: &'a [Token],
 ) -> Result<(Statement, &'a [Token]), Miss>
     requires { AreIn text.now tokens.now }
-    ensures read { Gives (λ x. (x.0, symbols_of text.now x.1.now)) result (read_watch (symbols_of text.now tokens.now)) }
+    ensures read { ReadsAs read_watch text.now tokens.now result }
     ensures rest { IfOk result (λ x. IsRest text.now tokens.now x.1.now) }
 {
     let behind = sign(text, tokens, Sign::Keyword(Keyword::Select))?;
@@ -122,7 +122,7 @@ fn create<'a>(
     tokens: &'a [Token],
 ) -> Result<(Statement, &'a [Token]), Miss>
     requires { AreIn text.now tokens.now }
-    ensures read { Gives (λ x. (x.0, symbols_of text.now x.1.now)) result (read_create (symbols_of text.now tokens.now)) }
+    ensures read { ReadsAs read_create text.now tokens.now result }
     ensures rest { IfOk result (λ x. IsRest text.now tokens.now x.1.now) }
 {
     let behind = sign(text, tokens, Sign::Keyword(Keyword::Cube))?;
@@ -136,7 +136,7 @@ fn create<'a>(
 #[tactic(auto, unfolding(crate::specs::Reading::read_show))]
 fn show<'a>(text: &str, tokens: &'a [Token]) -> Result<(Statement, &'a [Token]), Miss>
     requires { AreIn text.now tokens.now }
-    ensures read { Gives (λ x. (x.0, symbols_of text.now x.1.now)) result (read_show (symbols_of text.now tokens.now)) }
+    ensures read { ReadsAs read_show text.now tokens.now result }
     ensures rest { IfOk result (λ x. IsRest text.now tokens.now x.1.now) }
 {
     let [first, rest @ ..] = tokens else {
@@ -157,7 +157,7 @@ fn insert<'a>(
     tokens: &'a [Token],
 ) -> Result<(Statement, &'a [Token]), Miss>
     requires { AreIn text.now tokens.now }
-    ensures read { Gives (λ x. (x.0, symbols_of text.now x.1.now)) result (read_insert (symbols_of text.now tokens.now)) }
+    ensures read { ReadsAs read_insert text.now tokens.now result }
     ensures rest { IfOk result (λ x. IsRest text.now tokens.now x.1.now) }
 {
     let behind = sign(text, tokens, Sign::Keyword(Keyword::Into))?;
@@ -175,7 +175,7 @@ fn load<'a>(
     tokens: &'a [Token],
 ) -> Result<(Statement, &'a [Token]), Miss>
     requires { AreIn text.now tokens.now }
-    ensures read { Gives (λ x. (x.0, symbols_of text.now x.1.now)) result (read_load (symbols_of text.now tokens.now)) }
+    ensures read { ReadsAs read_load text.now tokens.now result }
     ensures rest { IfOk result (λ x. IsRest text.now tokens.now x.1.now) }
 {
     let (cube, behind) = name(alloc, text, tokens)?;
@@ -194,7 +194,7 @@ fn delete<'a>(
     tokens: &'a [Token],
 ) -> Result<(Statement, &'a [Token]), Miss>
     requires { AreIn text.now tokens.now }
-    ensures read { Gives (λ x. (x.0, symbols_of text.now x.1.now)) result (read_delete (symbols_of text.now tokens.now)) }
+    ensures read { ReadsAs read_delete text.now tokens.now result }
     ensures rest { IfOk result (λ x. IsRest text.now tokens.now x.1.now) }
 {
     let behind = sign(text, tokens, Sign::Keyword(Keyword::From))?;
@@ -211,7 +211,7 @@ fn formed<'a>(
     verb: Verb,
 ) -> Result<(Statement, &'a [Token]), Miss>
     requires { AreIn text.now tokens.now }
-    ensures read { Gives (λ x. (x.0, symbols_of text.now x.1.now)) result (statement_behind verb (symbols_of text.now tokens.now)) }
+    ensures read { ReadsAs (statement_behind verb) text.now tokens.now result }
     ensures rest { IfOk result (λ x. IsRest text.now tokens.now x.1.now) }
 {
     match verb {
@@ -238,7 +238,7 @@ fn begun<'a>(
     tokens: &'a [Token],
 ) -> Result<(Statement, &'a [Token]), Miss>
     requires { AreIn text.now tokens.now }
-    ensures read { Gives (λ x. (x.0, symbols_of text.now x.1.now)) result (read_begun (symbols_of text.now tokens.now)) }
+    ensures read { ReadsAs read_begun text.now tokens.now result }
     ensures rest { IfOk result (λ x. IsRest text.now tokens.now x.1.now) }
 {
     let [first, behind @ ..] = tokens else {

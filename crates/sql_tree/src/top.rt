@@ -3,7 +3,7 @@
 ghost use Rattle.std.specs.Prelude.{◌≡◌, IfOk};
 ghost use Rattle.cube_language.specs.Symbols.{symbols_of};
 ghost use Rattle.sql_tree.specs.Places.{AreIn, IsRest};
-ghost use Rattle.sql_tree.specs.Reading.{Gives, bound_behind, read_bound, read_direction, read_having, read_key, read_keys, read_limit, read_order, read_test};
+ghost use Rattle.sql_tree.specs.Reading.{ReadsAs, bound_behind, read_bound, read_direction, read_having, read_key, read_keys, read_limit, read_order, read_test};
 
 use crate::head::{Operator, Sign};
 use crate::item::{aggregate, item};
@@ -22,7 +22,7 @@ fn bounded<'a>(
     operator: Operator,
 ) -> Result<(Bound, &'a [Token]), Miss>
     requires { AreIn text.now tokens.now }
-    ensures read { Gives (λ x. (x.0, symbols_of text.now x.1.now)) result (bound_behind operator (symbols_of text.now tokens.now)) }
+    ensures read { ReadsAs (bound_behind operator) text.now tokens.now result }
     ensures rest { IfOk result (λ x. IsRest text.now tokens.now x.1.now) }
 {
     match operator {
@@ -47,7 +47,7 @@ fn bounded<'a>(
 #[tactic(auto, unfolding(crate::specs::Reading::read_bound))]
 fn bound<'a>(alloc: Global, text: &str, tokens: &'a [Token]) -> Result<(Bound, &'a [Token]), Miss>
     requires { AreIn text.now tokens.now }
-    ensures read { Gives (λ x. (x.0, symbols_of text.now x.1.now)) result (read_bound (symbols_of text.now tokens.now)) }
+    ensures read { ReadsAs read_bound text.now tokens.now result }
     ensures rest { IfOk result (λ x. IsRest text.now tokens.now x.1.now) }
 {
     let [first, behind @ ..] = tokens else {
@@ -82,7 +82,7 @@ pub(crate) fn having<'a>(
     tokens: &'a [Token],
 ) -> Result<(Tests, &'a [Token]), Miss>
     requires { AreIn text.now tokens.now }
-    ensures read { Gives (λ x. (x.0, symbols_of text.now x.1.now)) result (read_having (symbols_of text.now tokens.now)) }
+    ensures read { ReadsAs read_having text.now tokens.now result }
     ensures rest { IfOk result (λ x. IsRest text.now tokens.now x.1.now) }
 {
     match after(text, tokens, Sign::Keyword(Keyword::Having)) {
@@ -95,7 +95,8 @@ pub(crate) fn having<'a>(
 #[tactic(auto, unfolding(crate::specs::Reading::read_direction))]
 fn direction<'a>(text: &str, tokens: &'a [Token]) -> (Direction, &'a [Token])
     requires { AreIn text.now tokens.now }
-    ensures read { read_direction (symbols_of text.now tokens.now) ≡ Ok (result.0, symbols_of text.now result.1.now) }
+    ensures read { read_direction (symbols_of text.now tokens.now)
+        ≡ Ok (result.0, symbols_of text.now result.1.now) }
     ensures rest { IsRest text.now tokens.now result.1.now }
 {
     let [first, rest @ ..] = tokens else {
@@ -130,7 +131,7 @@ fn keys<'a>(
     tokens: &'a [Token],
 ) -> Result<(WrittenKeys, &'a [Token]), Miss>
     requires { AreIn text.now tokens.now }
-    ensures read { Gives (λ x. (x.0, symbols_of text.now x.1.now)) result (read_keys (symbols_of text.now tokens.now)) }
+    ensures read { ReadsAs read_keys text.now tokens.now result }
     ensures rest { IfOk result (λ x. IsRest text.now tokens.now x.1.now) }
 {
     let behind = sign(text, tokens, Sign::Keyword(Keyword::By))?;
@@ -145,7 +146,7 @@ pub(crate) fn order<'a>(
     tokens: &'a [Token],
 ) -> Result<(WrittenKeys, &'a [Token]), Miss>
     requires { AreIn text.now tokens.now }
-    ensures read { Gives (λ x. (x.0, symbols_of text.now x.1.now)) result (read_order (symbols_of text.now tokens.now)) }
+    ensures read { ReadsAs read_order text.now tokens.now result }
     ensures rest { IfOk result (λ x. IsRest text.now tokens.now x.1.now) }
 {
     match after(text, tokens, Sign::Keyword(Keyword::Order)) {
@@ -158,7 +159,7 @@ pub(crate) fn order<'a>(
 #[tactic(auto, unfolding(crate::specs::Reading::read_limit, crate::specs::Reading::read_some_count, crate::specs::Reading::optional))]
 pub(crate) fn limit<'a>(text: &str, tokens: &'a [Token]) -> Result<(Option<u64>, &'a [Token]), Miss>
     requires { AreIn text.now tokens.now }
-    ensures read { Gives (λ x. (x.0, symbols_of text.now x.1.now)) result (read_limit (symbols_of text.now tokens.now)) }
+    ensures read { ReadsAs read_limit text.now tokens.now result }
     ensures rest { IfOk result (λ x. IsRest text.now tokens.now x.1.now) }
 {
     match after(text, tokens, Sign::Keyword(Keyword::Limit)) {
