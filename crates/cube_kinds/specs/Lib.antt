@@ -41,3 +41,14 @@ pub use Rattle.cube_journal.specs.JournalLines
 pub use Rattle.cube_journal.specs.Refusals
 pub use Rattle.cube_journal.specs.Replies
 pub use Rattle.cube_journal.specs.WholeText
+pub use Rattle.cube_run.specs.RunRecords
+pub use Rattle.cube_run.specs.SessionStates
+pub use Rattle.cube_run.specs.SessionSteps
+pub use Rattle.cube_run.specs.StatementEntries
+pub use Rattle.cube_run.specs.LoadedRows
+pub use Rattle.cube_run.specs.StepOutcomes
+pub use Rattle.cube_run.specs.Merge
+pub use Rattle.cube_run.specs.RunTransactions
+pub use Rattle.cube_run.specs.RunText
+pub use Rattle.cube_run.specs.FinalNames
+pub use Rattle.cube_run.specs.VisitsReport
