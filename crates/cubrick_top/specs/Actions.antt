@@ -76,9 +76,13 @@ insert_action cubes cube [] = None
 insert_action cubes cube (values ∷ []) = option_and_then (λ d. store_on d values) (cube_named cubes cube)
 insert_action cubes cube (values ∷ more ∷ rows) = None
 
+-- What a SELECT of the sum of a metric of a cube does.
+abbrev pub sum_action : List Decl → List ℕ → List ℕ → Option Action
+sum_action cubes metric cube = option_and_then (λ d. ask_on d metric) (cube_named cubes cube)
+
 -- What a SELECT does: it runs with one sum, and without conditions and groups.
 abbrev pub select_action : List Decl → List Item → List ℕ → List Cond → List (List ℕ) → Option Action
-select_action cubes (Sum metric ∷ []) cube [] [] = option_and_then (λ d. ask_on d metric) (cube_named cubes cube)
+select_action cubes (Sum metric ∷ []) cube [] [] = sum_action cubes metric cube
 select_action cubes items cube conds group = None
 
 -- What a statement does, or None where it does not run.
