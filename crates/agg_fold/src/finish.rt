@@ -111,7 +111,8 @@ fn run_lines(
     named: &[Named],
 ) -> Result<Vec<Line>, AllocError>
     requires { HasNamed lists.now query.now groups.now named.now }
-    ensures { IfOk result (λ lines. AreTableLines lists.now query.now groups.now named.now lines.items) }
+    ensures { IfOk result
+        (λ lines. AreTableLines lists.now query.now groups.now named.now lines.items) }
 {
     let mut lines = Vec::new(alloc);
     let mut rest = named;

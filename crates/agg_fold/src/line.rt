@@ -1,12 +1,12 @@
 //! The line of a group in an answer.
 
 ghost use Rattle.std.specs.Prelude.{◌≡◌, ◌<◌, ◌^◌, ◌*◌, ◌/◌, ◌%◌, ℕ, ◌≢◌, [], List, length, map, IfOk, unwrap_or, slice_get};
-ghost use Rattle.cube_values.specs.Answer.{field_of, average};
+ghost use Rattle.cube_values.specs.Answer.{field_of};
 ghost use Rattle.agg_fold.specs.Coded.{value_for};
 ghost use Rattle.agg_fold.specs.Lines.{decoded_key, key_field, tally_field, field_for, fields_for, empty_field};
 
 use crate::tally::Tally;
-use cube_values::{BoundItem, BoundQuery, Field, Line, Text, TextLists, Texts, Value};
+use cube_values::{BoundItem, BoundQuery, Field, Line, Text, TextLists, Texts, Value, average};
 use std::alloc::{AllocError, Global};
 
 /// What a coordinate stands for.
@@ -47,39 +47,6 @@ pub fn decoded_key(
         values.push(value_of_dim(alloc, lists, group[i], key[i])?)?;
     }
     Ok(values)
-}
-
-/// A sum divided by a count, cut toward zero to four decimals.
-fn average(sum: i128, count: u64) -> Field
-    requires { 0 < count }
-    ensures { result ≡ average sum count }
-{
-    let all = sum.unsigned_abs();
-    let whole = whole_part(all, count);
-    let four = ten_thousandths(all, count);
-    let is_zero = whole == 0 && four == 0;
-    Field::Decimal {
-        neg: sum < 0 && !is_zero,
-        whole,
-        four,
-    }
-}
-
-/// The whole part of a quotient.
-fn whole_part(all: u128, count: u64) -> u128
-    requires { 0 < count }
-    ensures { result ≡ all * 10000 / count / 10000 }
-{
-    all / u128::from(count)
-}
-
-/// The four decimals of a quotient. The product is of the remainder, and so below 2 ^ 78.
-fn ten_thousandths(all: u128, count: u64) -> u16
-    requires { 0 < count }
-    ensures { result ≡ all * 10000 / count % 10000 }
-{
-    let count = u128::from(count);
-    (all % count * 10_000 / count) as u16
 }
 
 /// The value of a dimension in a key.

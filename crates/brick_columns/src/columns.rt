@@ -101,7 +101,8 @@ impl Columns {
         requires { length bits.now.bits ≡ length self.old.rows }
         ensures layout { self.new.layout ≡ self.old.layout }
         ensures rows { self.new.rows ≡ items_where_true bits.now.bits self.old.rows }
-        ensures room { length self.new.rows + self.new.spare ≡ length self.old.rows + self.old.spare }
+        ensures room { length self.new.rows + self.new.spare
+            ≡ length self.old.rows + self.old.spare }
         ensures spare { self.old.spare ≤ self.new.spare }
     {
         keep_each(self.offsets.as_mut_slice(), bits);

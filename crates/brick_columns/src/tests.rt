@@ -91,7 +91,8 @@ fn columns_for(
     ranges: &[u32],
     metrics: u32,
 ) -> Result<Columns, AllocError>
-    ensures { IfOk result (λ made. made.layout ≡ record { ranges = ranges.now; metrics = metrics }) }
+    ensures { IfOk result
+        (λ made. made.layout ≡ record { ranges = ranges.now; metrics = metrics }) }
 {
     let mut sizes = Vec::new(alloc);
     for range in ranges {
@@ -232,7 +233,8 @@ fn keep(
 
 // Columns of regions in ranges of two and genders in ranges of one, with likes and comments.
 fn visits(rt: &impl Abort, alloc: Global) -> Result<Columns, AllocError>
-    ensures { IfOk result (λ made. made.layout ≡ record { ranges = 2 ∷ 1 ∷ []; metrics = 2 }) }
+    ensures { IfOk result
+        (λ made. made.layout ≡ record { ranges = 2 ∷ 1 ∷ []; metrics = 2 }) }
 {
     let rows = [
         ([1, 0], [5, 0]),

@@ -40,7 +40,8 @@ high_bits x = x / 2 ^ 33
 -- The region, the day and the likes that the high bits of a number give, as a line of a file.
 abbrev pub row_line : ℕ → List ℕ
 row_line bits =
-    codes "r" ++ (decimal (bits % 8) ++ (codes "," ++ (decimal ((bits / 8) % 365) ++ (codes "," ++ (decimal ((bits / 2920) % 100) ++ codes "\n")))))
+    codes "r" ++ (decimal (bits % 8) ++ (codes ","
+    ++ (decimal ((bits / 8) % 365) ++ (codes "," ++ (decimal ((bits / 2920) % 100) ++ codes "\n")))))
 
 -- The line of row k, from 0, of n rows, which are the seed too.
 abbrev pub row_text : ℕ → ℕ → List ℕ

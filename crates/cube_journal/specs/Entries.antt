@@ -25,6 +25,24 @@ session_of (entry.Idle epoch) = None
 session_of (entry.Safe epoch) = None
 session_of (entry.RoundLost epoch cause) = None
 
+-- The statement of an entry; the flusher's have none.
+abbrev pub statement_of : JournalEntry → Option ℕ
+statement_of (entry.Begin session statement epoch deps) = Some statement
+statement_of (entry.Read session statement epoch) = Some statement
+statement_of (entry.ReadEnd session statement) = Some statement
+statement_of (entry.Committed session statement epoch) = Some statement
+statement_of (entry.Aborted session statement epoch cause) = Some statement
+statement_of (entry.Refused session statement code) = Some statement
+statement_of (entry.Cleared session statement) = Some statement
+statement_of (entry.Show session statement) = Some statement
+statement_of (entry.Flushed session statement) = Some statement
+statement_of (entry.Purged session statement epoch) = Some statement
+statement_of (entry.Cube session statement epoch) = Some statement
+statement_of (entry.Round epoch) = None
+statement_of (entry.Idle epoch) = None
+statement_of (entry.Safe epoch) = None
+statement_of (entry.RoundLost epoch cause) = None
+
 -- An entry is one of this session.
 abbrev pub is_of_session : ℕ → JournalEntry → Bool
 is_of_session session e = option_map_or (λ s. s == session) (session_of e) false

@@ -15,7 +15,8 @@ pub fn replies_as_written()
     ensures average { reply_text (Rows 4 ((Decimal true 0 7 ∷ []) ∷ []))
         ≡ codes "rows 1 epoch 4\n-0.0007\n" }
     ensures stored { reply_text (Stored 1 2) ≡ codes "stored 1 epoch 2\n" }
-    ensures loaded { reply_text (Loaded 2 1 (record { number = 4; why = Column (codes "x") NotText } ∷ []) 3)
+    ensures loaded { reply_text
+        (Loaded 2 1 (record { number = 4; why = Column (codes "x") NotText } ∷ []) 3)
         ≡ codes "stored 2 rejected 1 epoch 3\nreject 4 column x NotText\n" }
     ensures dropped { reply_text (Dropped 2) ≡ codes "dropped epoch 2\n" }
     ensures begun { reply_text (Begun 2) ≡ codes "begun 2\n" }

@@ -16,6 +16,7 @@ pub use Rattle.cube_values.specs.Batches
 pub use Rattle.cube_values.specs.Rooms
 pub use Rattle.cube_language.specs.Keywords
 pub use Rattle.cube_language.specs.Names
+pub use Rattle.cube_language.specs.Columns
 pub use Rattle.cube_language.specs.Cubes
 pub use Rattle.cube_language.specs.CubesText
 pub use Rattle.cube_language.specs.Quotes
@@ -31,6 +32,7 @@ pub use Rattle.cube_language.specs.SameItems
 pub use Rattle.cube_language.specs.ColumnUses
 pub use Rattle.cube_language.specs.RowFaults
 pub use Rattle.cube_language.specs.Misfits
+pub use Rattle.cube_language.specs.ResolvedNames
 pub use Rattle.cube_journal.specs.Entries
 pub use Rattle.cube_journal.specs.Counters
 pub use Rattle.cube_journal.specs.Legal
@@ -39,3 +41,14 @@ pub use Rattle.cube_journal.specs.JournalLines
 pub use Rattle.cube_journal.specs.Refusals
 pub use Rattle.cube_journal.specs.Replies
 pub use Rattle.cube_journal.specs.WholeText
+pub use Rattle.cube_run.specs.RunRecords
+pub use Rattle.cube_run.specs.SessionStates
+pub use Rattle.cube_run.specs.SessionSteps
+pub use Rattle.cube_run.specs.StatementEntries
+pub use Rattle.cube_run.specs.LoadedRows
+pub use Rattle.cube_run.specs.StepOutcomes
+pub use Rattle.cube_run.specs.Merge
+pub use Rattle.cube_run.specs.RunTransactions
+pub use Rattle.cube_run.specs.RunText
+pub use Rattle.cube_run.specs.FinalNames
+pub use Rattle.cube_run.specs.VisitsReport

@@ -1,5 +1,5 @@
 //! Everything that the definitions and the refusals speak of, from one place: the values of cubes, the
-//! language of declarations and statements, and replies.
+//! language of declarations and statements, and the journal with its refusals and replies.
 #![tactic(auto)]
 
 pub use cube_journal::AbortCause;
@@ -19,18 +19,24 @@ pub use cube_journal::one_more_entry;
 pub use cube_journal::refusals_as_written;
 pub use cube_journal::replies_as_written;
 pub use cube_language::BadRow;
+pub use cube_language::Column;
+pub use cube_language::Columns;
 pub use cube_language::Cond;
 pub use cube_language::Conds;
 pub use cube_language::CubesFault;
 pub use cube_language::Decl;
 pub use cube_language::DimDecl;
 pub use cube_language::DimDecls;
+pub use cube_language::Direction;
 pub use cube_language::Item;
 pub use cube_language::Items;
 pub use cube_language::KEYWORDS;
 pub use cube_language::Key;
 pub use cube_language::Keys;
 pub use cube_language::Keyword;
+pub use cube_language::MOST_CUBES;
+pub use cube_language::MOST_STATEMENT_BYTES;
+pub use cube_language::MOST_STATEMENTS;
 pub use cube_language::Misfit;
 pub use cube_language::NAME_BYTES;
 pub use cube_language::Names;
@@ -40,6 +46,7 @@ pub use cube_language::Reason;
 pub use cube_language::SchemaFault;
 pub use cube_language::ScriptFault;
 pub use cube_language::Statement;
+pub use cube_language::Symbol;
 pub use cube_language::Syntax;
 pub use cube_language::TEXT_BYTES;
 pub use cube_language::Test;
@@ -49,6 +56,8 @@ pub use cube_language::TokenFault;
 pub use cube_language::TokenKind;
 pub use cube_language::Tokens;
 pub use cube_language::Tuples;
+pub use cube_language::WrittenKey;
+pub use cube_language::WrittenKeys;
 pub use cube_language::begins_name;
 pub use cube_language::continues_name;
 pub use cube_language::is_keyword;
@@ -62,6 +71,11 @@ pub use cube_language::put_quoted;
 pub use cube_language::put_u64;
 pub use cube_language::put_u128;
 pub use cube_language::spells;
+pub use cube_language::text_of;
+pub use cube_run::bounds_never_fall;
+pub use cube_run::entries_tell_the_outcome;
+pub use cube_run::one_journal_one_text;
+pub use cube_run::visits_report_worked;
 pub use cube_values::Bits;
 pub use cube_values::Bound;
 pub use cube_values::BoundItem;

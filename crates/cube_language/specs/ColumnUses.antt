@@ -1,6 +1,6 @@
 -- The columns that a statement uses, and which uses a cube does not allow.
 -- Source: this project's own.
-use Rattle.std.specs.Prelude.{ℕ, Bool, true, false, not, ◌||◌, List, [], ◌∷◌, ◌++◌, map, filter_map, Option, Some, None, find, if◌then◌else◌}
+use Rattle.std.specs.Prelude.{ℕ, Bool, true, false, not, ◌||◌, List, [], ◌∷◌, ◌++◌, map, Option, find, if◌then◌else◌}
 use Rattle.std.specs.List.{list_any, flat_map}
 use Rattle.std.specs.Option.{option_map, option_map_or}
 use Rattle.std.specs.Str.{bytes_eq}
@@ -47,7 +47,8 @@ group_use name = record { name = name; purpose = Grouping }
 
 -- The columns of a statement, as they come in its text. A condition has the place of its column.
 abbrev pub column_uses : Statement → List ColumnUse
-column_uses s = flat_map item_uses (items_of s) ++ (map cond_use (conds_of s) ++ (map group_use (group_of s) ++ flat_map item_uses (asked_items s)))
+column_uses s = flat_map item_uses (items_of s)
+    ++ (map cond_use (conds_of s) ++ (map group_use (group_of s) ++ flat_map item_uses (asked_items s)))
 
 -- The dimension of a name, if the cube has one.
 abbrev pub dim_named : Decl → List ℕ → Option DimDecl

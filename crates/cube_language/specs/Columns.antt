@@ -23,4 +23,5 @@ column_metric (Metric name) = Some name
 
 -- The cube that columns declare: its dimensions and its metrics, each in their order.
 abbrev pub decl_of : List ℕ → List Column → Decl
-decl_of name columns = record { name = name; dims = filter_map column_dim columns; metrics = filter_map column_metric columns }
+decl_of name columns =
+    record { name = name; dims = filter_map column_dim columns; metrics = filter_map column_metric columns }

@@ -19,7 +19,9 @@ kind_text text = if text then codes "text" else codes "int"
 -- `dim NAME KIND CARDINALITY RANGE`
 abbrev pub dim_text : DimDecl → List ℕ
 dim_text d =
-    codes "dim " ++ (d.name ++ (codes " " ++ (kind_text d.text ++ (codes " " ++ (decimal d.cardinality ++ (codes " " ++ (decimal d.range ++ codes "\n")))))))
+    codes "dim " ++ (d.name ++ (codes " "
+    ++ (kind_text d.text ++ (codes " "
+    ++ (decimal d.cardinality ++ (codes " " ++ (decimal d.range ++ codes "\n")))))))
 
 -- `metric NAME`
 abbrev pub metric_text : List ℕ → List ℕ
@@ -44,7 +46,8 @@ column_names d = dim_names d.dims ++ d.metrics
 -- The first of names that stands among these or before it already.
 abbrev pub repeated_after : List (List ℕ) → List (List ℕ) → Option (List ℕ)
 repeated_after before [] = None
-repeated_after before (name ∷ names) = if list_any (bytes_eq name) before then Some name else repeated_after (name ∷ before) names
+repeated_after before (name ∷ names) =
+    if list_any (bytes_eq name) before then Some name else repeated_after (name ∷ before) names
 
 -- The first name that stands before already.
 abbrev pub first_repeated : List (List ℕ) → Option (List ℕ)
@@ -103,7 +106,8 @@ first_some (None ∷ others) = first_some others
 -- Why a declaration cannot be stored, or None where it can.
 abbrev pub schema_fault : Decl → Option SchemaFault
 schema_fault d =
-    first_some (duplicate_in d ∷ zero_in d ∷ large_range_in d ∷ many_bricks_in d ∷ many_columns_in d ∷ no_metric_in d ∷ [])
+    first_some (duplicate_in d ∷ zero_in d ∷ large_range_in d ∷ many_bricks_in d ∷ many_columns_in d
+    ∷ no_metric_in d ∷ [])
 
 -- The declaration can be stored.
 abbrev pub IsStorable : Decl → Type 0

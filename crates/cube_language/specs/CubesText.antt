@@ -8,6 +8,7 @@ use Rattle.cube_language.specs.Names.{is_name}
 use Rattle.cube_language.specs.declared.cubes_fault.CubesFault.{CubesFault}
 use Rattle.cube_language.specs.declared.cubes_fault.CubesFault.TheVariants.{NotUtf8, BadLine, DuplicateCube, TooManyCubes, Schema}
 use Rattle.cube_language.specs.declared.cubes_fault.SchemaFault.{SchemaFault}
+use Rattle.cube_language.specs.declared.decl.TheConstants.{MOST_CUBES}
 use Rattle.cube_language.specs.declared.decl.DimDecl.{DimDecl}
 use Rattle.cube_language.specs.declared.decl.Decl.{Decl}
 use Rattle.cube_language.specs.Cubes.{kind_text, first_repeated, schema_fault, IsStorable}
@@ -56,7 +57,8 @@ abbrev pub IsLine : List (List ℕ) → Line → Type 0
 IsLine words Skipped = IsSkipped words
 IsLine words (Cube name) = (words ≡ codes "cube" ∷ name ∷ []) × IsTrue (is_name name)
 IsLine words (Dim d) =
-    (cardinality range : List ℕ) × (words ≡ codes "dim" ∷ d.name ∷ kind_text d.text ∷ cardinality ∷ range ∷ []) × IsTrue (is_name d.name) × IsNumberWord cardinality d.cardinality × IsNumberWord range d.range
+    (cardinality range : List ℕ) × (words ≡ codes "dim" ∷ d.name ∷ kind_text d.text ∷ cardinality ∷ range ∷ [])
+    × IsTrue (is_name d.name) × IsNumberWord cardinality d.cardinality × IsNumberWord range d.range
 IsLine words (Metric name) = (words ≡ codes "metric" ∷ name ∷ []) × IsTrue (is_name name)
 
 -- Each line has the form of the one in its place.
@@ -93,7 +95,11 @@ columns_in lines = take_while (λ line. not (is_cube line)) lines
 abbrev pub cubes_in : List Line → List Decl
 cubes_in [] = []
 cubes_in (Cube name ∷ lines) =
-    record { name = name; dims = filter_map dim_in (columns_in lines); metrics = filter_map metric_in (columns_in lines) } ∷ cubes_in lines
+    record {
+      name = name;
+      dims = filter_map dim_in (columns_in lines);
+      metrics = filter_map metric_in (columns_in lines);
+    } ∷ cubes_in lines
 cubes_in (_ ∷ lines) = cubes_in lines
 
 -- A line that declares a column stands behind one that begins a cube.
@@ -116,7 +122,7 @@ pub record HasLines (text : List ℕ) (lines : List Line) : Type 0 where
 
 -- The most cubes of a text.
 abbrev pub cubes_limit : ℕ
-cubes_limit = 16
+cubes_limit = MOST_CUBES
 
 -- The text declares these cubes.
 pub record Declares (text : List ℕ) (cubes : List Decl) : Type 0 where

@@ -75,7 +75,8 @@ item_form CountAll = Keyword keyword.Count ∷ Open ∷ Star ∷ Close ∷ []
 abbrev pub cond_form : Cond → List Symbol
 cond_form (Equal name wanted) = Word name ∷ Equals ∷ value_form wanted
 cond_form (In name listed) = Word name ∷ Keyword keyword.In ∷ tuple_form listed
-cond_form (Between name first last) = Word name ∷ Keyword keyword.Between ∷ (value_form first ++ Keyword keyword.And ∷ value_form last)
+cond_form (Between name first last) = Word name ∷ Keyword keyword.Between
+    ∷ (value_form first ++ Keyword keyword.And ∷ value_form last)
 
 -- `WHERE cond AND ..`, or nothing where there is no condition.
 abbrev pub where_form : List Cond → List Symbol
@@ -90,7 +91,8 @@ group_form (name ∷ names) = Keyword keyword.Group ∷ Keyword keyword.By ∷ s
 -- `SELECT items FROM cube`, with WHERE and GROUP BY.
 abbrev pub query_form : List Item → List ℕ → List Cond → List (List ℕ) → List Symbol
 query_form items cube conds group =
-    Keyword keyword.Select ∷ (separated Comma item_form items ++ Keyword keyword.From ∷ Word cube ∷ (where_form conds ++ group_form group))
+    Keyword keyword.Select ∷ (separated Comma item_form items
+    ++ Keyword keyword.From ∷ Word cube ∷ (where_form conds ++ group_form group))
 
 -- ---- HAVING, ORDER BY and LIMIT
 
@@ -151,7 +153,8 @@ kind_keyword text = if text then keyword.Text else keyword.Int
 -- `DIM name TEXT cardinality range` and its like, or `METRIC name`.
 abbrev pub column_form : Column → List Symbol
 column_form (column.Dim dim) =
-    Keyword keyword.Dim ∷ Word dim.name ∷ Keyword (kind_keyword dim.text) ∷ Number (pos dim.cardinality) ∷ number_form (pos dim.range)
+    Keyword keyword.Dim ∷ Word dim.name ∷ Keyword (kind_keyword dim.text) ∷ Number (pos dim.cardinality)
+    ∷ number_form (pos dim.range)
 column_form (column.Metric name) = Keyword keyword.Metric ∷ name_form name
 
 -- `CREATE CUBE name (column, ..)`
@@ -162,10 +165,13 @@ create_form name columns = Keyword keyword.Create ∷ Keyword keyword.Cube ∷ W
 
 -- The symbols of a statement as it is printed: without ASC, and with the dimensions of a cube first.
 abbrev pub form_of : Statement → List Symbol
-form_of (Select items cube conds group having order limit) = query_form items cube conds group ++ top_form plain_form having order limit
-form_of (Insert cube rows) = Keyword keyword.Insert ∷ Keyword keyword.Into ∷ Word cube ∷ Keyword keyword.Values ∷ separated Comma tuple_form rows
+form_of (Select items cube conds group having order limit) =
+    query_form items cube conds group ++ top_form plain_form having order limit
+form_of (Insert cube rows) = Keyword keyword.Insert ∷ Keyword keyword.Into ∷ Word cube ∷ Keyword keyword.Values
+    ∷ separated Comma tuple_form rows
 form_of (Load cube path reject) =
-    Keyword keyword.Load ∷ Word cube ∷ Keyword keyword.From ∷ Text path ∷ Keyword keyword.Reject ∷ number_form (pos reject)
+    Keyword keyword.Load ∷ Word cube ∷ Keyword keyword.From ∷ Text path ∷ Keyword keyword.Reject
+    ∷ number_form (pos reject)
 form_of (Delete cube conds) = Keyword keyword.Delete ∷ Keyword keyword.From ∷ Word cube ∷ where_form conds
 form_of Begin = Keyword keyword.Begin ∷ []
 form_of Commit = Keyword keyword.Commit ∷ []
@@ -181,7 +187,8 @@ form_of ShowWatch = Keyword keyword.Show ∷ Keyword keyword.Watch ∷ []
 -- another order.
 abbrev pub IsFormOf : Statement → List Symbol → Type 0
 IsFormOf (Select items cube conds group having order limit) symbols =
-    (keys : List WrittenKey) × (order ≡ map sort_key_of keys) × (symbols ≡ query_form items cube conds group ++ top_form key_form having keys limit)
+    (keys : List WrittenKey) × (order ≡ map sort_key_of keys)
+    × (symbols ≡ query_form items cube conds group ++ top_form key_form having keys limit)
 IsFormOf (CreateCube decl) symbols =
     (columns : List Column) × (decl ≡ decl_of decl.name columns) × (symbols ≡ create_form decl.name columns)
 IsFormOf statement symbols = symbols ≡ form_of statement
@@ -253,7 +260,8 @@ abbrev pub AreProperColumns : List Column → Type 0
 AreProperColumns columns = (0 < length columns) × All IsProperColumn columns
 
 abbrev pub IsProper : Statement → Type 0
-IsProper (Select items cube conds group having order limit) = IsProperQuery items cube conds group × IsProperTop having order limit
+IsProper (Select items cube conds group having order limit) =
+    IsProperQuery items cube conds group × IsProperTop having order limit
 IsProper (Insert cube rows) = IsTrue (is_name cube) × (0 < length rows) × All IsProperTuple rows
 IsProper (Load cube path reject) = IsTrue (is_name cube) × (reject < 2 ^ 63)
 IsProper (Delete cube conds) = IsTrue (is_name cube) × All IsProperCond conds

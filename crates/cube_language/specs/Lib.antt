@@ -16,3 +16,4 @@ pub mod ColumnUses
 pub mod Columns
 pub mod RowFaults
 pub mod Misfits
+pub mod ResolvedNames

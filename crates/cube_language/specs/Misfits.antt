@@ -1,8 +1,7 @@
 -- Why a statement cannot be done on its cube: the first test of the statement and its cube alone that it fails.
 -- Source: Cubrick (VLDB 2016) for ranges of dimensions; the tests and their order are this project's own.
-use Rattle.std.specs.Prelude.{◌≡◌, ◌⊎◌, ℕ, ◌+◌, ◌<◌, ◌/◌, Bool, true, false, not, ◌||◌, ◌&&◌, ◌==◌, nat_lt, List, [], ◌∷◌, ◌++◌, length, map, filter_map, pos, negsuc, Option, Some, None, find, All, if◌then◌else◌}
+use Rattle.std.specs.Prelude.{◌≡◌, ◌⊎◌, ℕ, ◌<◌, ◌/◌, Bool, true, false, not, ◌||◌, List, ◌∷◌, ◌++◌, filter_map, pos, Option, Some, None, find, All}
 use Rattle.std.specs.List.{list_any, list_all}
-use Rattle.std.specs.Option.{option_map, option_map_or}
 use Rattle.std.specs.Str.{bytes_eq}
 use Rattle.cube_values.specs.Regions.{passes}
 use Rattle.cube_values.specs.declared.operation.ValueTest.{ValueTest}
@@ -13,7 +12,6 @@ use Rattle.cube_language.specs.ColumnUses.{unknown_column, wrong_kind}
 use Rattle.cube_language.specs.RowFaults.{first_bad_row}
 use Rattle.cube_language.specs.SameItems.{item_eq}
 use Rattle.cube_language.specs.StatementParts.{items_of, group_of, tested_items, asked_items}
-use Rattle.cube_language.specs.declared.bad_row.BadRow.{BadRow as WhyBad}
 use Rattle.cube_language.specs.declared.decl.Decl.{Decl}
 use Rattle.cube_language.specs.declared.decl.DimDecl.{DimDecl}
 use Rattle.cube_language.specs.declared.misfit.Misfit.{Misfit}
@@ -82,7 +80,8 @@ pub record ShareRange (dim : DimDecl) (x y : ℕ) : Type 0 where
 -- Conditions have each range of a dimension of numbers wholly or not at all.
 abbrev pub HaveWholeRanges : List Cond → DimDecl → Type 0
 HaveWholeRanges conds dim =
-    (x y : ℕ) → ShareRange dim x y → all_pass conds dim.name (value.Int (pos x)) ≡ all_pass conds dim.name (value.Int (pos y))
+    (x y : ℕ) → ShareRange dim x y
+    → all_pass conds dim.name (value.Int (pos x)) ≡ all_pass conds dim.name (value.Int (pos y))
 
 -- The coordinates of texts are not known before: a condition on texts has whole ranges where each range is one
 -- coordinate, and is refused else.

@@ -41,7 +41,8 @@ IsComment bytes rest =
 -- in a row in it is two such parts that touch.
 abbrev pub IsQuoted : List ℕ → List ℕ → Type 0
 IsQuoted bytes rest =
-    (inner : List ℕ) × IsTrue (list_all is_no_quote inner) × ((bytes ≡ codes "'" ++ (inner ++ codes "'")) ⊎ ((bytes ≡ codes "'" ++ inner) × (rest ≡ [])))
+    (inner : List ℕ) × IsTrue (list_all is_no_quote inner)
+    × ((bytes ≡ codes "'" ++ (inner ++ codes "'")) ⊎ ((bytes ≡ codes "'" ++ inner) × (rest ≡ [])))
 
 -- A part at the front of a script, before the rest. A byte by itself is no quote, and no dash before a dash.
 abbrev pub IsPart : ScriptPart → List ℕ → Type 0
@@ -63,4 +64,5 @@ is_blank (Other byte) = is_space byte
 
 -- A gap before the rest: white space and comments.
 abbrev pub IsGap : List ℕ → List ℕ → Type 0
-IsGap gap rest = (parts : List ScriptPart) × IsTrue (list_all is_blank parts) × (gap ≡ flat_map part_bytes parts) × AreParts (gap ++ rest) parts rest
+IsGap gap rest = (parts : List ScriptPart) × IsTrue (list_all is_blank parts) × (gap ≡ flat_map part_bytes parts)
+    × AreParts (gap ++ rest) parts rest

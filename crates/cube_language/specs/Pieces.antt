@@ -3,6 +3,7 @@
 use Rattle.std.specs.Prelude.{◌≡◌, ℕ, ◌+◌, ◌<◌, ◌≤◌, Bool, false, ◌==◌, nat_lt, List, [], ◌∷◌, ◌++◌, length, take_while, sum_by, Some, IsUtf8, All, if◌then◌else◌}
 use Rattle.std.specs.List.{list_all, slice_split, position_from}
 use Rattle.std.specs.Str.{IsValidUpTo}
+use Rattle.cube_language.specs.declared.piece.TheConstants.{MOST_STATEMENTS, MOST_STATEMENT_BYTES}
 use Rattle.cube_language.specs.declared.piece.Piece.{Piece}
 use Rattle.cube_language.specs.declared.piece.ScriptFault.{ScriptFault}
 use Rattle.cube_language.specs.declared.piece.ScriptFault.TheVariants.{NotUtf8, TooManyStatements, StatementTooLong}
@@ -28,18 +29,20 @@ piece_at place parts = record { start = place + bytes_in (take_while is_blank pa
 abbrev pub pieces_from : ℕ → List (List ScriptPart) → List Piece
 pieces_from place [] = []
 pieces_from place (parts ∷ others) =
-    (if list_all is_blank parts then [] else piece_at place parts ∷ []) ++ pieces_from (place + bytes_in parts + 1) others
+    (if list_all is_blank parts then [] else piece_at place parts ∷ [])
+    ++ pieces_from (place + bytes_in parts + 1) others
 
 -- The script has its statements at these places.
 abbrev pub Splits : List ℕ → List Piece → Type 0
-Splits script pieces = (parts : List ScriptPart) × AreParts script parts [] × (pieces ≡ pieces_from 0 (slice_split is_end parts))
+Splits script pieces = (parts : List ScriptPart) × AreParts script parts []
+    × (pieces ≡ pieces_from 0 (slice_split is_end parts))
 
 -- The most statements of a script, and the most bytes of a statement.
 abbrev pub statements_limit : ℕ
-statements_limit = 65536
+statements_limit = MOST_STATEMENTS
 
 abbrev pub statement_limit : ℕ
-statement_limit = 65536
+statement_limit = MOST_STATEMENT_BYTES
 
 -- A statement of too many bytes.
 abbrev pub is_long : Piece → Bool
@@ -52,10 +55,24 @@ pub record IsScript (script : List ℕ) (pieces : List Piece) : Type 0 where
   pub few : length pieces ≤ statements_limit
   pub short : All (λ piece. piece.end ≤ piece.start + statement_limit) pieces
 
--- The script has this fault: it is not UTF-8; or it has too many statements; or else the statement of this
--- number is the first that is too long.
+-- The script is UTF-8 and has too many statements.
+pub record HasManyStatements (script : List ℕ) : Type 0 where
+  pub text : IsUtf8 script
+  pub pieces : List Piece
+  pub splits : Splits script pieces
+  pub many : statements_limit < length pieces
+
+-- The script is UTF-8, has no more statements than it may, and the one of this number, counted from 1, is the
+-- first that is too long.
+pub record HasLongStatement (script : List ℕ) (statement : ℕ) : Type 0 where
+  pub text : IsUtf8 script
+  pub pieces : List Piece
+  pub splits : Splits script pieces
+  pub few : length pieces ≤ statements_limit
+  pub first : position_from is_long 1 pieces ≡ Some statement
+
+-- The script has this fault, the first that applies.
 abbrev pub HasScriptFault : List ℕ → ScriptFault → Type 0
 HasScriptFault script (NotUtf8 at) = IsValidUpTo script at
-HasScriptFault script TooManyStatements = IsUtf8 script × (pieces : List Piece) × Splits script pieces × (statements_limit < length pieces)
-HasScriptFault script (StatementTooLong statement) =
-    IsUtf8 script × (pieces : List Piece) × Splits script pieces × (length pieces ≤ statements_limit) × (position_from is_long 1 pieces ≡ Some statement)
+HasScriptFault script TooManyStatements = HasManyStatements script
+HasScriptFault script (StatementTooLong statement) = HasLongStatement script statement

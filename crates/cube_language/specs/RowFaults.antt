@@ -1,6 +1,6 @@
 -- Which rows a cube can store.
 -- Source: this project's own.
-use Rattle.std.specs.Prelude.{ℕ, ◌+◌, not, ◌&&◌, ◌==◌, nat_lt, List, [], ◌∷◌, length, pos, negsuc, ℤ, Option, Some, None, if◌then◌else◌}
+use Rattle.std.specs.Prelude.{ℕ, ◌+◌, ◌==◌, nat_lt, List, [], ◌∷◌, length, pos, negsuc, ℤ, Option, Some, None, if◌then◌else◌}
 use Rattle.std.specs.Option.{option_map, option_or}
 use Rattle.cube_values.specs.declared.value.Value.{Value}
 use Rattle.cube_values.specs.declared.value.Value.TheVariants.{Text, Int}
@@ -44,12 +44,15 @@ column_fault columns values = None
 -- Why a row cannot be stored: it has too few values or too many, or one that does not fit.
 abbrev pub row_fault : Decl → List Value → Option BadRow
 row_fault d values =
-    if length values == length (columns_of d) then column_fault (columns_of d) values else Some (bad.WrongCount (length values))
+    if length values == length (columns_of d)
+    then column_fault (columns_of d) values
+    else Some (bad.WrongCount (length values))
 
 -- The first row that cannot be stored, with its number, of which the first row has this one.
 abbrev pub bad_row_from : ℕ → Decl → List (List Value) → Option (ℕ × BadRow)
 bad_row_from number d [] = None
-bad_row_from number d (values ∷ rows) = option_or (option_map (λ why. (number, why)) (row_fault d values)) (bad_row_from (number + 1) d rows)
+bad_row_from number d (values ∷ rows) =
+    option_or (option_map (λ why. (number, why)) (row_fault d values)) (bad_row_from (number + 1) d rows)
 
 -- The first row that cannot be stored, counted from 1.
 abbrev pub first_bad_row : Decl → List (List Value) → Option (ℕ × BadRow)

@@ -2,10 +2,8 @@
 use Rattle.std.specs.Prelude.{ℕ, List, [], ◌++◌, map}
 use Rattle.cube_language.specs.declared.statement.Cond.{Cond}
 use Rattle.cube_language.specs.declared.statement.Item.{Item}
-use Rattle.cube_language.specs.declared.statement.Key.{Key}
 use Rattle.cube_language.specs.declared.statement.Statement.{Statement}
 use Rattle.cube_language.specs.declared.statement.Statement.TheVariants.{Select, Delete, Watch}
-use Rattle.cube_language.specs.declared.statement.Test.{Test}
 
 -- The items of a query.
 abbrev pub items_of : Statement → List Item

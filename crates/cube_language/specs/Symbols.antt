@@ -1,9 +1,8 @@
 -- What a token says: a keyword, another word, a number, a text or a mark.
 -- Source: this project's own.
-use Rattle.std.specs.Prelude.{ℕ, ◌-◌, ◌==◌, ◌&&◌, List, [], ◌∷◌, length, take, drop, ℤ, map, if◌then◌else◌}
+use Rattle.std.specs.Prelude.{ℕ, ◌-◌, ◌==◌, ◌&&◌, List, [], ◌∷◌, length, take, drop, map, if◌then◌else◌}
 use Rattle.std.specs.Option.{option_map_or}
 use Rattle.cube_language.specs.Keywords.{keyword_of}
-use Rattle.cube_language.specs.declared.keyword.Keyword.{Keyword as KeywordWord}
 use Rattle.cube_language.specs.declared.symbol.Symbol.{Symbol}
 use Rattle.cube_language.specs.declared.symbol.Symbol.TheVariants.{Keyword, Word, Number, Text, Open, Close, Comma, Equals, Star}
 use Rattle.cube_language.specs.declared.token.Token.{Token}

@@ -55,7 +55,8 @@ pub record Begins (at : ℕ) (bytes : List ℕ) (t : Token) (cut : Cut) : Type 0
 -- The bytes, of which the first has this place, are these tokens, then white space and comments, then the rest.
 abbrev pub AreTokensBefore : ℕ → List ℕ → List Token → List ℕ → Type 0
 AreTokensBefore at bytes [] rest = (gap : List ℕ) × (bytes ≡ gap ++ rest) × IsGap gap rest
-AreTokensBefore at bytes (t ∷ tokens) rest = (cut : Cut) × Begins at bytes t cut × AreTokensBefore t.end cut.rest tokens rest
+AreTokensBefore at bytes (t ∷ tokens) rest = (cut : Cut) × Begins at bytes t cut
+    × AreTokensBefore t.end cut.rest tokens rest
 
 -- The text is these tokens, with white space and comments before, between and behind them.
 abbrev pub AreTokens : List ℕ → List Token → Type 0
@@ -73,9 +74,11 @@ is_mark byte = byte == 40 || (byte == 41 || (byte == 44 || (byte == 61 || byte =
 -- byte has a token that it begins.
 abbrev pub is_stray : List ℕ → Bool
 is_stray [] = false
-is_stray (byte ∷ []) = not (is_space byte || (begins_name byte || (is_ascii_digit byte || (is_mark byte || byte == 39))))
+is_stray (byte ∷ []) = not (is_space byte
+    || (begins_name byte || (is_ascii_digit byte || (is_mark byte || byte == 39))))
 is_stray (byte ∷ next ∷ bytes) =
-    if byte == 45 then not (is_ascii_digit next || next == 45) else not (is_space byte || (begins_name byte || (is_ascii_digit byte || (is_mark byte || byte == 39))))
+    if byte == 45 then not (is_ascii_digit next || next == 45)
+    else not (is_space byte || (begins_name byte || (is_ascii_digit byte || (is_mark byte || byte == 39))))
 
 -- The place of a fault.
 abbrev pub fault_at : TokenFault → ℕ
@@ -88,9 +91,11 @@ abbrev pub IsFault : List ℕ → TokenFault → Type 0
 IsFault bytes (BadByte at) = IsTrue (is_stray bytes)
 IsFault bytes (UnclosedText at) = (text : List ℕ) × (bytes ≡ opened text)
 IsFault bytes (NumberTooWide at) =
-    (number rest : List ℕ) × (bytes ≡ number ++ rest) × IsNumberBefore number rest × (FitsSigned w64 (signed_digits_value 10 number) → ⊥)
+    (number rest : List ℕ) × (bytes ≡ number ++ rest) × IsNumberBefore number rest
+    × (FitsSigned w64 (signed_digits_value 10 number) → ⊥)
 
 -- The first fault of a text: behind some tokens no token stands, but this.
 abbrev pub HasTokenFault : List ℕ → TokenFault → Type 0
 HasTokenFault text fault =
-    (tokens : List Token) × (bad : List ℕ) × AreTokensBefore 0 text tokens bad × IsFault bad fault × (fault_at fault + length bad ≡ length text)
+    (tokens : List Token) × (bad : List ℕ) × AreTokensBefore 0 text tokens bad × IsFault bad fault
+    × (fault_at fault + length bad ≡ length text)

@@ -2,6 +2,9 @@
 
 use cube_values::{Sequence, Text};
 
+/// The most cubes that there can be at once.
+pub const MOST_CUBES: usize = 16;
+
 /// A dimension of a cube.
 #[derive(Clone, Debug, PartialEq, Eq, Drop)]
 pub struct DimDecl {

@@ -20,11 +20,11 @@ mod written;
 
 pub use bad_row::{BadRow, Reason, TEXT_BYTES};
 pub use cubes_fault::{CubesFault, SchemaFault};
-pub use decl::{Column, Columns, Decl, DimDecl, DimDecls, Names};
+pub use decl::{Column, Columns, Decl, DimDecl, DimDecls, MOST_CUBES, Names};
 pub use keyword::{KEYWORDS, Keyword, is_keyword, keyword_of, keyword_text, spells};
 pub use misfit::Misfit;
 pub use name::{NAME_BYTES, begins_name, continues_name, is_name, is_word};
-pub use piece::{Piece, Pieces, ScriptFault};
+pub use piece::{MOST_STATEMENT_BYTES, MOST_STATEMENTS, Piece, Pieces, ScriptFault};
 pub use put::{put_i64, put_i128, put_quoted, put_u64, put_u128};
 pub use statement::{Cond, Conds, Item, Items, Key, Keys, Statement, Test, Tests, Tuples};
 pub use symbol::Symbol;

@@ -3,6 +3,12 @@
 use cube_values::Sequence;
 use thiserror::Error;
 
+/// The most statements of a script.
+pub const MOST_STATEMENTS: usize = 65_536;
+
+/// The most bytes of the text of a statement.
+pub const MOST_STATEMENT_BYTES: usize = 65_536;
+
 /// The text of a statement by its place in the script, in bytes from the script's first.
 #[derive(Clone, Copy, Debug, PartialEq, Eq)]
 pub struct Piece {
@@ -21,10 +27,11 @@ pub enum ScriptFault {
     /// It is not UTF-8; `at` is the place of the first byte that is not well formed.
     #[error("NotUtf8 {at}")]
     NotUtf8 { at: u64 },
-    /// It has more than 65,536 statements.
+    /// It has more than `MOST_STATEMENTS` statements.
     #[error("TooManyStatements")]
     TooManyStatements,
-    /// The text of the statement of this number, counted from 1, has more than 65,536 bytes.
+    /// The text of the statement of this number, counted from 1, has more than
+    /// `MOST_STATEMENT_BYTES` bytes.
     #[error("StatementTooLong {statement}")]
     StatementTooLong { statement: u64 },
 }

@@ -12,7 +12,7 @@ use Rattle.cube_language.specs.declared.decl.DimDecl.{DimDecl}
 use Rattle.cube_language.specs.Cubes.{kind_text}
 use Rattle.cube_language.specs.CubesText.{Line, Skipped, Cube, Dim, Metric, IsLine, IsNumberWord}
 use Rattle.cube_language.specs.Tokens.{is_digits}
-use Rattle.cube_schema.specs.Reading.{◌>>=◌, name_of_word, kind_of_word, number_in, only_word, only_name, dim_words, line_in}
+use Rattle.cube_schema.specs.Reading.{◌>>=◌, name_of_word, kind_of_word, number_of_word, only_word, only_name, dim_words, line_in}
 
 bind_some : {A B : Type 0} (r : Option A) (f : A → Option B) (y : B) → (r >>= f) ≡ Some y → (x : A) × (r ≡ Some x) × (f x ≡ Some y)
 bind_some (Some x) f y e = (x, refl, e)
@@ -59,7 +59,7 @@ kind_of : (text : Bool) → kind_of_word (kind_text text) ≡ Some text
 kind_of true = refl
 kind_of false = refl
 
-number_found : (word : List ℕ) (n : ℕ) → number_in word ≡ Some n → IsNumberWord word n
+number_found : (word : List ℕ) (n : ℕ) → number_of_word word ≡ Some n → IsNumberWord word n
 number_found word n e = elim (cases_Bool (is_digits word)) [
   | inl digits ↦ elim (cases_Bool (nat_lt (digits_value 10 word) (2 ^ 32))) [
     | inl small ↦
@@ -71,7 +71,7 @@ number_found word n e = elim (cases_Bool (is_digits word)) [
   | inr other ↦ let no = rw other at e in absurd cc
 ]
 
-number_of : (word : List ℕ) (n : ℕ) → IsNumberWord word n → number_in word ≡ Some n
+number_of : (word : List ℕ) (n : ℕ) → IsNumberWord word n → number_of_word word ≡ Some n
 number_of word n number =
     let small : digits_value 10 word < 2 ^ 32 = omega (arith, number.1, number.2) in
     rw (number.0, lt-ltb _ _ small) (ap Some number.1)
@@ -90,8 +90,8 @@ dim_found (a ∷ b ∷ c ∷ []) d e = absurd cc
 dim_found (name ∷ kind ∷ cardinality ∷ range ∷ []) d e =
     let n = bind_some (name_of_word name) _ d e in
     let k = bind_some (kind_of_word kind) _ d n.2 in
-    let c = bind_some (number_in cardinality) _ d k.2 in
-    let r = bind_some (number_in range) _ d c.2 in
+    let c = bind_some (number_of_word cardinality) _ d k.2 in
+    let r = bind_some (number_of_word range) _ d c.2 in
     let named = name_found name n.0 n.1 in
     let made : Some (record { name = n.0; text = k.0; cardinality = c.0; range = r.0 }) ≡ Some d = r.2 in
     let is : record { name = n.0; text = k.0; cardinality = c.0; range = r.0 } ≡ d = cc in

@@ -44,8 +44,8 @@ abbrev pub narrow : ℕ → Option ℕ
 narrow n = if nat_lt n (2 ^ 32) then Some n else None
 
 -- A number of 32 bits.
-abbrev pub number_in : List ℕ → Option ℕ
-number_in word = if is_digits word then narrow (digits_value 10 word) else None
+abbrev pub number_of_word : List ℕ → Option ℕ
+number_of_word word = if is_digits word then narrow (digits_value 10 word) else None
 
 -- The line has this first word, and behind it the words of what is left.
 abbrev pub HasWords : List ℕ → Bor (List ℕ) × Bor (List ℕ) → Type 0
@@ -74,8 +74,8 @@ dim_words words = do
   end ← no_word range.1
   named ← name_of_word name.0
   text ← kind_of_word kind.0
-  coords ← number_in cardinality.0
-  length ← number_in range.0
+  coords ← number_of_word cardinality.0
+  length ← number_of_word range.0
   Some (record { name = named; text = text; cardinality = coords; range = length })
 
 -- The line that words say, or None where they have no form.

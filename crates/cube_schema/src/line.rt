@@ -10,7 +10,7 @@ ghost use Rattle.cube_language.specs.Names.{is_name};
 ghost use Rattle.cube_language.specs.CubesText.{words_of};
 ghost use Rattle.cube_language.specs.Tokens.{is_digits};
 ghost use Rattle.cube_schema.specs.Forms.{said_by, dim_of};
-ghost use Rattle.cube_schema.specs.Reading.{only_word, kind_of_word, narrow, number_in, only_name, dim_words, line_in};
+ghost use Rattle.cube_schema.specs.Reading.{only_word, kind_of_word, narrow, number_of_word, only_name, dim_words, line_in};
 
 use crate::words::next_word;
 use cube_language::{DimDecl, is_name, text_of};
@@ -79,7 +79,7 @@ fn parse(digits: &[u8]) -> Option<u32>
 
 /// The number of 32 bits that a word of digits is, with any count of leading zeros.
 fn number_of(word: &[u8]) -> Option<u32>
-    ensures { result ≡ number_in word.now }
+    ensures { result ≡ number_of_word word.now }
 {
     if is_digits(word) { parse(word) } else { None }
 }

@@ -10,13 +10,10 @@ ghost use Rattle.cube_schema.specs.Repeats.{names_lent};
 use crate::gather::{Begun, gather_cubes};
 use crate::repeat::first_repeat;
 use crate::schema::{Schema, check};
-use cube_language::CubesFault;
+use cube_language::{CubesFault, MOST_CUBES};
 use cube_values::CallError;
 use std::alloc::{AllocError, Global};
 use std::str;
-
-/// The most cubes of a text.
-const MOST_CUBES: usize = 16;
 
 fn begun_names(alloc: Global, cubes: &[Begun]) -> Result<Vec<&str>, AllocError>
     ensures { IfOk result (λ names. names_lent names.items ≡ begun_names cubes.now) }

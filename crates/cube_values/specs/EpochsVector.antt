@@ -31,10 +31,10 @@ is_one_with (Mark epoch at) (Mark next more) = epoch == next && at == more
 is_one_with a b = false
 
 -- The entries with one more at the end, which takes the place of the last where the two are one.
-abbrev pub with_entry : List Entry → Entry → List Entry
-with_entry [] new = new ∷ []
-with_entry (last ∷ []) new = if is_one_with last new then new ∷ [] else last ∷ new ∷ []
-with_entry (first ∷ next ∷ entries) new = first ∷ with_entry (next ∷ entries) new
+abbrev pub vector_with_entry : List Entry → Entry → List Entry
+vector_with_entry [] new = new ∷ []
+vector_with_entry (last ∷ []) new = if is_one_with last new then new ∷ [] else last ∷ new ∷ []
+vector_with_entry (first ∷ next ∷ entries) new = first ∷ vector_with_entry (next ∷ entries) new
 
 -- How many rows there are behind entries that begin at so many: the end of the last run.
 abbrev pub rows_from : ℕ → List Entry → ℕ

@@ -24,9 +24,9 @@ is_whole (Int n) = true
 is_whole (Text text) = false
 
 -- The number of a value, or 0 where it is a text.
-abbrev pub number_of : Value → ℤ
-number_of (Int n) = n
-number_of (Text text) = pos 0
+abbrev pub value_number : Value → ℤ
+value_number (Int n) = n
+value_number (Text text) = pos 0
 
 -- A number is below a bound and not below 0.
 abbrev pub is_within_bound : ℕ → ℤ → Bool
@@ -55,20 +55,32 @@ cube_named cubes name = find (λ d. bytes_eq name d.name) cubes
 -- The row of the values of an INSERT, dimensions first.
 abbrev pub row_of : Decl → List Value → StoredRow
 row_of d values =
-    record { cube = d.name; row = record { dims = take (length d.dims) values; metrics = map number_of (drop (length d.dims) values) } }
+    record {
+      cube = d.name;
+      row = record {
+        dims = take (length d.dims) values;
+        metrics = map value_number (drop (length d.dims) values);
+      };
+    }
 
 -- An INSERT of a row that fits a cube of numbers stores it.
 abbrev pub store_on : Decl → List Value → Option Action
-store_on d values = if has_numbers_alone d && fits_row d.dims (length d.metrics) values then Some (Store (row_of d values)) else None
+store_on d values =
+    if has_numbers_alone d && fits_row d.dims (length d.metrics) values
+    then Some (Store (row_of d values))
+    else None
 
 -- The sum of the metric at a place over all rows of a cube, as a query.
 abbrev pub sum_query : Decl → ℕ → Query
-sum_query d place = record { region = record { cube = d.name; conditions = [] }; group = []; items = item.Sum place ∷ [] }
+sum_query d place =
+    record { region = record { cube = d.name; conditions = [] }; group = []; items = item.Sum place ∷ [] }
 
 -- A SELECT of the sum of a metric of a cube of numbers asks for it.
 abbrev pub ask_on : Decl → List ℕ → Option Action
 ask_on d metric =
-    if has_numbers_alone d then option_map (λ place. Ask (sum_query d place)) (position_from (bytes_eq metric) 0 d.metrics) else None
+    if has_numbers_alone d
+    then option_map (λ place. Ask (sum_query d place)) (position_from (bytes_eq metric) 0 d.metrics)
+    else None
 
 -- What an INSERT does: it runs with one row.
 abbrev pub insert_action : List Decl → List ℕ → List (List Value) → Option Action

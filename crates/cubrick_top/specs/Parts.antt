@@ -4,5 +4,5 @@ use Rattle.cubrick_top.specs.declared.fault.BuiltPart.{BuiltPart}
 use Rattle.cubrick_top.specs.declared.fault.BuiltPart.TheVariants.{Script}
 
 -- A part by its word.
-abbrev pub part_text : BuiltPart → List ℕ
-part_text Script = codes "script"
+abbrev pub built_part_text : BuiltPart → List ℕ
+built_part_text Script = codes "script"

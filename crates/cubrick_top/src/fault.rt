@@ -14,9 +14,9 @@ pub enum BuiltPart {
 
 impl fmt::Display for BuiltPart {
     ghost use Rattle.std.specs.Prelude.{Some};
-    ghost use Rattle.cubrick_top.specs.Parts.{part_text};
+    ghost use Rattle.cubrick_top.specs.Parts.{built_part_text};
 
-    ghost output = { λ part. Some (part_text part) };
+    ghost output = { λ part. Some (built_part_text part) };
 
     fn fmt<W: fmt::Write>(&self, f: &mut fmt::Formatter<W>) -> fmt::Result {
         f.write_str(match self {

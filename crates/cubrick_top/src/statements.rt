@@ -5,7 +5,7 @@ ghost use Rattle.std.specs.List.{list_all, position_from};
 ghost use Rattle.std.specs.Option.{option_copied};
 ghost use Rattle.std.specs.Str.{bytes_eq};
 ghost use Rattle.cube_language.specs.Cubes.{IsStorable};
-ghost use Rattle.cubrick_top.specs.Actions.{is_whole, number_of, is_within_bound, is_coordinate, fits_row, has_numbers_alone, cube_named, row_of, store_on, sum_query, ask_on, insert_action, sum_action, select_action, statement_action};
+ghost use Rattle.cubrick_top.specs.Actions.{is_whole, value_number, is_within_bound, is_coordinate, fits_row, has_numbers_alone, cube_named, row_of, store_on, sum_query, ask_on, insert_action, sum_action, select_action, statement_action};
 
 use crate::action::Action;
 use cube_language::{Cond, Decl, DimDecl, Item, Statement};
@@ -28,8 +28,8 @@ fn are_whole(values: &[Value]) -> bool
     values.iter().all(is_whole)
 }
 
-fn number_of(value: &Value) -> i64
-    ensures { result ≡ number_of value.now }
+fn value_number(value: &Value) -> i64
+    ensures { result ≡ value_number value.now }
 {
     match value {
         Value::Int(n) => *n,
@@ -87,9 +87,9 @@ fn copy_values(alloc: Global, values: &[Value]) -> Result<Vec<Value>, AllocError
 }
 
 fn numbers_of(alloc: Global, values: &[Value]) -> Result<Vec<i64>, AllocError>
-    ensures { IfOk result (λ v. v.items ≡ map number_of values.now) }
+    ensures { IfOk result (λ v. v.items ≡ map value_number values.now) }
 {
-    values.iter().map(number_of).collect(alloc)
+    values.iter().map(value_number).collect(alloc)
 }
 
 /// The row of values that fit a cube.

@@ -3,7 +3,7 @@ use Rattle.std.proofs.Common.{◌≡◌, ℕ, ◌+◌, ◌==◌, ◌&&◌, ◌�
 use Rattle.std.proofs.lemmas.Bool.Decides.{nat_tests}
 use Rattle.cube_values.specs.declared.entry.Entry.{Entry}
 use Rattle.cube_values.specs.declared.entry.Entry.TheVariants.{Run, Mark}
-use Rattle.cube_values.specs.EpochsVector.{IsVector, Leads, NeighboursApart, is_one_with, rows_from, rows_of, with_entry}
+use Rattle.cube_values.specs.EpochsVector.{IsVector, Leads, NeighboursApart, is_one_with, rows_from, rows_of, vector_with_entry}
 
 -- the rows that entries lead to
 pub rows_led : (from : ℕ) (xs : List Entry) (to : ℕ) → Leads from xs to → rows_from from xs ≡ to
@@ -25,7 +25,7 @@ lead_end (Mark e x) (Mark f y) from to more false h l m = (l.0, (omega (arith, l
 lead_end (Run e x) (Mark f y) from to more false h l m = (l.0, (omega (arith, l.1, m.0), omega (arith, l.1, m.1)))
 lead_end (Mark e x) (Run f y) from to more false h l m = (l.0, (omega (arith, l.1, m.0), m.1))
 
-pub lead_more : (xs : List Entry) (new : Entry) (from to more : ℕ) → Leads from xs to → Leads to (new ∷ []) more → Leads from (with_entry xs new) more
+pub lead_more : (xs : List Entry) (new : Entry) (from to more : ℕ) → Leads from xs to → Leads to (new ∷ []) more → Leads from (vector_with_entry xs new) more
 lead_more [] new from to more l m = let P : ℕ → Type 0 = λ n. Leads n (new ∷ []) more in subst P (sym l) m
 lead_more (last ∷ []) new from to more l m = lead_end last new from to more (is_one_with last new) refl l m
 lead_more (Run e x ∷ next ∷ xs) new from to more l m = (l.0, lead_more (next ∷ xs) new x to more l.1 m)
@@ -51,34 +51,34 @@ apart_two : (a last new : Entry) (b : Bool) → is_one_with last new ≡ b → i
 apart_two a last new true h k = (one_like a last new h ∙ k, tt)
 apart_two a last new false h k = (k, (h, tt))
 
-pub apart_more : (xs : List Entry) (new : Entry) → NeighboursApart xs → NeighboursApart (with_entry xs new)
+pub apart_more : (xs : List Entry) (new : Entry) → NeighboursApart xs → NeighboursApart (vector_with_entry xs new)
 apart_more [] new k = tt
 apart_more (last ∷ []) new k = apart_one last new (is_one_with last new) refl
 apart_more (a ∷ last ∷ []) new k = apart_two a last new (is_one_with last new) refl k.0
 apart_more (a ∷ b ∷ c ∷ xs) new k = (k.0, apart_more (b ∷ c ∷ xs) new k.1)
 
 -- a vector with one more entry
-pub vector_more : (xs : List Entry) (new : Entry) (rows more : ℕ) → IsVector xs rows → Leads rows (new ∷ []) more → IsVector (with_entry xs new) more
+pub vector_more : (xs : List Entry) (new : Entry) (rows more : ℕ) → IsVector xs rows → Leads rows (new ∷ []) more → IsVector (vector_with_entry xs new) more
 vector_more xs new rows more v m = record {
   leads = lead_more xs new 0 rows more v.leads m;
   apart = apart_more xs new v.apart;
 }
 
 -- the list with one more entry, where it takes the place of the last and where it comes after it
-pub put_over : (xs : List Entry) (n : ℕ) (d new : Entry) → length xs ≡ n + 1 → is_one_with (get_or xs n d) new ≡ true → slice_set xs n new ≡ with_entry xs new
+pub put_over : (xs : List Entry) (n : ℕ) (d new : Entry) → length xs ≡ n + 1 → is_one_with (get_or xs n d) new ≡ true → slice_set xs n new ≡ vector_with_entry xs new
 put_over [] n d new l h = absurd (omega arith)
 put_over (x ∷ []) zero d new l h = let f : is_one_with x new ≡ true = h in rw f
 put_over (x ∷ []) (suc n) d new l h = absurd (omega arith)
 put_over (x ∷ y ∷ xs) zero d new l h = absurd (omega arith)
 put_over (x ∷ y ∷ xs) (suc n) d new l h = ap (λ t. x ∷ t) (put_over (y ∷ xs) n d new (omega arith) h)
 
-pub put_after : (xs : List Entry) (n : ℕ) (d new : Entry) → length xs ≡ n + 1 → is_one_with (get_or xs n d) new ≡ false → xs ++ new ∷ [] ≡ with_entry xs new
+pub put_after : (xs : List Entry) (n : ℕ) (d new : Entry) → length xs ≡ n + 1 → is_one_with (get_or xs n d) new ≡ false → xs ++ new ∷ [] ≡ vector_with_entry xs new
 put_after [] n d new l h = absurd (omega arith)
 put_after (x ∷ []) zero d new l h = let f : is_one_with x new ≡ false = h in rw f
 put_after (x ∷ []) (suc n) d new l h = absurd (omega arith)
 put_after (x ∷ y ∷ xs) zero d new l h = absurd (omega arith)
 put_after (x ∷ y ∷ xs) (suc n) d new l h = ap (λ t. x ∷ t) (put_after (y ∷ xs) n d new (omega arith) h)
 
-pub put_first : (xs : List Entry) (new : Entry) → length xs ≡ 0 → xs ++ new ∷ [] ≡ with_entry xs new
+pub put_first : (xs : List Entry) (new : Entry) → length xs ≡ 0 → xs ++ new ∷ [] ≡ vector_with_entry xs new
 put_first [] new l = refl
 put_first (x ∷ xs) new l = absurd (omega arith)

@@ -9,7 +9,7 @@ use Rattle.cube_values.specs.declared.entry.Entry.{Entry}
 use Rattle.cube_values.specs.declared.entry.Entry.TheVariants.{Run, Mark}
 use Rattle.cube_values.specs.declared.snapshot.Snapshot.{Snapshot}
 use Rattle.cube_values.specs.BitRows.{set_bits}
-use Rattle.cube_values.specs.EpochsVector.{Leads, epoch_at, is_hidden_by, is_one_with, maker, rows_after, with_entry, with_rows_after}
+use Rattle.cube_values.specs.EpochsVector.{Leads, epoch_at, is_hidden_by, is_one_with, maker, rows_after, vector_with_entry, with_rows_after}
 use Rattle.cube_values.specs.Sees.{sees}
 use Rattle.epochs_vector.specs.Without.{staying_bits, set_bits_before, other_entries, entries_without, ChangesNoOtherRow}
 use Rattle.epochs_vector.proofs.Ends.{lead_more, vector_rows}
@@ -29,16 +29,16 @@ epoch_end (Mark e x) (Mark f y) zs n from to more true h l m = refl
 epoch_end (Run e x) (Mark f y) zs n from to more true h l m = cc
 epoch_end (Mark e x) (Run f y) zs n from to more true h l m = cc
 
-epoch_with : (xs : List Entry) (new : Entry) (zs : List Entry) (n from to more : ℕ) → Leads from xs to → Leads to (new ∷ []) more → epoch_at (with_entry xs new ++ zs) n ≡ epoch_at (xs ++ new ∷ zs) n
+epoch_with : (xs : List Entry) (new : Entry) (zs : List Entry) (n from to more : ℕ) → Leads from xs to → Leads to (new ∷ []) more → epoch_at (vector_with_entry xs new ++ zs) n ≡ epoch_at (xs ++ new ∷ zs) n
 epoch_with [] new zs n from to more l m = refl
 epoch_with (last ∷ []) new zs n from to more l m = epoch_end last new zs n from to more (is_one_with last new) refl l m
 epoch_with (Run e x ∷ next ∷ xs) new zs n from to more l m = ap (λ o. if nat_lt n x then Some e else o) (epoch_with (next ∷ xs) new zs n x to more l.1 m)
 epoch_with (Mark e x ∷ next ∷ xs) new zs n from to more l m = epoch_with (next ∷ xs) new zs n from to more l.1 m
 
-epoch_fold : (ys xs : List Entry) (n from to more : ℕ) → Leads from xs to → Leads to ys more → epoch_at (fold with_entry xs ys) n ≡ epoch_at (xs ++ ys) n
+epoch_fold : (ys xs : List Entry) (n from to more : ℕ) → Leads from xs to → Leads to ys more → epoch_at (fold vector_with_entry xs ys) n ≡ epoch_at (xs ++ ys) n
 epoch_fold [] xs n from to more l m = ap (λ z. epoch_at z n) (sym (append-nil xs))
-epoch_fold (Run j end ∷ ys) xs n from to more l m = epoch_fold ys (with_entry xs (Run j end)) n from end more (lead_more xs (Run j end) from to end l (m.0, refl)) m.1 ∙ epoch_with xs (Run j end) ys n from to end l (m.0, refl)
-epoch_fold (Mark j at ∷ ys) xs n from to more l m = epoch_fold ys (with_entry xs (Mark j at)) n from to more (lead_more xs (Mark j at) from to to l (m.0, refl)) m.1 ∙ epoch_with xs (Mark j at) ys n from to to l (m.0, refl)
+epoch_fold (Run j end ∷ ys) xs n from to more l m = epoch_fold ys (vector_with_entry xs (Run j end)) n from end more (lead_more xs (Run j end) from to end l (m.0, refl)) m.1 ∙ epoch_with xs (Run j end) ys n from to end l (m.0, refl)
+epoch_fold (Mark j at ∷ ys) xs n from to more l m = epoch_fold ys (vector_with_entry xs (Mark j at)) n from to more (lead_more xs (Mark j at) from to to l (m.0, refl)) m.1 ∙ epoch_with xs (Mark j at) ys n from to to l (m.0, refl)
 
 -- the same: what is hidden
 twice : (a b x : Bool) → a ≡ b → (b || x) ≡ (a || (b || x))
@@ -55,14 +55,14 @@ hidden_end s j n (Mark e x) (Mark f y) zs true h =
 hidden_end s j n (Run e x) (Mark f y) zs true h = cc
 hidden_end s j n (Mark e x) (Run f y) zs true h = cc
 
-hidden_with : (s : Snapshot) (j n : ℕ) (xs : List Entry) (new : Entry) (zs : List Entry) → list_any (is_hidden_by s j n) (with_entry xs new ++ zs) ≡ list_any (is_hidden_by s j n) (xs ++ new ∷ zs)
+hidden_with : (s : Snapshot) (j n : ℕ) (xs : List Entry) (new : Entry) (zs : List Entry) → list_any (is_hidden_by s j n) (vector_with_entry xs new ++ zs) ≡ list_any (is_hidden_by s j n) (xs ++ new ∷ zs)
 hidden_with s j n [] new zs = refl
 hidden_with s j n (last ∷ []) new zs = hidden_end s j n last new zs (is_one_with last new) refl
 hidden_with s j n (x ∷ next ∷ xs) new zs = ap (λ b. is_hidden_by s j n x || b) (hidden_with s j n (next ∷ xs) new zs)
 
-hidden_fold : (s : Snapshot) (j n : ℕ) (ys xs : List Entry) → list_any (is_hidden_by s j n) (fold with_entry xs ys) ≡ list_any (is_hidden_by s j n) (xs ++ ys)
+hidden_fold : (s : Snapshot) (j n : ℕ) (ys xs : List Entry) → list_any (is_hidden_by s j n) (fold vector_with_entry xs ys) ≡ list_any (is_hidden_by s j n) (xs ++ ys)
 hidden_fold s j n [] xs = ap (list_any (is_hidden_by s j n)) (sym (append-nil xs))
-hidden_fold s j n (y ∷ ys) xs = hidden_fold s j n ys (with_entry xs y) ∙ hidden_with s j n xs y ys
+hidden_fold s j n (y ∷ ys) xs = hidden_fold s j n ys (vector_with_entry xs y) ∙ hidden_with s j n xs y ys
 
 -- rows that stay keep their order
 climbs : (kept : List Bool) (i : ℕ) (b : Bool) → get_or kept i false ≡ b → i < length kept → set_bits_before kept i ≤ set_bits_before kept (i + 1)

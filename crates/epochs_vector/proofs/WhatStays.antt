@@ -9,7 +9,7 @@ use Rattle.std.proofs.lemmas.List.Sums.{count_by_more_yes, count_by_more_no}
 use Rattle.cube_values.specs.declared.entry.Entry.{Entry}
 use Rattle.cube_values.specs.declared.entry.Entry.TheVariants.{Run, Mark}
 use Rattle.cube_values.specs.BitRows.{filled_bits, set_bits}
-use Rattle.cube_values.specs.EpochsVector.{IsVector, Leads, maker, rows_after, rows_of, with_entry, with_rows_after}
+use Rattle.cube_values.specs.EpochsVector.{IsVector, Leads, maker, rows_after, rows_of, vector_with_entry, with_rows_after}
 use Rattle.epochs_vector.specs.Without.{stays, staying_bits, set_bits_before, other_entries, entries_without}
 use Rattle.epochs_vector.proofs.Ends.{vector_rows, vector_more}
 use Rattle.epochs_vector.proofs.VisibleRows.{in_run, past_run, lead_up, long_filled, at_below, at_inside, at_above}
@@ -103,10 +103,10 @@ lead_others epoch kept (entry ∷ xs) from k =
     subst P (split_one (λ e. with_rows_after e (set_bits_before kept (rows_after e))) (not (maker entry == epoch)) entry (filter (λ e. not (maker e == epoch)) xs)) (lead_one kept entry xs (other_entries epoch kept xs) epoch from (set_bits kept) k (maker entry == epoch) refl (lead_others epoch kept xs (rows_after entry) n.next))
 
 -- entries put one after another after a vector
-vector_fold : (ys xs : List Entry) (rows more : ℕ) → IsVector xs rows → Leads rows ys more → IsVector (fold with_entry xs ys) more
+vector_fold : (ys xs : List Entry) (rows more : ℕ) → IsVector xs rows → Leads rows ys more → IsVector (fold vector_with_entry xs ys) more
 vector_fold [] xs rows more v l = let P : ℕ → Type 0 = λ n. IsVector xs n in subst P l v
-vector_fold (Run j end ∷ ys) xs rows more v l = vector_fold ys (with_entry xs (Run j end)) end more (vector_more xs (Run j end) rows end v (l.0, refl)) l.1
-vector_fold (Mark j at ∷ ys) xs rows more v l = vector_fold ys (with_entry xs (Mark j at)) rows more (vector_more xs (Mark j at) rows rows v (l.0, refl)) l.1
+vector_fold (Run j end ∷ ys) xs rows more v l = vector_fold ys (vector_with_entry xs (Run j end)) end more (vector_more xs (Run j end) rows end v (l.0, refl)) l.1
+vector_fold (Mark j at ∷ ys) xs rows more v l = vector_fold ys (vector_with_entry xs (Mark j at)) rows more (vector_more xs (Mark j at) rows rows v (l.0, refl)) l.1
 
 -- the whole vector
 pub length-staying : (epoch : ℕ) (xs : List Entry) → length (staying_bits epoch xs) ≡ rows_of xs
@@ -133,7 +133,7 @@ pub record IsTakenOut (epoch : ℕ) (kept : List Bool) (old items : List Entry) 
   pub within : len ≤ at
   pub counted : rows ≡ set_bits_before kept from
   pub below : rows ≤ from
-  pub front : fold with_entry (take len items) (other_entries epoch kept (drop at old)) ≡ fold with_entry [] (other_entries epoch kept old)
+  pub front : fold vector_with_entry (take len items) (other_entries epoch kept (drop at old)) ≡ fold vector_with_entry [] (other_entries epoch kept old)
   pub long : length keep ≡ length kept
   pub done : (i : ℕ) → i < from → get_or keep i false ≡ get_or kept i false
   pub full : (i : ℕ) → from ≤ i → i < length kept → get_or keep i false ≡ true
@@ -184,7 +184,7 @@ out_same epoch kept old items keep new at len from rows d entry h e b k f =
       within = omega (arith, k.within);
       counted = k.counted ∙ sym (counted_same epoch kept entry (drop (at + 1) old) from n b);
       below = omega (arith, k.below, n.order);
-      front = ap (fold with_entry (take len items)) (sym (ap (other_entries epoch kept) x ∙ others_same epoch kept entry (drop (at + 1) old) b)) ∙ k.front;
+      front = ap (fold vector_with_entry (take len items)) (sym (ap (other_entries epoch kept) x ∙ others_same epoch kept entry (drop (at + 1) old) b)) ∙ k.front;
       long = ap length f ∙ long_filled keep from (rows_after entry) false n.order w ∙ k.long;
       done = λ i p. there i ∙ elim (cases_lt i from) [
         | inl a ↦ at_below keep from (rows_after entry) false n.order w i a ∙ k.done i a
@@ -194,7 +194,7 @@ out_same epoch kept old items keep new at len from rows d entry h e b k f =
     }
 
 -- past an entry of another epoch
-pub out_other : (epoch : ℕ) (kept : List Bool) (old items new : List Entry) (keep : List Bool) (at len more from rows : ℕ) (d entry : Entry) → at < length old → get_or items at d ≡ entry → (maker entry == epoch) ≡ false → IsTakenOut epoch kept old items keep at len from rows → take more new ≡ with_entry (take len items) (with_rows_after entry (rows + (rows_after entry - from))) → ((n : ℕ) → len < n → drop n new ≡ drop n items) → more ≤ len + 1 → IsTakenOut epoch kept old new keep (at + 1) more (rows_after entry) (rows + (rows_after entry - from))
+pub out_other : (epoch : ℕ) (kept : List Bool) (old items new : List Entry) (keep : List Bool) (at len more from rows : ℕ) (d entry : Entry) → at < length old → get_or items at d ≡ entry → (maker entry == epoch) ≡ false → IsTakenOut epoch kept old items keep at len from rows → take more new ≡ vector_with_entry (take len items) (with_rows_after entry (rows + (rows_after entry - from))) → ((n : ℕ) → len < n → drop n new ≡ drop n items) → more ≤ len + 1 → IsTakenOut epoch kept old new keep (at + 1) more (rows_after entry) (rows + (rows_after entry - from))
 out_other epoch kept old items new keep at len more from rows d entry h e b k f r m =
     let n = out_next epoch kept old items keep at len from rows d entry h e k in
     let x : drop at old ≡ entry ∷ drop (at + 1) old = drop_more old at d h ∙ ap (λ y. y ∷ drop (at + 1) old) (sym (same_there items old at d k.rest) ∙ e) in
@@ -206,7 +206,7 @@ out_other epoch kept old items new keep at len more from rows d entry h e b k f 
       within = omega (arith, k.within);
       counted = c;
       below = omega (arith, k.below, n.order);
-      front = ap (λ l. fold with_entry l (other_entries epoch kept (drop (at + 1) old))) f ∙ ap (fold with_entry (take len items)) (sym o) ∙ k.front;
+      front = ap (λ l. fold vector_with_entry l (other_entries epoch kept (drop (at + 1) old))) f ∙ ap (fold vector_with_entry (take len items)) (sym o) ∙ k.front;
       long = k.long;
       done = λ i p. elim (cases_lt i from) [
         | inl a ↦ k.done i a
@@ -222,4 +222,4 @@ out_all epoch old items keep at len from rows h k =
     let x : drop at old ≡ [] = drop_all at old h in
     let P : List Entry → Type 0 = λ l. Leads from l (length kept) in
     let end : from ≡ length kept = subst P x k.left.leads in
-    (ap (λ l. fold with_entry (take len items) (other_entries epoch kept l)) (sym x) ∙ k.front, (k.counted ∙ ap set_bits (take_all from kept (omega arith)), ext_get_or false keep kept k.long (λ i p. k.done i (omega (arith, k.long)))))
+    (ap (λ l. fold vector_with_entry (take len items) (other_entries epoch kept l)) (sym x) ∙ k.front, (k.counted ∙ ap set_bits (take_all from kept (omega arith)), ext_get_or false keep kept k.long (λ i p. k.done i (omega (arith, k.long)))))

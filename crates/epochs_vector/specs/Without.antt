@@ -6,7 +6,7 @@ use Rattle.std.specs.Option.{option_map_or}
 use Rattle.cube_values.specs.declared.entry.Entry.{Entry}
 use Rattle.cube_values.specs.declared.snapshot.Snapshot.{Snapshot}
 use Rattle.cube_values.specs.BitRows.{set_bits}
-use Rattle.cube_values.specs.EpochsVector.{IsVector, epoch_at, maker, rows_after, rows_of, sees_row, with_entry, with_rows_after}
+use Rattle.cube_values.specs.EpochsVector.{IsVector, epoch_at, maker, rows_after, rows_of, sees_row, vector_with_entry, with_rows_after}
 use Rattle.cube_values.specs.Sees.{sees}
 
 -- Row i stays: it is of no run of the epoch.
@@ -31,7 +31,7 @@ other_entries epoch bits entries = map (recounted_entry bits) (filter (λ e. not
 
 -- The vector without the epoch: the others' entries one after another, where neighbours become one.
 abbrev pub entries_without : ℕ → List Entry → List Entry
-entries_without epoch entries = fold with_entry [] (other_entries epoch (staying_bits epoch entries) entries)
+entries_without epoch entries = fold vector_with_entry [] (other_entries epoch (staying_bits epoch entries) entries)
 
 -- Of the rows that stay, a snapshot that does not see the epoch sees those that it saw before.
 abbrev pub ChangesNoOtherRow : Type 0

@@ -2,7 +2,7 @@
 
 ghost use Rattle.std.specs.Prelude.{◌≡◌, ◌+◌, ◌^◌, ◌<◌, ◌≤◌, true, [], length, replicate, vec_capacity, OnOk, OnErr, IsOk, IfOk};
 ghost use Rattle.cube_values.specs.BitRows.{set_bits};
-ghost use Rattle.cube_values.specs.EpochsVector.{IsVector, rows_of, with_entry};
+ghost use Rattle.cube_values.specs.EpochsVector.{IsVector, rows_of, vector_with_entry};
 ghost use Rattle.cube_values.specs.declared.entry.Entry.TheVariants.{Run, Mark};
 ghost use Rattle.cube_values.specs.Rooms.{grown_room};
 ghost use Rattle.epochs_vector.specs.Entries.{room_of};
@@ -72,7 +72,7 @@ impl Epochs {
         requires room { 1 ≤ self.old.spare }
         requires fit { rows_of self.old.entries + n < 2 ^ 64 }
         ensures entries { self.new.entries
-            ≡ with_entry self.old.entries (Run epoch (rows_of self.old.entries + n)) }
+            ≡ vector_with_entry self.old.entries (Run epoch (rows_of self.old.entries + n)) }
         ensures room { room_of self.new ≡ room_of self.old }
         ensures spare { self.old.spare ≤ self.new.spare + 1 }
     {
@@ -91,7 +91,7 @@ impl Epochs {
     pub fn mark(&mut self, epoch: u64)
         requires { 1 ≤ self.old.spare }
         ensures entries { self.new.entries
-            ≡ with_entry self.old.entries (Mark epoch (rows_of self.old.entries)) }
+            ≡ vector_with_entry self.old.entries (Mark epoch (rows_of self.old.entries)) }
         ensures room { room_of self.new ≡ room_of self.old }
         ensures spare { self.old.spare ≤ self.new.spare + 1 }
     {

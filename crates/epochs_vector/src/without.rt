@@ -2,7 +2,7 @@
 
 ghost use Rattle.std.specs.Prelude.{◌≡◌, ℕ, ◌+◌, ◌<◌, ◌≤◌, true, length, take, drop, replicate};
 ghost use Rattle.cube_values.specs.BitRows.{set_bits};
-ghost use Rattle.cube_values.specs.EpochsVector.{IsVector, with_entry};
+ghost use Rattle.cube_values.specs.EpochsVector.{IsVector, vector_with_entry};
 ghost use Rattle.epochs_vector.specs.Without.{staying_bits, entries_without};
 
 use cube_values::{Bits, Entry};
@@ -45,7 +45,7 @@ pub fn take_out(entries: &mut [Entry], epoch: u64, keep: &mut Bits) -> Left
 // answers how many they then are.
 fn put_at(entries: &mut [Entry], len: usize, new: Entry) -> usize
     requires { len < length entries.old }
-    ensures front { take result entries.new ≡ with_entry (take len entries.old) new }
+    ensures front { take result entries.new ≡ vector_with_entry (take len entries.old) new }
     ensures rest { (n : ℕ) → len < n → drop n entries.new ≡ drop n entries.old }
     ensures within { result ≤ len + 1 }
     ensures long { length entries.new ≡ length entries.old }

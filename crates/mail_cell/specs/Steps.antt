@@ -34,7 +34,8 @@ module _ {J A : Type 0} where
   -- A job that is posted stands behind the others, and its client's place is Waiting.
   abbrev pub after_post : MailState J A → ℕ → J → MailState J A
   after_post mail client job =
-      mail_state (mail.posted ++ record { client = client; job = job } ∷ []) (slice_set mail.places client Waiting) mail.closed
+      mail_state (mail.posted ++ record { client = client; job = job } ∷ [])
+      (slice_set mail.places client Waiting) mail.closed
 
   -- A job that is taken is posted no more, and its client's place is Out.
   abbrev pub after_take : MailState J A → MailState J A

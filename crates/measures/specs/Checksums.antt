@@ -15,7 +15,8 @@ use Rattle.purge_plan.specs.Purged.{spared_bits, purged_entries}
 -- Of a script: how many statements it has, or 0 where it is refused.
 abbrev pub CountsStatements : List ℕ → ℕ → Type 0
 CountsStatements script sum =
-    ((pieces : List Piece) × IsScript script pieces × (sum ≡ length pieces)) ⊎ ((fault : ScriptFault) × HasScriptFault script fault × (sum ≡ 0))
+    ((pieces : List Piece) × IsScript script pieces × (sum ≡ length pieces))
+    ⊎ ((fault : ScriptFault) × HasScriptFault script fault × (sum ≡ 0))
 
 -- Of names and a dictionary: the numbers of the names, counted from 1, in 64 bits.
 abbrev pub numbers_sum : Dictionary → List (List ℕ) → ℕ
@@ -23,7 +24,8 @@ numbers_sum d names = sum_by (λ name. option_map_or (λ n. n + 1) (number_of d 
 
 -- Of a vector that is purged at an epoch: how many rows go and how many entries stay, in 64 bits.
 abbrev pub purge_sum : ℕ → List Entry → ℕ
-purge_sum p entries = (length (spared_bits p entries) - set_bits (spared_bits p entries) + length (purged_entries p entries)) % 2 ^ 64
+purge_sum p entries = (length (spared_bits p entries) - set_bits (spared_bits p entries)
+    + length (purged_entries p entries)) % 2 ^ 64
 
 -- What a field counts: a whole number without its sign, and nothing else.
 abbrev pub field_count : Field → ℕ

@@ -7,4 +7,9 @@ use Rattle.cube_values.specs.declared.span.Part.TheVariants.{All}
 -- The count of rows, a sum and a greatest value for each value of the first of two dimensions.
 abbrev pub eight_groups : BoundQuery
 eight_groups =
-    record { cube = 0; span = record { parts = All ∷ All ∷ [] }; group = 0 ∷ []; items = Group 0 ∷ Count ∷ Sum 0 ∷ Max 1 ∷ [] }
+    record {
+      cube = 0;
+      span = record { parts = All ∷ All ∷ [] };
+      group = 0 ∷ [];
+      items = Group 0 ∷ Count ∷ Sum 0 ∷ Max 1 ∷ [];
+    }

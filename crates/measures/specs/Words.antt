@@ -39,7 +39,8 @@ done_of Mail = codes "jobs mailed"
 
 -- A text spells a number below 2 ^ 32 in decimal digits, or none.
 abbrev pub IsRead : List ℕ → Option ℕ → Type 0
-IsRead text (Some n) = IsNumeral 10 (without_leading_plus text) × (n ≡ digits_value 10 (without_leading_plus text)) × (n < 2 ^ 32)
+IsRead text (Some n) = IsNumeral 10 (without_leading_plus text)
+    × (n ≡ digits_value 10 (without_leading_plus text)) × (n < 2 ^ 32)
 IsRead text None = IsNumeral 10 (without_leading_plus text) × (digits_value 10 (without_leading_plus text) < 2 ^ 32) → ⊥
 
 -- The request of a path and a number of items, where the path takes so many.

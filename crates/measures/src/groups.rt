@@ -65,7 +65,8 @@ fn folded(
 ) -> Result<Partial, AllocError>
     requires query { query.now ≡ eight_groups }
     requires full { length rows.now ≡ ROWS }
-    ensures { IfOk result (λ partial. (rs : List CodedRow) × StandsFor query.now rs partial.groups × (length rs ≡ items)) }
+    ensures { IfOk result (λ partial. (rs : List CodedRow)
+        × StandsFor query.now rs partial.groups × (length rs ≡ items)) }
 {
     let mut partial = Partial::new(alloc);
     'items: for i in 0..items {

@@ -32,7 +32,8 @@ pub(crate) struct Encode {
 
 /// A dictionary in which all names were encoded, in order.
 fn dictionary(alloc: Global, names: &[String]) -> Result<Dict, AllocError>
-    ensures { IfOk result (λ dict. dict ≡ encoded (empty (2 ^ 32 - 1)) (map string_bytes names.now)) }
+    ensures { IfOk result
+        (λ dict. dict ≡ encoded (empty (2 ^ 32 - 1)) (map string_bytes names.now)) }
 {
     let mut dict = Dict::new(alloc, u32::MAX);
     let mut left = names;
@@ -52,7 +53,8 @@ impl Work for Encode {
 
     /// The checksum is the number of names in the dictionary.
     fn work(&mut self, alloc: Global) -> Result<u64, AllocError>
-        ensures { IfOk result (λ sum. sum ≡ length (encoded (empty (2 ^ 32 - 1)) (map string_bytes self.old.names.items)).names) }
+        ensures { IfOk result (λ sum. sum
+            ≡ length (encoded (empty (2 ^ 32 - 1)) (map string_bytes self.old.names.items)).names) }
     {
         let dict = dictionary(alloc, self.names.as_slice())?;
         Ok(u64::from(dict.len()))
@@ -91,7 +93,8 @@ impl Work for Lookup {
 
     /// The checksum is the sum of the numbers that are found, and 1 for each.
     fn work(&mut self, _alloc: Global) -> Result<u64, AllocError>
-        ensures { IfOk result (λ sum. sum ≡ numbers_sum self.old.dict (map string_bytes self.old.names.items)) }
+        ensures { IfOk result
+            (λ sum. sum ≡ numbers_sum self.old.dict (map string_bytes self.old.names.items)) }
     {
         Ok(numbers_sum(&self.dict, self.names.as_slice()))
     }

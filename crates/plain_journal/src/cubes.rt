@@ -4,11 +4,9 @@ ghost use Rattle.std.specs.Prelude.{◌≡◌, ◌↔◌, ◌++◌, ◌∷◌, [
 ghost use Rattle.cube_journal.specs.Legal.{has_cube, MayAddCube, IsFullWithout, RefusalFits, CubesAllow, CubesAllowAll, cubes_after};
 
 use cube_journal::JournalEntry;
+use cube_language::MOST_CUBES;
 use cube_values::Text;
 use std::alloc::{AllocError, Global};
-
-/// How many cubes there can be.
-const MOST_CUBES: usize = 16;
 
 /// Whether each entry, whose statement speaks of the cube of the name in its place, agrees with the cubes
 /// before it. The only error is that memory runs out.

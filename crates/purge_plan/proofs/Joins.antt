@@ -3,7 +3,7 @@ use Rattle.std.proofs.Common.{◌≡◌, ℕ, ◌+◌, ◌<◌, ◌≤◌, ◌==
 use Rattle.std.proofs.lemmas.Bool.Decides.{nat_tests}
 use Rattle.cube_values.specs.declared.entry.Entry.{Entry}
 use Rattle.cube_values.specs.declared.entry.Entry.TheVariants.{Run, Mark}
-use Rattle.cube_values.specs.EpochsVector.{IsVector, Leads, NeighboursApart, is_one_with, rows_from, rows_of, with_entry}
+use Rattle.cube_values.specs.EpochsVector.{IsVector, Leads, NeighboursApart, is_one_with, rows_from, rows_of, vector_with_entry}
 use Rattle.epochs_vector.proofs.Ends.{vector_rows, vector_more}
 use Rattle.purge_plan.specs.Purged.{are_old_runs, merged_entry, with_merged_entry, with_counted_entry}
 
@@ -86,7 +86,7 @@ flat_end p (Mark e x) (Run f y) true h = cc
 flat_end p (Run e x) (Mark f y) false h = refl
 flat_end p (Mark e x) (Run f y) false h = refl
 
-flat_joined : (p : ℕ) (xs : List Entry) (new : Entry) → flat p (with_merged_entry p xs new) ≡ with_entry (flat p xs) (level p new)
+flat_joined : (p : ℕ) (xs : List Entry) (new : Entry) → flat p (with_merged_entry p xs new) ≡ vector_with_entry (flat p xs) (level p new)
 flat_joined p [] new = refl
 flat_joined p (last ∷ []) new = flat_end p last new (is_one_with last new || are_old_runs p last new) refl
 flat_joined p (first ∷ next ∷ xs) new = ap (λ l. level p first ∷ l) (flat_joined p (next ∷ xs) new)

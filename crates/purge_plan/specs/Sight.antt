@@ -39,7 +39,8 @@ ChangesNothingSeen =
 abbrev pub KeepsLaterEpochs : Type 0
 KeepsLaterEpochs =
     (p rows : ℕ) (entries : List Entry) → IsVector entries rows → (i : ℕ) → i < rows → is_spared p entries i ≡ true
-    → option_map (max p) (epoch_at (purged_entries p entries) (number_after p entries i)) ≡ option_map (max p) (epoch_at entries i)
+    → option_map (max p) (epoch_at (purged_entries p entries) (number_after p entries i))
+    ≡ option_map (max p) (epoch_at entries i)
 
 -- If the entry is a mark, it is above p.
 abbrev pub MarksAbove : ℕ → Entry → Type 0

@@ -9,7 +9,7 @@ use std::str;
 use std::test::Fail;
 
 /// A text, and what is printed of its statement or says where it goes wrong.
-const TEXTS: [(&str, &str); 72] = [
+const TEXTS: [(&str, &str); 87] = [
     (
         "select  sum ( likes ) from visits where region in ('CA')",
         "SELECT SUM(likes) FROM visits WHERE region IN ('CA')",
@@ -139,6 +139,27 @@ const TEXTS: [(&str, &str); 72] = [
     ("CREATE CUBE t (DIM x 5 2)", "Syntax at 21"),
     ("CREATE CUBE t (METRIC m,)", "Syntax at 24"),
     ("CREATE CUBE text (METRIC m)", "Syntax at 12"),
+    (
+        "SeLeCt a,Min(b),mAx(c),aVG(d),cOuNt(*) FrOm t wHeRe a=1 aNd b iN(1) AnD c BeTwEeN 1 anD 2 gRoUp By a hAvInG sUm(m)=1 oRdEr bY a aSc,Sum(m) dEsC lImIt 3",
+        "SELECT a, MIN(b), MAX(c), AVG(d), COUNT(*) FROM t WHERE a = 1 AND b IN (1) AND c BETWEEN 1 AND 2 GROUP BY a HAVING SUM(m) = 1 ORDER BY a, SUM(m) DESC LIMIT 3",
+    ),
+    ("iNsErT InTo t vAlUeS(1)", "INSERT INTO t VALUES (1)"),
+    ("lOaD t fRoM 'p' ReJeCt 1", "LOAD t FROM 'p' REJECT 1"),
+    ("dElEtE fRoM t", "DELETE FROM t"),
+    ("bEgIn", "BEGIN"),
+    ("cOmMiT", "COMMIT"),
+    ("commit", "COMMIT"),
+    ("rOlLbAcK", "ROLLBACK"),
+    ("rollback", "ROLLBACK"),
+    ("flush", "FLUSH"),
+    ("purge", "PURGE"),
+    ("ShOw EpOcHs", "SHOW EPOCHS"),
+    (
+        "cReAtE CuBe t(DiM x iNt 1 1,dIm y TeXt 1 1,mEtRiC m)",
+        "CREATE CUBE t (DIM x INT 1 1, DIM y TEXT 1 1, METRIC m)",
+    ),
+    ("WaTcH sElEcT a FrOm t", "WATCH SELECT a FROM t"),
+    ("show watch", "SHOW WATCH"),
 ];
 
 /// A text of each form, with a space between each two tokens.

@@ -47,21 +47,21 @@ scripts_are_one script a b h k = splits_are_one script a b h.splits k.splits
 
 pub script_or_fault : (script : List ℕ) (pieces : List Piece) (fault : ScriptFault) → IsScript script pieces → HasScriptFault script fault → ⊥
 script_or_fault script pieces (NotUtf8 at) h k = no_valid script at h.text k
-script_or_fault script pieces TooManyStatements h k = let same = splits_are_one script pieces k.1 h.splits k.2 in omega (arith, h.few, k.3, ap length same)
+script_or_fault script pieces TooManyStatements h k = let same = splits_are_one script pieces k.pieces h.splits k.splits in omega (arith, h.few, k.many, ap length same)
 script_or_fault script pieces (StatementTooLong n) h k =
-    let same = splits_are_one script pieces k.1 h.splits k.2 in
-    cc (short_none 1 pieces h.short, ap (position_from is_long 1) same, k.4)
+    let same = splits_are_one script pieces k.pieces h.splits k.splits in
+    cc (short_none 1 pieces h.short, ap (position_from is_long 1) same, k.first)
 
 pub script_faults_are_one : (script : List ℕ) (f g : ScriptFault) → HasScriptFault script f → HasScriptFault script g → f ≡ g
 script_faults_are_one script (NotUtf8 m) (NotUtf8 n) h k = ap NotUtf8 (valid_is_one script m n h k)
-script_faults_are_one script (NotUtf8 m) TooManyStatements h k = absurd (no_valid script m k.0 h)
-script_faults_are_one script (NotUtf8 m) (StatementTooLong n) h k = absurd (no_valid script m k.0 h)
-script_faults_are_one script TooManyStatements (NotUtf8 n) h k = absurd (no_valid script n h.0 k)
+script_faults_are_one script (NotUtf8 m) TooManyStatements h k = absurd (no_valid script m k.text h)
+script_faults_are_one script (NotUtf8 m) (StatementTooLong n) h k = absurd (no_valid script m k.text h)
+script_faults_are_one script TooManyStatements (NotUtf8 n) h k = absurd (no_valid script n h.text k)
 script_faults_are_one script TooManyStatements TooManyStatements h k = refl
-script_faults_are_one script TooManyStatements (StatementTooLong n) h k = absurd (omega (arith, h.3, k.3, ap length (splits_are_one script h.1 k.1 h.2 k.2)))
-script_faults_are_one script (StatementTooLong m) (NotUtf8 n) h k = absurd (no_valid script n h.0 k)
-script_faults_are_one script (StatementTooLong m) TooManyStatements h k = absurd (omega (arith, h.3, k.3, ap length (splits_are_one script h.1 k.1 h.2 k.2)))
+script_faults_are_one script TooManyStatements (StatementTooLong n) h k = absurd (omega (arith, h.many, k.few, ap length (splits_are_one script h.pieces k.pieces h.splits k.splits)))
+script_faults_are_one script (StatementTooLong m) (NotUtf8 n) h k = absurd (no_valid script n h.text k)
+script_faults_are_one script (StatementTooLong m) TooManyStatements h k = absurd (omega (arith, h.few, k.many, ap length (splits_are_one script h.pieces k.pieces h.splits k.splits)))
 script_faults_are_one script (StatementTooLong m) (StatementTooLong n) h k =
-    let same = ap (position_from is_long 1) (splits_are_one script h.1 k.1 h.2 k.2) in
-    let one : m ≡ n = cc (h.4, k.4, same) in
+    let same = ap (position_from is_long 1) (splits_are_one script h.pieces k.pieces h.splits k.splits) in
+    let one : m ≡ n = cc (h.first, k.first, same) in
     ap StatementTooLong one

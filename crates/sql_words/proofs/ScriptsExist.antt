@@ -26,11 +26,11 @@ parts_to_end (suc n) (b ∷ bytes) lt =
 
 by_long : (script : List ℕ) (pieces : List Piece) → IsUtf8 script → Splits script pieces → length pieces ≤ statements_limit → (found : Option ℕ) → position_from is_long 1 pieces ≡ found → AnyPieces script ⊎ AnyScriptFault script
 by_long script pieces utf8 splits few None e = inl (pieces, record { text = utf8; splits = splits; few = few; short = none_long 1 pieces e })
-by_long script pieces utf8 splits few (Some n) e = inr (StatementTooLong n, (utf8, pieces, splits, few, e))
+by_long script pieces utf8 splits few (Some n) e = inr (StatementTooLong n, record { text = utf8; pieces = pieces; splits = splits; few = few; first = e })
 
 by_count : (script : List ℕ) (pieces : List Piece) → IsUtf8 script → Splits script pieces → AnyPieces script ⊎ AnyScriptFault script
 by_count script pieces utf8 splits = elim (cases_lt statements_limit (length pieces)) [
-  | inl many ↦ inr (TooManyStatements, (utf8, pieces, splits, many))
+  | inl many ↦ inr (TooManyStatements, record { text = utf8; pieces = pieces; splits = splits; many = many })
   | inr few ↦ by_long script pieces utf8 splits few (position_from is_long 1 pieces) refl
 ]
 

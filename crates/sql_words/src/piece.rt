@@ -8,16 +8,10 @@ ghost use Rattle.sql_words.specs.Fronts.{goes_on, IsBehindBody};
 ghost use Rattle.sql_words.specs.Texts.{AreTextsAt, IsTextAt, SplitsInFew, SplitsInMany, piece_bytes};
 
 use crate::part::{behind_gap, part_len};
-use cube_language::{Piece, Pieces, ScriptFault};
+use cube_language::{MOST_STATEMENT_BYTES, MOST_STATEMENTS, Piece, Pieces, ScriptFault};
 use cube_values::CallError;
 use std::alloc::{AllocError, Global};
 use std::str;
-
-/// The most statements of a script.
-const STATEMENTS: usize = 65_536;
-
-/// The most bytes of a statement's text.
-const STATEMENT_BYTES: usize = 65_536;
 
 /// Whether a statement goes on here: the script does not end, and no semicolon stands here.
 fn goes_on(bytes: &[u8]) -> bool
@@ -53,7 +47,7 @@ fn behind_end(bytes: &[u8]) -> &[u8]
     }
 }
 
-/// The statements of a script by their places, or None where there are more than `STATEMENTS`.
+/// The statements of a script by their places, or None where there are more than `MOST_STATEMENTS`.
 fn pieces_of(alloc: Global, script: &[u8]) -> Result<Option<Pieces>, AllocError>
     requires { IsUtf8 script.now }
     ensures some { IfOk result (λ found. IfSome found (λ pieces. SplitsInFew script.now pieces)) }
@@ -69,7 +63,7 @@ fn pieces_of(alloc: Global, script: &[u8]) -> Result<Option<Pieces>, AllocError>
         if end.len() == body.len() {
             continue;
         }
-        if pieces.len() == STATEMENTS {
+        if pieces.len() == MOST_STATEMENTS {
             return Ok(None);
         }
         pieces.push(Piece {
@@ -83,7 +77,7 @@ fn pieces_of(alloc: Global, script: &[u8]) -> Result<Option<Pieces>, AllocError>
 fn is_long(piece: &Piece) -> bool
     ensures { result ≡ is_long piece.now }
 {
-    piece.end.saturating_sub(piece.start) > STATEMENT_BYTES
+    piece.end.saturating_sub(piece.start) > MOST_STATEMENT_BYTES
 }
 
 /// The number of the first statement that is too long, counted from 1.
@@ -102,7 +96,7 @@ fn first_long(pieces: &[Piece]) -> Option<u64>
 /// The statements of a script by their places, or why the script is refused whole. The text of a statement
 /// begins behind the white space and the comments in front of it, and ends at the semicolon, or at the end of
 /// the script. The time taken is linear in the bytes of the script, and the memory in its statements, of
-/// which no more than `STATEMENTS` are kept.
+/// which no more than `MOST_STATEMENTS` are kept.
 pub fn split(alloc: Global, script: &[u8]) -> Result<Pieces, CallError<ScriptFault>>
     ensures found { IfOk result (λ pieces. IsScript script.now pieces) }
     ensures texts { IfOk result (λ pieces. AreTextsAt script.now pieces) }

@@ -24,15 +24,15 @@ pieces-preserved-then-end-body c = record {
   left = rw c.behind_end-rest.ensures (left_behind_end c.args.script.now c.requires _ c.behind_body-end.ensures.body.stops (left_end c.args.script.now c.requires _ _ c.behind_body-end.ensures.body (left_body c.args.script.now c.requires _ _ c.behind_gap-body.ensures.gap c.pieces.invariant.left)));
 }
 
-pub returns-then-len-eq-STATEMENTS-clause-none : goal.returns-then-len-eq-STATEMENTS-clause-none
-returns-then-len-eq-STATEMENTS-clause-none c =
-    let full : length c.pieces.pieces ≡ statements_limit = sym c.len.ensures ∙ c.if-len-eq-STATEMENTS.true in
+pub returns-then-len-eq-MOST_STATEMENTS-clause-none : goal.returns-then-len-eq-MOST_STATEMENTS-clause-none
+returns-then-len-eq-MOST_STATEMENTS-clause-none c =
+    let full : length c.pieces.pieces ≡ statements_limit = sym c.len.ensures ∙ c.if-len-eq-MOST_STATEMENTS.true in
     split_many _ _ _ _ (split_more _ _ _ _ _ c.pieces.invariant.split c.behind_gap-body.ensures.gap c.behind_body-end.ensures.body (omega arith)) full
 
 pub pieces-preserved : goal.pieces-preserved
 pieces-preserved c = record {
   split = rw (c.in_ok-push.ensures.ok, c.behind_end-rest.ensures) (split_more _ _ _ _ _ c.pieces.invariant.split c.behind_gap-body.ensures.gap c.behind_body-end.ensures.body (omega arith));
-  few = rw c.in_ok-push.ensures.ok (few_more c.pieces.pieces _ c.pieces.invariant.few (λ full. c.if-len-eq-STATEMENTS.false (c.len.ensures ∙ full)));
+  few = rw c.in_ok-push.ensures.ok (few_more c.pieces.pieces _ c.pieces.invariant.few (λ full. c.if-len-eq-MOST_STATEMENTS.false (c.len.ensures ∙ full)));
   texts =
       let body = left_body c.args.script.now c.requires _ _ c.behind_gap-body.ensures.gap c.pieces.invariant.left in
       let end = left_end c.args.script.now c.requires _ _ c.behind_body-end.ensures.body body in

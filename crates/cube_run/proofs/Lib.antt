@@ -1,0 +1,6 @@
+pub mod OneMisfit
+pub mod OneOutcome
+pub mod OneText
+pub mod Passing
+pub mod VisitsWorked
+pub mod RisingBounds

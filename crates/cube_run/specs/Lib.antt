@@ -1,0 +1,11 @@
+pub mod RunRecords
+pub mod SessionStates
+pub mod SessionSteps
+pub mod StatementEntries
+pub mod LoadedRows
+pub mod StepOutcomes
+pub mod Merge
+pub mod RunTransactions
+pub mod RunText
+pub mod FinalNames
+pub mod VisitsReport

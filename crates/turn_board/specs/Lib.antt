@@ -1,0 +1,10 @@
+pub mod Calls
+pub mod Hands
+pub mod History
+pub mod Lanes
+pub mod Numbers
+pub mod Passes
+pub mod Rising
+pub mod Rule
+pub mod Seats
+pub mod Steps
