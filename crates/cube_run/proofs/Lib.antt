@@ -4,3 +4,4 @@ pub mod OneText
 pub mod Passing
 pub mod VisitsWorked
 pub mod RisingBounds
+pub mod SmallRuns
