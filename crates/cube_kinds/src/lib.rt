@@ -74,6 +74,7 @@ pub use cube_language::spells;
 pub use cube_language::text_of;
 pub use cube_run::bounds_never_fall;
 pub use cube_run::entries_tell_the_outcome;
+pub use cube_run::faulty_run_worked;
 pub use cube_run::one_journal_one_text;
 pub use cube_run::paired_run_worked;
 pub use cube_run::visits_report_worked;

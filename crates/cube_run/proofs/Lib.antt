@@ -5,3 +5,4 @@ pub mod Passing
 pub mod VisitsWorked
 pub mod RisingBounds
 pub mod SmallRuns
+pub mod FaultyRun

@@ -1,15 +1,19 @@
--- Two small runs over one cube: a session that watches, and two sessions of which one has a transaction open.
+-- Small runs over one cube: a session that watches; two sessions, of which one has a transaction open; and a session
+-- that meets refusals and faults.
 -- Source: this project's own.
-use Rattle.std.specs.Prelude.{ℕ, false, List, [], ◌∷◌, ◌++◌, codes, None, pos}
+use Rattle.std.specs.Prelude.{ℕ, false, List, [], ◌∷◌, ◌++◌, codes, None, Ok, Err, pos}
 use Rattle.cube_values.specs.declared.value.Value.TheVariants.{Int}
+use Rattle.cube_language.specs.declared.bad_row.BadRow.TheVariants.{Column}
+use Rattle.cube_language.specs.declared.bad_row.Reason.TheVariants.{OutOfRange}
 use Rattle.cube_language.specs.declared.decl.Decl.{Decl}
 use Rattle.cube_language.specs.declared.statement.Item.{Item}
 use Rattle.cube_language.specs.declared.statement.Item.TheVariants.{Sum, CountAll}
 use Rattle.cube_language.specs.declared.statement.Statement.{Statement}
 use Rattle.cube_language.specs.declared.statement.Statement.TheVariants as statement
+use Rattle.cube_journal.specs.declared.journal_entry.AbortCause.TheVariants.{TooManyRejected}
 use Rattle.cube_journal.specs.declared.journal_entry.JournalEntry.{JournalEntry}
-use Rattle.cube_journal.specs.declared.journal_entry.JournalEntry.TheVariants.{Begin, Committed, Read, ReadEnd, Refused, Round, Safe}
-use Rattle.cube_run.specs.RunRecords.{RunRecord, Sentence, Says, Missing}
+use Rattle.cube_journal.specs.declared.journal_entry.JournalEntry.TheVariants.{Begin, Read, ReadEnd, Committed, Aborted, Refused, Cleared, Show, Flushed, Purged, Cube, Round, Idle, Safe}
+use Rattle.cube_run.specs.RunRecords.{RunRecord, Sentence, Says, LoadedFile, Missing, Records}
 
 -- A dimension x of five numbers, in ranges of two, and a metric m.
 abbrev pub small_cube : Decl
@@ -97,3 +101,52 @@ paired_text =
     ++ (codes "journal 9\nbegin 1.1 epoch 1 deps []\nbegin 2.1 epoch 2 deps [1]\ncommitted 2.1 epoch 2\n"
     ++ (codes "read 2.2 epoch 0\nreadend 2.2\ncommitted 1.4 epoch 1\nrefused 1.5 code 13\n"
     ++ codes "round 2\nsafe 2\nend ec 3 lce 2 lse 2\n")))
+
+-- A cube of a metric k alone.
+abbrev pub other_cube : Decl
+other_cube = record { name = codes "u"; dims = []; metrics = codes "k" ∷ [] }
+
+-- A file of two records: a row, and a value outside its dimension.
+abbrev pub small_file : LoadedFile
+small_file = Records (λ d.
+    Ok (record { dims = Int (pos 4) ∷ []; metrics = pos 1 ∷ [] })
+    ∷ Err (Column (codes "x") OutOfRange) ∷ [])
+
+-- LOAD t FROM 'h' REJECT reject
+abbrev pub small_load : ℕ → Statement
+small_load reject = statement.Load (codes "t") (codes "h") reject
+
+-- SELECT COUNT(*) FROM w
+abbrev pub lost_select : Statement
+lost_select = statement.Select (CountAll ∷ []) (codes "w") [] [] [] [] None
+
+-- A session makes a cube, loads a file twice, has its transaction aborted by it, and asks for a round and a purge.
+abbrev pub faulty_run : RunRecord
+faulty_run = record (small_run
+    ((Says (statement.CreateCube other_cube) ∷ Says (statement.CreateCube other_cube) ∷ Says (small_load 1)
+    ∷ Says statement.Begin ∷ Says (small_load 0) ∷ Says statement.Commit ∷ Says statement.Rollback
+    ∷ Says statement.Flush ∷ Says statement.Purge ∷ Says statement.ShowEpochs ∷ Says lost_select ∷ []) ∷ [])
+    (Cube 1 1 1
+    ∷ Refused 1 2 19
+    ∷ Begin 1 3 2 [] ∷ Committed 1 3 2
+    ∷ Begin 1 4 3 []
+    ∷ Aborted 1 5 3 TooManyRejected
+    ∷ Refused 1 6 14
+    ∷ Cleared 1 7
+    ∷ Round 3 ∷ Safe 3 ∷ Flushed 1 8
+    ∷ Purged 1 9 3
+    ∷ Show 1 10
+    ∷ Refused 1 11 2
+    ∷ Idle 3 ∷ [])) { file = λ session statement. small_file }
+
+-- Its text.
+abbrev pub faulty_text : List ℕ
+faulty_text =
+    codes "session 1\n1.1 created epoch 1\n1.2 refused 19 CubeExists u\n1.3 stored 1 rejected 1 epoch 2\n"
+    ++ (codes "reject 2 column x OutOfRange\n1.4 begun 3\n1.5 refused 10 TooManyRejected 1 allowed 0\n"
+    ++ (codes "1.6 refused 14 TransactionAborted\n1.7 rolled back 3\n1.8 flushed 3\n1.9 purged 3\n"
+    ++ (codes "1.10 epochs ec 4 lce 3 lse 3 pending []\n1.11 refused 2 UnknownCube w\n"
+    ++ (codes "journal 15\ncube 1.1 epoch 1\nrefused 1.2 code 19\nbegin 1.3 epoch 2 deps []\ncommitted 1.3 epoch 2\n"
+    ++ (codes "begin 1.4 epoch 3 deps []\naborted 1.5 epoch 3 TooManyRejected\nrefused 1.6 code 14\ncleared 1.7\n"
+    ++ (codes "round 3\nsafe 3\nflushed 1.8\npurged 1.9 epoch 3\nshow 1.10\nrefused 1.11 code 2\nidle 3\n"
+    ++ codes "end ec 4 lce 3 lse 3\n"))))))
