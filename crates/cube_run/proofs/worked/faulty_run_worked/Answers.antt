@@ -6,6 +6,7 @@ use Rattle.cube_journal.specs.declared.reply.Reply.TheVariants as reply
 use Rattle.cube_journal.proofs.Digits.{decimal-0, decimal-1, decimal-2, decimal-3, decimal-4, decimal-5, decimal-6, decimal-7, decimal-8, decimal-9, decimal-10, decimal-11, decimal-14, decimal-15, decimal-19}
 use Rattle.cube_run.specs.StatementEntries.{Done, RefusedWith}
 use Rattle.cube_run.proofs.FaultyRun.{faulty-1, faulty-2, faulty-3, faulty-4, faulty-5, faulty-6, faulty-7, faulty-8, faulty-9, faulty-10, faulty-11}
+use Rattle.cube_run.proofs.Passing.{replied}
 use Rattle.cube_run.proofs.worked.faulty_run_worked.Goals as goal
 
 pub returns-clause-merge : goal.returns-clause-merge
@@ -57,29 +58,26 @@ returns-clause-text c = record {
       ∷ reply.Refused (refusal.UnknownCube (codes "w")) ∷ []) ∷ [];
   answers = (
     (
-      record { outcome = Done; ends = faulty-1; is = refl },
+      replied faulty-1,
       (
-        record { outcome = RefusedWith (refusal.CubeExists (codes "u")); ends = faulty-2; is = refl },
+        replied faulty-2,
         (
-          record { outcome = Done; ends = faulty-3; is = refl },
+          replied faulty-3,
           (
-            record { outcome = Done; ends = faulty-4; is = refl },
+            replied faulty-4,
             (
-              record { outcome = RefusedWith (refusal.TooManyRejected 1 0); ends = faulty-5; is = refl },
+              replied faulty-5,
               (
-                record { outcome = RefusedWith refusal.TransactionAborted; ends = faulty-6; is = refl },
+                replied faulty-6,
                 (
-                  record { outcome = Done; ends = faulty-7; is = refl },
+                  replied faulty-7,
                   (
-                    record { outcome = Done; ends = faulty-8; is = refl },
+                    replied faulty-8,
                     (
-                      record { outcome = Done; ends = faulty-9; is = refl },
+                      replied faulty-9,
                       (
-                        record { outcome = Done; ends = faulty-10; is = refl },
-                        (
-                          record { outcome = RefusedWith (refusal.UnknownCube (codes "w")); ends = faulty-11; is = refl },
-                          tt,
-                        ),
+                        replied faulty-10,
+                        (replied faulty-11, tt),
                       ),
                     ),
                   ),

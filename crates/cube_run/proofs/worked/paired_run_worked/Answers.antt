@@ -5,6 +5,7 @@ use Rattle.cube_journal.specs.declared.reply.Reply.TheVariants as reply
 use Rattle.cube_journal.proofs.Digits.{decimal-0, decimal-1, decimal-2, decimal-3, decimal-4, decimal-5, decimal-9, decimal-13}
 use Rattle.cube_run.specs.StatementEntries.{Done, RefusedWith}
 use Rattle.cube_run.proofs.SmallRuns.{paired-1-1, paired-1-2, paired-1-3, paired-1-4, paired-1-5, paired-2-1, paired-2-2}
+use Rattle.cube_run.proofs.Passing.{replied}
 use Rattle.cube_run.proofs.worked.paired_run_worked.Goals as goal
 
 pub returns-clause-merge : goal.returns-clause-merge
@@ -45,25 +46,22 @@ returns-clause-text c = record {
       ∷ (reply.Stored 1 2 ∷ reply.Rows 0 ((Null ∷ Whole (pos 0) ∷ []) ∷ []) ∷ []) ∷ [];
   answers = (
     (
-      record { outcome = Done; ends = paired-1-1; is = refl },
+      replied paired-1-1,
       (
-        record { outcome = Done; ends = paired-1-2; is = refl },
+        replied paired-1-2,
         (
-          record { outcome = Done; ends = paired-1-3; is = refl },
+          replied paired-1-3,
           (
-            record { outcome = Done; ends = paired-1-4; is = refl },
-            (record { outcome = RefusedWith refusal.NoTransaction; ends = paired-1-5; is = refl }, tt),
+            replied paired-1-4,
+            (
+              replied paired-1-5,
+              tt,
+            ),
           ),
         ),
       ),
     ),
-    (
-      (
-        record { outcome = Done; ends = paired-2-1; is = refl },
-        (record { outcome = Done; ends = paired-2-2; is = refl }, tt),
-      ),
-      tt,
-    ),
+    ((replied paired-2-1, (replied paired-2-2, tt)), tt),
   );
   whole = simp (decimal-0, decimal-1, decimal-2, decimal-3, decimal-4, decimal-5, decimal-9, decimal-13);
 }

@@ -5,6 +5,7 @@ use Rattle.cube_journal.specs.declared.reply.Reply.TheVariants as reply
 use Rattle.cube_journal.proofs.Digits.{decimal-0, decimal-1, decimal-2, decimal-3, decimal-4, decimal-5, decimal-6, decimal-12, decimal-17}
 use Rattle.cube_run.specs.StatementEntries.{Done}
 use Rattle.cube_run.proofs.SmallRuns.{watched-1, watched-2, watched-3, watched-4, watched-5}
+use Rattle.cube_run.proofs.Passing.{replied}
 use Rattle.cube_run.proofs.worked.watched_run_worked.Goals as goal
 
 decimal-33 : decimal 33 ≡ codes "33"
@@ -29,19 +30,7 @@ returns-clause-text c = record {
       ∷ reply.Watching 1 ((Whole (pos 5) ∷ Whole (pos 1) ∷ []) ∷ []) ∷ reply.Dropped 2
       ∷ reply.Watching 2 ((Null ∷ Whole (pos 0) ∷ []) ∷ []) ∷ []) ∷ [];
   answers = (
-    (
-      record { outcome = Done; ends = watched-1; is = refl },
-      (
-        record { outcome = Done; ends = watched-2; is = refl },
-        (
-          record { outcome = Done; ends = watched-3; is = refl },
-          (
-            record { outcome = Done; ends = watched-4; is = refl },
-            (record { outcome = Done; ends = watched-5; is = refl }, tt),
-          ),
-        ),
-      ),
-    ),
+    (replied watched-1, (replied watched-2, (replied watched-3, (replied watched-4, (replied watched-5, tt))))),
     tt,
   );
   whole = simp (
