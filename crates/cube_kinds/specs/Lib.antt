@@ -52,3 +52,4 @@ pub use Rattle.cube_run.specs.RunTransactions
 pub use Rattle.cube_run.specs.RunText
 pub use Rattle.cube_run.specs.FinalNames
 pub use Rattle.cube_run.specs.VisitsReport
+pub use Rattle.cube_run.specs.WorkedRuns

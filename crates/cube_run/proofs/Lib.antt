@@ -4,3 +4,5 @@ pub mod OneText
 pub mod Passing
 pub mod VisitsWorked
 pub mod RisingBounds
+pub mod SmallRuns
+pub mod FaultyRun

@@ -25,7 +25,7 @@ abbrev tail-of : List DimDecl → List DimDecl
 tail-of [] = []
 tail-of (x ∷ xs) = xs
 
--- The first dimension that is cut stands behind dimensions that are not.
+-- The first dimension that is cut follows dimensions that are not.
 first-cut : (conds : List Cond) (xs ys : List DimDecl) (a b : DimDecl) (us vs : List DimDecl)
     → xs ++ a ∷ us ≡ ys ++ b ∷ vs → All (AreAligned conds) xs → All (AreAligned conds) ys
     → (AreAligned conds a → ⊥) → (AreAligned conds b → ⊥) → a ≡ b

@@ -16,7 +16,7 @@ use Rattle.cube_run.specs.StepOutcomes.{IsMisfitOf, MayEnd, refused_first, shard
 use Rattle.cube_run.specs.RunRecords.{RunRecord, Catalog, catalog_of, Sentence, Says, SaysNone, cube_called, cube_needed}
 use Rattle.cube_run.specs.SessionStates.{Mode, Idle, Open, Aborted, KeptWatch}
 use Rattle.cube_run.specs.SessionSteps.{SessionStep}
-use Rattle.cube_run.specs.StatementEntries.{Outcome, Done, RefusedWith, Leaves, select_idle, select_idle_without_memory, select_open, change_idle, change_idle_ended, change_open, change_open_ended, begin_done, commit_done, rollback_of_open, rollback_of_aborted, flush_done, purge_done, show_done, create_done, watch_done, watch_without_memory, show_watch_done, show_watch_without_memory, other_refusal, cause_of, own_cause_of, leaves_refused, up_to_commit}
+use Rattle.cube_run.specs.StatementEntries.{Outcome, Done, RefusedWith, Leaves, select_idle, select_idle_without_memory, select_open, change_idle, change_idle_ended, change_open, change_open_ended, begin_done, commit_done, rollback_of_open, rollback_of_aborted, flush_done, purge_done, show_done, create_done, watch_done, watch_without_memory, show_watch_done, show_watch_without_memory, other_refusal, cause_of, own_cause_of, leaves_refused, entries_to_commit}
 use Rattle.cube_run.proofs.OneMisfit.{one-misfit-on}
 
 -- ---- one first refusal
@@ -216,5 +216,5 @@ one-of-verdict c step mode (Caused cause) a b (inr x) (inr y) p q =
 pub one-outcome : (run : RunRecord) (step : SessionStep) (a b : Outcome) → IsOutcome run step a → IsOutcome run step b
     → a ≡ b
 one-outcome run step a b p q =
-    one-of-verdict (catalog_of run) step step.state.mode (verdict (up_to_commit step.entries)) a b (agrees p.leaves)
-    (agrees q.leaves) p.ends q.ends
+    one-of-verdict (catalog_of run) step step.state.mode (verdict (entries_to_commit step.entries)) a b
+    (agrees p.leaves) (agrees q.leaves) p.ends q.ends

@@ -1,5 +1,5 @@
 -- When a statement meets no refusal.
-use Rattle.std.proofs.Common.{◌≡◌, ◌∙◌, ℕ, List, None, sym}
+use Rattle.std.proofs.Common.{◌≡◌, ◌∙◌, ℕ, List, None, sym, refl}
 use Rattle.std.proofs.lemmas.Option.{none-some}
 use Rattle.cube_language.specs.ColumnUses.{unknown_column, wrong_kind}
 use Rattle.cube_language.specs.Misfits.{FailsTest, FitsCube, not_grouped, not_an_item, bad_having, not_watchable}
@@ -7,9 +7,11 @@ use Rattle.cube_language.specs.declared.bad_row.BadRow.{BadRow as WhyBad}
 use Rattle.cube_language.specs.declared.decl.Decl.{Decl}
 use Rattle.cube_language.specs.declared.misfit.Misfit.TheVariants.{UnknownColumn, WrongKind, NotGrouped, NotAnItem, BadHaving, NotWatchable, CutsBrick, BadRow}
 use Rattle.cube_language.specs.declared.statement.Statement.{Statement}
+use Rattle.cube_run.specs.Merge.{IsOutcome}
 use Rattle.cube_run.specs.RunRecords.{RunRecord, catalog_of}
+use Rattle.cube_run.specs.RunText.{IsReply, reply_of}
 use Rattle.cube_run.specs.SessionSteps.{SessionStep}
-use Rattle.cube_run.specs.StatementEntries.{Done}
+use Rattle.cube_run.specs.StatementEntries.{Outcome, Done}
 use Rattle.cube_run.specs.StepOutcomes.{IsMisfitOf, MayEnd, all_passed, bound_refusal, data_refusal}
 
 -- A statement fits its cube that passes each test.
@@ -35,3 +37,8 @@ passed run step fits bound given = all_passed (record {
   meets = record { misfit = None; is_misfit = fits; is = bound };
   is = given;
 })
+
+-- The reply to a statement that ends so.
+pub replied : {run : RunRecord} {step : SessionStep} {outcome : Outcome} → IsOutcome run step outcome
+    → IsReply run step (reply_of run step step.sentence outcome)
+replied {outcome = outcome} ends = record { outcome = outcome; ends = ends; is = refl }

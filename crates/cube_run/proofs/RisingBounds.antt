@@ -60,14 +60,14 @@ all-rises safe before (e ∷ later) a =
     le-trans (least (journal_state safe before)) (least (journal_state safe (before ++ e ∷ [])))
     (least (journal_state safe (before ++ (e ∷ later)))) first rest
 
--- What stands behind a part of a legal journal is allowed behind it.
-allowed-behind : (safe : ℕ) (front before later : List JournalEntry) → CountersAllowAll safe front (before ++ later)
+-- What follows a part of a legal journal is allowed after it.
+allowed-after : (safe : ℕ) (front before later : List JournalEntry) → CountersAllowAll safe front (before ++ later)
     → CountersAllowAll safe (front ++ before) later
-allowed-behind safe front [] later a =
+allowed-after safe front [] later a =
     subst (λ (xs : List JournalEntry). CountersAllowAll safe xs later) (sym (append-nil front)) a
-allowed-behind safe front (e ∷ before) later a =
+allowed-after safe front (e ∷ before) later a =
     subst (λ (xs : List JournalEntry). CountersAllowAll safe xs later) (append-one front e before)
-    (allowed-behind safe (front ++ e ∷ []) before later a.1)
+    (allowed-after safe (front ++ e ∷ []) before later a.1)
 
 less-one : (m n : ℕ) → m ≤ n → m - 1 ≤ n - 1
 less-one m n le = omega arith
@@ -76,4 +76,4 @@ pub lce-rises : (safe : ℕ) (before later : List JournalEntry) → CountersAllo
     → lce (journal_state safe before) ≤ lce (journal_state safe (before ++ later))
 lce-rises safe before later a =
     less-one (least (journal_state safe before)) (least (journal_state safe (before ++ later)))
-    (all-rises safe before later (allowed-behind safe [] before later a))
+    (all-rises safe before later (allowed-after safe [] before later a))

@@ -24,7 +24,7 @@ likes-fit : FitsCube visits_cube likes_by_region
 likes-fit =
     fits-by-tests visits_cube likes_by_region refl refl refl refl refl refl (λ name h. h) (λ row why h. h)
 
--- The step of the statement of this number, behind so many commits.
+-- The step of the statement of this number, after so many commits.
 abbrev step : ℕ → ℕ → Statement → SessionStep
 step number commits s =
     step_at visits_report 1 number (record { mode = Idle; watch = None; commits = commits }) (Says s)

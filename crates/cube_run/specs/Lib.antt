@@ -9,3 +9,4 @@ pub mod RunTransactions
 pub mod RunText
 pub mod FinalNames
 pub mod VisitsReport
+pub mod WorkedRuns

@@ -8,17 +8,17 @@ use Rattle.cube_journal.specs.declared.journal_entry.JournalEntry.{JournalEntry}
 use Rattle.cube_journal.specs.declared.refusal.Refusal.TheVariants as refusal
 use Rattle.cube_journal.specs.Entries.{session_of}
 use Rattle.cube_run.specs.StepOutcomes.{MayEnd}
-use Rattle.cube_run.specs.RunRecords.{RunRecord, Sentence, cubes_behind, catalog_of, cube_called, cube_needed, statement_said}
+use Rattle.cube_run.specs.RunRecords.{RunRecord, Sentence, cubes_at, catalog_of, cube_called, cube_needed, statement_said}
 use Rattle.cube_run.specs.SessionStates.{fresh_session, is_commit}
 use Rattle.cube_run.specs.SessionSteps.{SessionStep, belongs_to, session_part, steps_of, journal_before, last_state}
-use Rattle.cube_run.specs.StatementEntries.{Outcome, Done, RefusedWith, Leaves, LeavesRound, up_to_commit, behind_commit, script_end}
+use Rattle.cube_run.specs.StatementEntries.{Outcome, Done, RefusedWith, Leaves, LeavesRound, entries_to_commit, entries_after_commit, script_end}
 
--- A session makes a round behind a statement that commits, where its commits by then are a multiple of round_every.
+-- A session makes a round after a statement that commits, where its commits by then are a multiple of round_every.
 abbrev pub round_is_due : ℕ → SessionStep → Bool
 round_is_due zero step = false
 round_is_due (suc n) step = list_any is_commit step.entries && ((step.state.commits + 1) % suc n == 0)
 
--- The entries behind a commit are those of a round, or none.
+-- The entries after a commit are those of a round, or none.
 abbrev pub RoundFollows : ℕ → ℕ → Bool → List JournalEntry → Type 0
 RoundFollows i j true entries = LeavesRound i j entries
 RoundFollows i j false entries = entries ≡ []
@@ -38,21 +38,22 @@ looked_for_cube (RefusedWith r) = true
 abbrev pub HasCube : RunRecord → SessionStep → Option (List ℕ) → Type 0
 HasCube run step None = Unit {0}
 HasCube run step (Some name) =
-    IsSome (cube_called (cubes_behind run (journal_before step.session step.number run.journal)) name)
+    IsSome (cube_called (cubes_at run (journal_before step.session step.number run.journal)) name)
 
 -- A statement may end so, and its entries are those that it then leaves.
 pub record IsOutcome (run : RunRecord) (step : SessionStep) (outcome : Outcome) : Type 0 where
   pub ends : MayEnd (catalog_of run) step outcome
   pub leaves : Leaves step.session step.number step.state.mode step.state.watch step.sentence outcome
-      (up_to_commit step.entries)
-  pub round : RoundFollows step.session step.number (round_is_due run.round_every step) (behind_commit step.entries)
+      (entries_to_commit step.entries)
+  pub round : RoundFollows step.session step.number (round_is_due run.round_every step)
+      (entries_after_commit step.entries)
   pub cube : looked_for_cube outcome ≡ true
       → HasCube run step (option_and_then cube_needed (statement_said step.sentence))
 
 abbrev pub HasOutcome : RunRecord → SessionStep → Type 0
 HasOutcome run step = (outcome : Outcome) × IsOutcome run step outcome
 
--- The entries of a session's end, behind its steps.
+-- The entries of the end of a session, after its steps.
 abbrev pub end_of : ℕ → List Sentence → List SessionStep → List JournalEntry
 end_of session script steps =
     let last = last_state fresh_session steps in script_end session (length script + 1) last.mode last.watch

@@ -79,8 +79,8 @@ made_by run (entry.Cube session statement epoch) =
 made_by run _ = None
 
 -- The cubes after some entries: those of the beginning, and those that were made.
-abbrev pub cubes_behind : RunRecord → List JournalEntry → List Decl
-cubes_behind run journal = run.cubes ++ filter_map (made_by run) journal
+abbrev pub cubes_at : RunRecord → List JournalEntry → List Decl
+cubes_at run journal = run.cubes ++ filter_map (made_by run) journal
 
 -- The cube of a name.
 abbrev pub cube_called : List Decl → List ℕ → Option Decl
@@ -92,7 +92,7 @@ pub record Catalog : Type 0 where
   pub names : List (List (List (List ℕ)))
 
 abbrev pub catalog_of : RunRecord → Catalog
-catalog_of run = record { cubes = cubes_behind run run.journal; names = run.names }
+catalog_of run = record { cubes = cubes_at run run.journal; names = run.names }
 
 -- The declaration of the cube of a name. No statement that is done asks for one that is not there; it has no columns.
 abbrev pub declaration_of : Catalog → List ℕ → Decl

@@ -52,38 +52,38 @@ mode_after_abort epoch abort.EndOfScript = Idle
 mode_after_abort epoch cause = Aborted epoch
 
 -- What a statement's entries make of an open transaction.
-abbrev pub mode_behind_open : Snapshot → List JournalEntry → Mode
-mode_behind_open writer (entry.Committed session statement epoch ∷ later) = Idle
-mode_behind_open writer (entry.Aborted session statement epoch cause ∷ later) = mode_after_abort epoch cause
-mode_behind_open writer entries = Open writer
+abbrev pub open_mode_after : Snapshot → List JournalEntry → Mode
+open_mode_after writer (entry.Committed session statement epoch ∷ later) = Idle
+open_mode_after writer (entry.Aborted session statement epoch cause ∷ later) = mode_after_abort epoch cause
+open_mode_after writer entries = Open writer
 
 -- What a statement's entries make of a session's mode: a BEGIN leaves a Begin alone; a transaction of the statement's
 -- own is gone with it; a ROLLBACK of an aborted transaction leaves a Cleared.
-abbrev pub mode_behind : Mode → List JournalEntry → Mode
-mode_behind Idle (entry.Begin session statement epoch deps ∷ []) =
+abbrev pub mode_after : Mode → List JournalEntry → Mode
+mode_after Idle (entry.Begin session statement epoch deps ∷ []) =
     Open (record { epoch = epoch; deps = deps; own = true })
-mode_behind Idle entries = Idle
-mode_behind (Open writer) entries = mode_behind_open writer entries
-mode_behind (Aborted epoch) (entry.Cleared session statement ∷ later) = Idle
-mode_behind (Aborted epoch) entries = Aborted epoch
+mode_after Idle entries = Idle
+mode_after (Open writer) entries = open_mode_after writer entries
+mode_after (Aborted epoch) (entry.Cleared session statement ∷ later) = Idle
+mode_after (Aborted epoch) entries = Aborted epoch
 
 -- A done WATCH leaves the Read of its reader alone. A done SHOW WATCH leaves the Read of the next reader and the
 -- ReadEnd of the one before. Nothing else changes a session's watch.
-abbrev pub watch_behind : Option KeptWatch → Sentence → List JournalEntry → Option KeptWatch
-watch_behind None (Says (Watch items cube conds group)) (entry.Read holder statement epoch ∷ []) =
+abbrev pub watch_after : Option KeptWatch → Sentence → List JournalEntry → Option KeptWatch
+watch_after None (Says (Watch items cube conds group)) (entry.Read holder statement epoch ∷ []) =
     Some (record { holder = holder; asked = Watch items cube conds group })
-watch_behind (Some kept) (Says ShowWatch) (entry.Read holder statement epoch ∷ entry.ReadEnd old same ∷ []) =
+watch_after (Some kept) (Says ShowWatch) (entry.Read holder statement epoch ∷ entry.ReadEnd old same ∷ []) =
     Some (record { holder = holder; asked = kept.asked })
-watch_behind watch sentence entries = watch
+watch_after watch sentence entries = watch
 
 abbrev pub is_commit : JournalEntry → Bool
 is_commit (entry.Committed session statement epoch) = true
 is_commit _ = false
 
 -- What a statement makes of its session, by what it says and the entries that it leaves.
-abbrev pub session_behind : SessionState → Sentence → List JournalEntry → SessionState
-session_behind state sentence entries = record {
-  mode = mode_behind state.mode entries;
-  watch = watch_behind state.watch sentence entries;
+abbrev pub session_after : SessionState → Sentence → List JournalEntry → SessionState
+session_after state sentence entries = record {
+  mode = mode_after state.mode entries;
+  watch = watch_after state.watch sentence entries;
   commits = state.commits + count_by is_commit entries;
 }

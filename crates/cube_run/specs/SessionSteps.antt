@@ -7,7 +7,7 @@ use Rattle.std.specs.Option.{option_map_or}
 use Rattle.cube_journal.specs.declared.journal_entry.JournalEntry.{JournalEntry}
 use Rattle.cube_journal.specs.Entries.{is_of_session, statement_of}
 use Rattle.cube_run.specs.RunRecords.{RunRecord, Sentence, LoadedFile}
-use Rattle.cube_run.specs.SessionStates.{SessionState, fresh_session, first_holder, second_holder, session_behind}
+use Rattle.cube_run.specs.SessionStates.{SessionState, fresh_session, first_holder, second_holder, session_after}
 
 -- An entry is a session's, under its own number or one of its holder numbers.
 abbrev pub belongs_to : ℕ → JournalEntry → Bool
@@ -56,20 +56,20 @@ step_at run session number state sentence = record {
 }
 
 -- The state of the session after a step.
-abbrev pub state_behind : SessionStep → SessionState
-state_behind step = session_behind step.state step.sentence step.entries
+abbrev pub state_after_step : SessionStep → SessionState
+state_after_step step = session_after step.state step.sentence step.entries
 
 -- The steps of a session from the statement of a number and a state on.
 abbrev pub steps_from : RunRecord → ℕ → ℕ → SessionState → List Sentence → List SessionStep
 steps_from run session number state [] = []
 steps_from run session number state (sentence ∷ script) =
     let step = step_at run session number state sentence in
-    step ∷ steps_from run session (number + 1) (state_behind step) script
+    step ∷ steps_from run session (number + 1) (state_after_step step) script
 
 -- The state of the session after all of them.
 abbrev pub last_state : SessionState → List SessionStep → SessionState
 last_state state [] = state
-last_state state (step ∷ steps) = last_state (state_behind step) steps
+last_state state (step ∷ steps) = last_state (state_after_step step) steps
 
 -- The steps of a session with this script.
 abbrev pub steps_of : RunRecord → ℕ → List Sentence → List SessionStep

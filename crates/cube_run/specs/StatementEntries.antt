@@ -119,16 +119,16 @@ pub data Leaves (i j : ℕ) : Mode → Option KeptWatch → Sentence → Outcome
       → leaves_refused mode r ≡ true
       → Leaves i j mode watch sentence (RefusedWith r) (entry.Refused i j (code r) ∷ [])
 
--- The entries of a statement up to its commit, if it has one, and those behind it, which are a round's.
-abbrev pub up_to_commit : List JournalEntry → List JournalEntry
-up_to_commit [] = []
-up_to_commit (entry.Committed i j epoch ∷ later) = entry.Committed i j epoch ∷ []
-up_to_commit (e ∷ later) = e ∷ up_to_commit later
+-- The entries of a statement up to its commit, if it has one, and those after it, which are a round's.
+abbrev pub entries_to_commit : List JournalEntry → List JournalEntry
+entries_to_commit [] = []
+entries_to_commit (entry.Committed i j epoch ∷ later) = entry.Committed i j epoch ∷ []
+entries_to_commit (e ∷ later) = e ∷ entries_to_commit later
 
-abbrev pub behind_commit : List JournalEntry → List JournalEntry
-behind_commit [] = []
-behind_commit (entry.Committed i j epoch ∷ later) = later
-behind_commit (e ∷ later) = behind_commit later
+abbrev pub entries_after_commit : List JournalEntry → List JournalEntry
+entries_after_commit [] = []
+entries_after_commit (entry.Committed i j epoch ∷ later) = later
+entries_after_commit (e ∷ later) = entries_after_commit later
 
 -- A round that follows a commit leaves what FLUSH and PURGE leave, or its refusal.
 pub data LeavesRound (i j : ℕ) : List JournalEntry → Type 0 where

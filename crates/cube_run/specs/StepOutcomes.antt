@@ -102,7 +102,7 @@ refused_file catalog cube reject (Records records) =
     let rejected = length (rejections_among (load_records catalog cube reject (Records records))) in
     if nat_lt reject rejected then Some (refusal.TooManyRejected rejected reject) else None
 
--- The first refusal behind the binding: the dictionaries of an INSERT, the file of a LOAD.
+-- The first refusal after the binding: the dictionaries of an INSERT, the file of a LOAD.
 abbrev pub data_refusal : Catalog → LoadedFile → Sentence → Option Refusal
 data_refusal catalog file (Says (Insert cube rows)) =
     option_map refusal.DictionaryFull

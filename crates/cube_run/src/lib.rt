@@ -6,4 +6,4 @@ mod law;
 mod worked;
 
 pub use law::{bounds_never_fall, entries_tell_the_outcome, one_journal_one_text};
-pub use worked::visits_report_worked;
+pub use worked::{faulty_run_worked, paired_run_worked, visits_report_worked, watched_run_worked};

@@ -55,20 +55,32 @@ cube_named cubes name = find (λ d. bytes_eq name d.name) cubes
 -- The row of the values of an INSERT, dimensions first.
 abbrev pub row_of : Decl → List Value → StoredRow
 row_of d values =
-    record { cube = d.name; row = record { dims = take (length d.dims) values; metrics = map value_number (drop (length d.dims) values) } }
+    record {
+      cube = d.name;
+      row = record {
+        dims = take (length d.dims) values;
+        metrics = map value_number (drop (length d.dims) values);
+      };
+    }
 
 -- An INSERT of a row that fits a cube of numbers stores it.
 abbrev pub store_on : Decl → List Value → Option Action
-store_on d values = if has_numbers_alone d && fits_row d.dims (length d.metrics) values then Some (Store (row_of d values)) else None
+store_on d values =
+    if has_numbers_alone d && fits_row d.dims (length d.metrics) values
+    then Some (Store (row_of d values))
+    else None
 
 -- The sum of the metric at a place over all rows of a cube, as a query.
 abbrev pub sum_query : Decl → ℕ → Query
-sum_query d place = record { region = record { cube = d.name; conditions = [] }; group = []; items = item.Sum place ∷ [] }
+sum_query d place =
+    record { region = record { cube = d.name; conditions = [] }; group = []; items = item.Sum place ∷ [] }
 
 -- A SELECT of the sum of a metric of a cube of numbers asks for it.
 abbrev pub ask_on : Decl → List ℕ → Option Action
 ask_on d metric =
-    if has_numbers_alone d then option_map (λ place. Ask (sum_query d place)) (position_from (bytes_eq metric) 0 d.metrics) else None
+    if has_numbers_alone d
+    then option_map (λ place. Ask (sum_query d place)) (position_from (bytes_eq metric) 0 d.metrics)
+    else None
 
 -- What an INSERT does: it runs with one row.
 abbrev pub insert_action : List Decl → List ℕ → List (List Value) → Option Action
@@ -76,9 +88,13 @@ insert_action cubes cube [] = None
 insert_action cubes cube (values ∷ []) = option_and_then (λ d. store_on d values) (cube_named cubes cube)
 insert_action cubes cube (values ∷ more ∷ rows) = None
 
+-- What a SELECT of the sum of a metric of a cube does.
+abbrev pub sum_action : List Decl → List ℕ → List ℕ → Option Action
+sum_action cubes metric cube = option_and_then (λ d. ask_on d metric) (cube_named cubes cube)
+
 -- What a SELECT does: it runs with one sum, and without conditions and groups.
 abbrev pub select_action : List Decl → List Item → List ℕ → List Cond → List (List ℕ) → Option Action
-select_action cubes (Sum metric ∷ []) cube [] [] = option_and_then (λ d. ask_on d metric) (cube_named cubes cube)
+select_action cubes (Sum metric ∷ []) cube [] [] = sum_action cubes metric cube
 select_action cubes items cube conds group = None
 
 -- What a statement does, or None where it does not run.

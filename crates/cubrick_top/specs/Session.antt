@@ -1,6 +1,6 @@
 -- What the actions of a session leave and are answered. The k-th row that is stored has epoch k, and a query reads at
 -- the number of rows stored before it.
-use Rattle.std.specs.Prelude.{ℕ, ◌+◌, List, [], ◌∷◌, ◌++◌, codes, decimal, false}
+use Rattle.std.specs.Prelude.{ℕ, ◌+◌, List, [], ◌∷◌, ◌++◌, length, codes, decimal, false}
 use Rattle.cube_values.specs.declared.operation.Operation.TheVariants.{Put}
 use Rattle.cube_values.specs.declared.operation.Transaction.{Transaction}
 use Rattle.cube_values.specs.declared.query.Query.{Query}
@@ -25,6 +25,10 @@ transactions_from before [] = []
 transactions_from before (Store row ∷ actions) = put_at (before + 1) row ∷ transactions_from (before + 1) actions
 transactions_from before (Ask query ∷ actions) = transactions_from before actions
 transactions_from before (Refuse fault ∷ actions) = transactions_from before actions
+
+-- The transactions after one action more.
+abbrev pub transactions_after : List Transaction → Action → List Transaction
+transactions_after transactions action = transactions ++ transactions_from (length transactions) (action ∷ [])
 
 -- The snapshot of a reader.
 abbrev pub reader_at : ℕ → Snapshot

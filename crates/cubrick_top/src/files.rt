@@ -33,8 +33,10 @@ fn declared_cubes(alloc: Global, text: &[u8]) -> Result<Vec<Schema>, Fault>
 /// The cubes that the cubes file of this name declares. A fault of the file is a fault of the run.
 pub fn read_cubes<H: Shelf>(alloc: Global, shelf: &mut H, name: &str) -> Result<Vec<Schema>, Fault>
     ensures same { H.told shelf.new ≡ H.told shelf.old }
-    ensures absences { AbsenceCounted (fault_in result) (H.absence_count shelf.old) (H.absence_count shelf.new) }
-    ensures faults { ReadFaultCounted (fault_in result) (H.fault_count shelf.old) (H.fault_count shelf.new) }
+    ensures absences { AbsenceCounted (fault_in result)
+        (H.absence_count shelf.old) (H.absence_count shelf.new) }
+    ensures faults { ReadFaultCounted (fault_in result)
+        (H.fault_count shelf.old) (H.fault_count shelf.new) }
     ensures reads { ReadsCubes (H.told shelf.old) (H.call_list shelf.old) (H.call_list shelf.new)
         name.now cubes_bytes result }
 {
@@ -60,8 +62,10 @@ pub fn read_script<H: Shelf>(
 ) -> Result<Vec<Action>, Fault>
     requires { All IsStorable cubes.now }
     ensures same { H.told shelf.new ≡ H.told shelf.old }
-    ensures absences { AbsenceCounted (fault_in result) (H.absence_count shelf.old) (H.absence_count shelf.new) }
-    ensures faults { ReadFaultCounted (fault_in result) (H.fault_count shelf.old) (H.fault_count shelf.new) }
+    ensures absences { AbsenceCounted (fault_in result)
+        (H.absence_count shelf.old) (H.absence_count shelf.new) }
+    ensures faults { ReadFaultCounted (fault_in result)
+        (H.fault_count shelf.old) (H.fault_count shelf.new) }
     ensures reads { ReadsScript (H.told shelf.old) (H.call_list shelf.old) (H.call_list shelf.new)
         cubes.now name.now script_bytes result }
 {

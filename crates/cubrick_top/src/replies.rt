@@ -1,37 +1,18 @@
 //! Replies as text.
 
-ghost use Rattle.std.specs.Prelude.{◌≡◌, ◌++◌, [], ◌∷◌, ◌==◌, codes, decimal, OnOk, replicate, if◌then◌else◌};
-ghost use Rattle.std.specs.Fmt.{signed_decimal};
-ghost use Rattle.std.specs.List.{flat_map};
-ghost use Rattle.cube_journal.specs.Replies.{sign_text, four_digits, field_text, fields_text, table_text, reply_text, numbered};
-ghost use Rattle.cube_journal.specs.Refusals.{code, cause_text, refusal_text};
-ghost use Rattle.cube_language.specs.Quotes.{quoted};
+ghost use Rattle.std.specs.Prelude.{◌≡◌, ◌++◌, OnOk, replicate};
+ghost use Rattle.cube_values.specs.declared.table.Field.TheVariants.{Decimal};
+ghost use Rattle.cube_journal.specs.declared.refusal.Refusal.TheVariants.{Syntax as NoStatement};
+ghost use Rattle.cube_journal.specs.Replies.{four_digits, field_text, fields_text, table_text, reply_text, numbered};
+ghost use Rattle.cube_journal.specs.Refusals.{cause_text, refusal_text};
 ghost use Rattle.cubrick_top.specs.Session.{closing_text};
 ghost use Rattle.cubrick_top.specs.Answered.{IsSyntax, IsOfActions};
 
 use cube_journal::{Refusal, Reply};
-use cube_language::Syntax;
+use cube_language::{Syntax, put_i128, put_quoted, put_u64, put_u128};
 use cube_values::{Field, Line};
 use itoa::Buffer;
 use std::alloc::AllocError;
-
-fn push_number(out: &mut Vec<u8>, n: u64) -> Result<(), AllocError>
-    ensures { OnOk result (out.new.items ≡ out.old.items ++ decimal n) }
-{
-    out.extend_from_slice(Buffer::new().format(n).as_bytes())
-}
-
-fn push_whole(out: &mut Vec<u8>, n: i128) -> Result<(), AllocError>
-    ensures { OnOk result (out.new.items ≡ out.old.items ++ signed_decimal n) }
-{
-    out.extend_from_slice(Buffer::new().format(n).as_bytes())
-}
-
-fn push_digits(out: &mut Vec<u8>, n: u128) -> Result<(), AllocError>
-    ensures { OnOk result (out.new.items ≡ out.old.items ++ decimal n) }
-{
-    out.extend_from_slice(Buffer::new().format(n).as_bytes())
-}
 
 fn push_zeros(out: &mut Vec<u8>, count: usize) -> Result<(), AllocError>
     ensures { OnOk result (out.new.items ≡ out.old.items ++ replicate count 48) }
@@ -51,27 +32,14 @@ fn push_four(out: &mut Vec<u8>, n: u16) -> Result<(), AllocError>
     out.extend_from_slice(digits)
 }
 
-fn push_quoted(out: &mut Vec<u8>, text: &[u8]) -> Result<(), AllocError>
-    ensures { OnOk result (out.new.items ≡ out.old.items ++ quoted text.now) }
-{
-    out.push(b'\'')?;
-    for byte in text {
-        if *byte == b'\'' {
-            out.push(b'\'')?;
-        }
-        out.push(*byte)?;
-    }
-    out.push(b'\'')?;
-    Ok(())
-}
-
 fn push_decimal(out: &mut Vec<u8>, neg: bool, whole: u128, four: u16) -> Result<(), AllocError>
-    ensures { OnOk result (out.new.items ≡ out.old.items ++ (sign_text neg ++ (decimal whole ++ (codes "." ++ four_digits four)))) }
+    ensures { OnOk result (out.new.items ≡
+        out.old.items ++ field_text (Decimal neg whole four)) }
 {
     if neg {
         out.push(b'-')?;
     }
-    push_digits(out, whole)?;
+    put_u128(out, whole)?;
     out.push(b'.')?;
     push_four(out, four)
 }
@@ -80,8 +48,8 @@ fn push_field(out: &mut Vec<u8>, field: &Field) -> Result<(), AllocError>
     ensures { OnOk result (out.new.items ≡ out.old.items ++ field_text field.now) }
 {
     match field {
-        Field::Text(text) => push_quoted(out, text.as_bytes()),
-        Field::Whole(n) => push_whole(out, *n),
+        Field::Text(text) => put_quoted(out, text.as_bytes()),
+        Field::Whole(n) => put_i128(out, *n),
         Field::Decimal { neg, whole, four } => push_decimal(out, *neg, *whole, *four),
         Field::Null => out.extend_from_slice(b"NULL"),
     }
@@ -112,10 +80,11 @@ fn push_table(out: &mut Vec<u8>, lines: &[Line]) -> Result<(), AllocError>
 }
 
 fn push_syntax(out: &mut Vec<u8>, fault: &Syntax) -> Result<(), AllocError>
-    ensures { OnOk result (out.new.items ≡ out.old.items ++ (codes "Syntax at " ++ decimal fault.now.at)) }
+    ensures { OnOk result (out.new.items ≡
+        out.old.items ++ cause_text (NoStatement fault.now)) }
 {
     out.extend_from_slice(b"Syntax at ")?;
-    push_number(out, fault.at)
+    put_u64(out, fault.at)
 }
 
 fn push_cause(out: &mut Vec<u8>, refusal: &Refusal) -> Result<(), AllocError>
@@ -132,7 +101,7 @@ fn push_refusal(out: &mut Vec<u8>, refusal: &Refusal) -> Result<(), AllocError>
     requires { IsSyntax refusal.now }
     ensures { OnOk result (out.new.items ≡ out.old.items ++ refusal_text refusal.now) }
 {
-    push_number(out, u64::from(refusal.code()))?;
+    put_u64(out, u64::from(refusal.code()))?;
     out.push(b' ')?;
     push_cause(out, refusal)
 }
@@ -144,17 +113,17 @@ fn push_reply_text(out: &mut Vec<u8>, reply: &Reply) -> Result<(), AllocError>
     match reply {
         Reply::Rows { epoch, table } => {
             out.extend_from_slice(b"rows ")?;
-            push_number(out, table.len() as u64)?;
+            put_u64(out, table.len() as u64)?;
             out.extend_from_slice(b" epoch ")?;
-            push_number(out, *epoch)?;
+            put_u64(out, *epoch)?;
             out.push(b'\n')?;
             push_table(out, table.as_slice())
         }
         Reply::Stored { rows, epoch } => {
             out.extend_from_slice(b"stored ")?;
-            push_number(out, *rows)?;
+            put_u64(out, *rows)?;
             out.extend_from_slice(b" epoch ")?;
-            push_number(out, *epoch)?;
+            put_u64(out, *epoch)?;
             Ok(out.push(b'\n')?)
         }
         Reply::Refused { refusal } => {
@@ -174,11 +143,12 @@ pub fn push_reply(
     reply: &Reply,
 ) -> Result<(), AllocError>
     requires { IsOfActions reply.now }
-    ensures { OnOk result (out.new.items ≡ out.old.items ++ numbered session statement reply.now) }
+    ensures { OnOk result (out.new.items ≡
+        out.old.items ++ numbered session statement reply.now) }
 {
-    push_number(out, session)?;
+    put_u64(out, session)?;
     out.push(b'.')?;
-    push_number(out, statement)?;
+    put_u64(out, statement)?;
     out.push(b' ')?;
     push_reply_text(out, reply)
 }
@@ -188,10 +158,10 @@ pub fn push_end(out: &mut Vec<u8>, ec: u64, lce: u64, lse: u64) -> Result<(), Al
     ensures { OnOk result (out.new.items ≡ out.old.items ++ closing_text ec lce lse) }
 {
     out.extend_from_slice(b"end ec ")?;
-    push_number(out, ec)?;
+    put_u64(out, ec)?;
     out.extend_from_slice(b" lce ")?;
-    push_number(out, lce)?;
+    put_u64(out, lce)?;
     out.extend_from_slice(b" lse ")?;
-    push_number(out, lse)?;
+    put_u64(out, lse)?;
     Ok(out.push(b'\n')?)
 }

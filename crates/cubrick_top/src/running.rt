@@ -56,7 +56,8 @@ fn run_files<H: Shelf, K: Sink>(
     sink: &mut K,
 ) -> Option<Fault>
     ensures same { H.told shelf.new ≡ H.told shelf.old }
-    ensures absences { AbsenceCounted result (H.absence_count shelf.old) (H.absence_count shelf.new) }
+    ensures absences { AbsenceCounted result
+        (H.absence_count shelf.old) (H.absence_count shelf.new) }
     ensures faults { ReadFaultCounted result (H.fault_count shelf.old) (H.fault_count shelf.new) }
     ensures output { OutputFaultCounted result (K.fault_count sink.old) (K.fault_count sink.new) }
     ensures run { Runs (H.told shelf.old) (H.call_list shelf.old) (H.call_list shelf.new)
@@ -90,9 +91,12 @@ fn finish_files<H: Shelf, K: Sink>(
     ensures status { result.status ≡ status_of result.fault }
     ensures not_words { result.fault ≢ Some Words }
     ensures same { H.told shelf.new ≡ H.told shelf.old }
-    ensures absences { AbsenceCounted result.fault (H.absence_count shelf.old) (H.absence_count shelf.new) }
-    ensures faults { ReadFaultCounted result.fault (H.fault_count shelf.old) (H.fault_count shelf.new) }
-    ensures output { OutputFaultCounted result.fault (K.fault_count sink.old) (K.fault_count sink.new) }
+    ensures absences { AbsenceCounted result.fault
+        (H.absence_count shelf.old) (H.absence_count shelf.new) }
+    ensures faults { ReadFaultCounted result.fault
+        (H.fault_count shelf.old) (H.fault_count shelf.new) }
+    ensures output { OutputFaultCounted result.fault
+        (K.fault_count sink.old) (K.fault_count sink.new) }
     ensures run { Runs (H.told shelf.old) (H.call_list shelf.old) (H.call_list shelf.new)
         (K.taken sink.old) (K.taken sink.new) cubes.now script.now result.fault }
     ensures served { IsReady (H.told shelf.old) cubes.now script.now →
@@ -131,9 +135,12 @@ pub fn run<H: Shelf, K: Sink>(
     ensures same { H.told shelf.new ≡ H.told shelf.old }
 
     // Faults of the outside come exactly where it counted them.
-    ensures absences { AbsenceCounted result.fault (H.absence_count shelf.old) (H.absence_count shelf.new) }
-    ensures faults { ReadFaultCounted result.fault (H.fault_count shelf.old) (H.fault_count shelf.new) }
-    ensures output { OutputFaultCounted result.fault (K.fault_count sink.old) (K.fault_count sink.new) }
+    ensures absences { AbsenceCounted result.fault
+        (H.absence_count shelf.old) (H.absence_count shelf.new) }
+    ensures faults { ReadFaultCounted result.fault
+        (H.fault_count shelf.old) (H.fault_count shelf.new) }
+    ensures output { OutputFaultCounted result.fault
+        (K.fault_count sink.old) (K.fault_count sink.new) }
 
     // Files that are as they have to be are run, unless the outside counted a fault or memory ran out.
     ensures served { (cubes_name script_name : List ℕ) →

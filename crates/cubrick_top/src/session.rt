@@ -2,7 +2,7 @@
 
 ghost use Rattle.std.specs.Prelude.{◌≡◌, ◌+◌, ◌++◌, [], ◌∷◌, length, IfOk, OnOk};
 ghost use Rattle.cube_values.specs.Visible.{RisesByEpoch};
-ghost use Rattle.cubrick_top.specs.Session.{put_at, rows_reply, reply_to, transactions_from, run_text};
+ghost use Rattle.cubrick_top.specs.Session.{put_at, rows_reply, reply_to, transactions_after, run_text};
 
 use crate::action::Action;
 use crate::replies::{push_end, push_reply};
@@ -45,7 +45,8 @@ fn rows_reply(
     query: &Query,
 ) -> Result<Reply, AllocError>
     requires { RisesByEpoch transactions.now }
-    ensures { IfOk result (λ r. r ≡ rows_reply transactions.now (length transactions.now) query.now) }
+    ensures { IfOk result (λ r.
+        r ≡ rows_reply transactions.now (length transactions.now) query.now) }
 {
     let epoch = transactions.len() as u64;
     let snapshot = Snapshot {
@@ -65,8 +66,10 @@ fn perform(
     action: Action,
 ) -> Result<Reply, AllocError>
     requires { RisesByEpoch transactions.old.items }
-    ensures reply { IfOk result (λ r. r ≡ reply_to transactions.old.items (length transactions.old.items) action) }
-    ensures after { OnOk result (transactions.new.items ≡ transactions.old.items ++ transactions_from (length transactions.old.items) (action ∷ [])) }
+    ensures reply { IfOk result (λ r.
+        r ≡ reply_to transactions.old.items (length transactions.old.items) action) }
+    ensures after { OnOk result (transactions.new.items ≡
+        transactions_after transactions.old.items action) }
 {
     match action {
         Action::Store(row) => {

@@ -1,11 +1,11 @@
 //! What a statement does: whether it runs on the cubes, what it stores and what it asks.
 
-ghost use Rattle.std.specs.Prelude.{◌≡◌, ◌≤◌, length, map, IfOk, All, option_and_then};
+ghost use Rattle.std.specs.Prelude.{◌≡◌, ◌≤◌, length, map, IfOk, All};
 ghost use Rattle.std.specs.List.{list_all, position_from};
 ghost use Rattle.std.specs.Option.{option_copied};
 ghost use Rattle.std.specs.Str.{bytes_eq};
 ghost use Rattle.cube_language.specs.Cubes.{IsStorable};
-ghost use Rattle.cubrick_top.specs.Actions.{is_whole, value_number, is_within_bound, is_coordinate, fits_row, has_numbers_alone, cube_named, row_of, store_on, sum_query, ask_on, insert_action, select_action, statement_action};
+ghost use Rattle.cubrick_top.specs.Actions.{is_whole, value_number, is_within_bound, is_coordinate, fits_row, has_numbers_alone, cube_named, row_of, store_on, sum_query, ask_on, insert_action, sum_action, select_action, statement_action};
 
 use crate::action::Action;
 use cube_language::{Cond, Decl, DimDecl, Item, Statement};
@@ -203,7 +203,7 @@ fn sum_action(
     cube: &Text,
 ) -> Result<Option<Action>, AllocError>
     requires { All IsStorable cubes.now }
-    ensures { IfOk result (λ action. action ≡ option_and_then (λ d. ask_on d metric.now) (cube_named cubes.now cube.now)) }
+    ensures { IfOk result (λ action. action ≡ sum_action cubes.now metric.now cube.now) }
 {
     match cube_named(cubes, cube) {
         None => Ok(None),
@@ -220,7 +220,8 @@ fn select_action(
     group: &[Text],
 ) -> Result<Option<Action>, AllocError>
     requires { All IsStorable cubes.now }
-    ensures { IfOk result (λ action. action ≡ select_action cubes.now items.now cube.now conds.now group.now) }
+    ensures { IfOk result (λ action.
+        action ≡ select_action cubes.now items.now cube.now conds.now group.now) }
 {
     match (items, conds, group) {
         ([Item::Sum(metric)], [], []) => sum_action(alloc, cubes, metric, cube),

@@ -4,6 +4,7 @@ use Rattle.cube_journal.specs.declared.reply.Reply.TheVariants as reply
 use Rattle.cube_journal.proofs.Digits.{decimal-1, decimal-2, decimal-3, decimal-4, decimal-5, decimal-7, decimal-12}
 use Rattle.cube_run.specs.StatementEntries.{Done}
 use Rattle.cube_run.proofs.VisitsWorked.{first-end, second-end, third-end, fourth-end, fifth-end}
+use Rattle.cube_run.proofs.Passing.{replied}
 use Rattle.cube_run.proofs.worked.visits_report_worked.Goals as goal
 
 pub returns-clause-merge : goal.returns-clause-merge
@@ -27,14 +28,17 @@ returns-clause-text c = record {
       ∷ (Text (codes "TX") ∷ Whole (pos 7) ∷ Whole (pos 1) ∷ []) ∷ []) ∷ []) ∷ [];
   answers = (
     (
-      record { outcome = Done; ends = first-end; is = refl },
+      replied first-end,
       (
-        record { outcome = Done; ends = second-end; is = refl },
+        replied second-end,
         (
-          record { outcome = Done; ends = third-end; is = refl },
+          replied third-end,
           (
-            record { outcome = Done; ends = fourth-end; is = refl },
-            (record { outcome = Done; ends = fifth-end; is = refl }, tt),
+            replied fourth-end,
+            (
+              replied fifth-end,
+              tt,
+            ),
           ),
         ),
       ),

@@ -1,0 +1,5 @@
+pub mod Orders
+pub mod Items
+pub mod Limits
+pub mod Stable
+pub mod Agreement
