@@ -45,16 +45,27 @@ fn record_shown(alloc: Global, record: &Record) -> Result<String, AllocError> {
     }
 }
 
+/// The next record of a load.
+fn next_shown(alloc: Global, loader: &mut Loader) -> Result<String, AllocError> {
+    let record = loader.next()?;
+    record_shown(alloc, &record)
+}
+
+/// What so many calls tell of a load.
+fn calls_shown(alloc: Global, loader: &mut Loader, calls: u32) -> Result<String, AllocError> {
+    let mut shown = String::new(alloc);
+    for _call in 0..calls {
+        let record = next_shown(alloc, loader)?;
+        shown.push_str(record.as_str())?;
+    }
+    Ok(shown)
+}
+
 /// What a hundred calls tell of a file, which has fewer records.
 fn shown(alloc: Global, cube: &str, file: &[u8]) -> Result<String, AllocError> {
     let schema = schema_of(alloc, cube)?;
     let mut loader = Loader::new(alloc, Vec::from_slice(alloc, file)?, &schema)?;
-    let mut shown = String::new(alloc);
-    for _call in 0..100 {
-        let record = loader.next()?;
-        shown.push_str(record_shown(alloc, &record)?.as_str())?;
-    }
-    Ok(shown)
+    calls_shown(alloc, &mut loader, 100)
 }
 
 /// The records of the first file that are shown otherwise.
