@@ -1,10 +1,10 @@
 -- Numbers that 64 bits with a sign can hold, and the number that a field spells.
-use Rattle.std.proofs.Common.{◌≡◌, ℕ, zero, suc, ◌<◌, ◌≤◌, ◌^◌, true, false, cond, eqb, ℤ, pos, negsuc, neg_ℤ, List, [], ◌∷◌, Option, Some, None, inl, inr, refl, ◌∙◌, nat_lt, arith}
-use Rattle.std.specs.Prelude.{FitsSigned, IsSome, ◌↔◌}
+use Rattle.std.proofs.Common.{◌≡◌, ℕ, zero, suc, ◌≤◌, ◌^◌, true, false, eqb, ℤ, pos, negsuc, neg_ℤ, List, ◌∷◌, None, inl, inr, refl, arith}
+use Rattle.std.specs.Prelude.{FitsSigned}
 use Rattle.std.specs.Int.{w64}
 use Rattle.std.specs.Option.{option_map_or}
 use Rattle.std.specs.Str.Parse.{signed_digits_value}
-use Rattle.std.proofs.lemmas.Bool.{and_parts, cases_Bool, eqb-true, le-ltb, lt-ltb, ltb-true}
+use Rattle.std.proofs.lemmas.Bool.{cases_Bool, eqb-true, le-ltb, lt-ltb, ltb-true}
 use Rattle.std.proofs.lemmas.Bool.Decides.{nat_tests}
 use Rattle.std.specs.Char.{is_ascii_digit}
 use Rattle.cube_language.specs.Tokens.{is_digits, is_number}

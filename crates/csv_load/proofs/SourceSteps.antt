@@ -1,6 +1,6 @@
 -- One read of a source.
-use Rattle.std.proofs.Common.{◌≡◌, ℕ, Bool, true, false, cond, List, [], ◌∷◌, Option, Result, Ok, Err, refl, ap, ◌∙◌}
-use Rattle.std.specs.Prelude.{IfOk, OnOk, OnErr}
+use Rattle.std.proofs.Common.{◌≡◌, ℕ, Bool, true, false, cond, List, [], Option, Result, Ok, Err, refl}
+use Rattle.std.specs.Prelude.{IfOk, OnOk}
 use Rattle.csv.specs.Reading.{ReadRecord, Ready, has_failed, is_flexible, reader_state, reader_trim, source_of, took_first}
 use Rattle.csv.specs.declared.error.Error.{Error}
 use Rattle.csv.specs.declared.reader.Reader.{Reader}

@@ -1,4 +1,4 @@
-use Rattle.std.proofs.Common.{◌≡◌, true, Ok, subst, ap, sym, ◌∙◌}
+use Rattle.std.proofs.Common.{◌≡◌, true, subst, ap, sym, ◌∙◌}
 use Rattle.csv.specs.Records.{fields_of}
 use Rattle.csv_load.specs.Sources.{gave_record, remaining_in}
 use Rattle.csv_load.proofs.SourceSteps.{HasRead, source_with, stays_between, took}
