@@ -1,0 +1,7 @@
+pub mod Digits
+pub mod Narrow
+pub mod Texts
+pub mod Judged
+pub mod RecordsLeft
+pub mod SourceSteps
+pub mod Counts

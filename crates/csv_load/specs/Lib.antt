@@ -1,0 +1,4 @@
+pub mod Fields
+pub mod FileRecords
+pub mod Sources
+pub mod Loads
