@@ -15,7 +15,7 @@ use Rattle.cube_language.specs.Misfits.{cond_test, cond_name, all_pass, HaveWhol
 use Rattle.cube_language.specs.declared.decl.DimDecl.{DimDecl}
 use Rattle.cube_language.specs.declared.statement.Cond.{Cond}
 use Rattle.cube_language.specs.declared.statement.Cond.TheVariants.{Equal, In, Between}
-use Rattle.statement_check.specs.Adjacent.{AgreesAt, AgreeEverywhere, AgreesBeside, AgreesFor, IsBeside, number_up_to, values_in}
+use Rattle.statement_check.specs.Adjacent.{AgreesAt, AgreeEverywhere, AgreesBeside, AgreesFor, IsBeside, number_up_to, value_up_to, values_in}
 use Rattle.statement_check.proofs.Neighbours.{whole_from_agree, agree_from_whole}
 
 -- The value is neither of both numbers.
@@ -123,12 +123,13 @@ up_to_some most (pos n) k is = elim (cases_Bool (nat_lt most n)) [
 up_to_some most (negsuc n) k is = absurd cc
 
 -- Conditions agree beside a number that is a coordinate, or the one after the last.
-pub beside_some : (conds : List Cond) (dim : DimDecl) (v : Value) (n : ℤ) (k : ℕ) (b : Bool) → v ≡ Int n
-    → Some k ≡ number_up_to dim.cardinality n
-    → (IsTrue b ↔ AgreesBeside conds dim (Int (pos k))) → IsTrue b ↔ AgreesBeside conds dim v
-beside_some conds dim v n k b is some agrees =
-    let same : v ≡ Int (pos k) = is ∙ ap Int (up_to_some dim.cardinality n k some) in
+pub beside_some : (conds : List Cond) (dim : DimDecl) (v : Value) (k : ℕ) (b : Bool)
+    → Some k ≡ value_up_to dim.cardinality v → (IsTrue b ↔ AgreesBeside conds dim (Int (pos k)))
+    → IsTrue b ↔ AgreesBeside conds dim v
+beside_some conds dim (Int n) k b some agrees =
+    let same : Int n ≡ Int (pos k) = ap Int (up_to_some dim.cardinality n k some) in
     subst (λ (w : Value). IsTrue b ↔ AgreesBeside conds dim w) (sym same) agrees
+beside_some conds dim (Text text) k b some agrees = absurd cc
 
 not_above : (most x : ℕ) → x ≤ most → None ≡ number_up_to most (pos x) → ⊥
 not_above most x le none =
@@ -147,9 +148,12 @@ far conds dim n none x (inr is) within other =
     absurd (not_above dim.cardinality (x + 1) (omega arith)
     (subst (λ (m : ℤ). None ≡ number_up_to dim.cardinality m) same none))
 
--- Beside any other number they do.
-pub beside_none : (conds : List Cond) (dim : DimDecl) (v : Value) (n : ℤ) → v ≡ Int n
-    → None ≡ number_up_to dim.cardinality n
+text_apart : (conds : List Cond) (dim : DimDecl) (text : List ℕ) → AgreesBeside conds dim (Text text)
+text_apart conds dim text x (inl is) within other = absurd cc
+text_apart conds dim text x (inr is) within other = absurd cc
+
+-- Beside any other value they do.
+pub beside_none : (conds : List Cond) (dim : DimDecl) (v : Value) → None ≡ value_up_to dim.cardinality v
     → IsTrue true ↔ AgreesBeside conds dim v
-beside_none conds dim v n is none =
-    ((λ t. subst (AgreesBeside conds dim) (sym is) (far conds dim n none)), (λ agrees. refl))
+beside_none conds dim (Int n) none = ((λ t. far conds dim n none), (λ agrees. refl))
+beside_none conds dim (Text text) none = ((λ t. text_apart conds dim text), (λ agrees. refl))

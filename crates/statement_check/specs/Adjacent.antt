@@ -2,7 +2,7 @@
 use Rattle.std.specs.Prelude.{◌≡◌, ◌⊎◌, ℕ, ◌+◌, ◌<◌, ◌%◌, true, nat_lt, List, [], ◌∷◌, Option, Some, None, ℤ, pos, negsuc, All, if◌then◌else◌}
 use Rattle.std.specs.Str.{bytes_eq}
 use Rattle.cube_values.specs.declared.value.Value.{Value}
-use Rattle.cube_values.specs.declared.value.Value.TheVariants.{Int}
+use Rattle.cube_values.specs.declared.value.Value.TheVariants.{Text, Int}
 use Rattle.cube_language.specs.Misfits.{all_pass, cond_name}
 use Rattle.cube_language.specs.declared.decl.DimDecl.{DimDecl}
 use Rattle.cube_language.specs.declared.statement.Cond.{Cond}
@@ -40,3 +40,8 @@ AgreesFor conds dim cond = bytes_eq (cond_name cond) dim.name ≡ true → All (
 abbrev pub number_up_to : ℕ → ℤ → Option ℕ
 number_up_to most (pos n) = if nat_lt most n then None else Some n
 number_up_to most (negsuc n) = None
+
+-- The number that a value is, unless it is negative or above another. A text is none.
+abbrev pub value_up_to : ℕ → Value → Option ℕ
+value_up_to most (Int n) = number_up_to most n
+value_up_to most (Text text) = None

@@ -7,7 +7,7 @@ ghost use Rattle.cube_values.specs.Regions.{passes, lies_between};
 ghost use Rattle.cube_values.specs.Values.{value_eq};
 ghost use Rattle.cube_values.specs.declared.value.Value.TheVariants.{Int};
 ghost use Rattle.cube_language.specs.Misfits.{cond_test, all_pass, cond_name, AreAligned, HaveWholeRanges, HaveSingleRanges};
-ghost use Rattle.statement_check.specs.Adjacent.{AgreesAt, AgreeEverywhere, AgreesBeside, AgreesFor, number_up_to, values_in};
+ghost use Rattle.statement_check.specs.Adjacent.{AgreesAt, AgreeEverywhere, AgreesBeside, AgreesFor, number_up_to, value_up_to, values_in};
 ghost use Rattle.statement_check.specs.Cuts.{AreSolid, IsFirstCut};
 
 use crate::columns::cond_name;
@@ -100,17 +100,24 @@ fn number_up_to(most: u32, n: i64) -> Option<u32>
     }
 }
 
+/// The number that a value is, unless it is negative or above another. A text is none.
+fn value_up_to(most: u32, value: &Value) -> Option<u32>
+    ensures { result ≡ value_up_to most value.now }
+{
+    match value {
+        Value::Int(n) => number_up_to(most, *n),
+        Value::Text(_) => None,
+    }
+}
+
 /// Whether conditions agree on each side of a value.
 fn agrees_beside_value(conds: &[Cond], dim: &DimDecl, value: &Value) -> bool
     requires { 0 < dim.now.range }
     ensures { IsTrue result ↔ AgreesBeside conds.now dim.now value.now }
 {
-    match value {
-        Value::Text(_) => true,
-        Value::Int(n) => match number_up_to(dim.cardinality, *n) {
-            Some(coord) => agrees_beside(conds, dim, coord),
-            None => true,
-        },
+    match value_up_to(dim.cardinality, value) {
+        Some(coord) => agrees_beside(conds, dim, coord),
+        None => true,
     }
 }
 
