@@ -24,12 +24,12 @@ pub(super) const VISITS: [(&str, &str, &str); 40] = [
     ),
     (
         "the group third",
-        "SELECT COUNT(*) FROM visits GROUP BY d HAVING e = 1",
+        "SELECT COUNT(*) FROM visits GROUP BY d HAVING SUM(e) = 1",
         "UnknownColumn d",
     ),
     (
         "HAVING fourth",
-        "SELECT COUNT(*) FROM visits HAVING e = 1 ORDER BY f",
+        "SELECT COUNT(*) FROM visits HAVING SUM(e) = 1 ORDER BY f",
         "UnknownColumn e",
     ),
     (
