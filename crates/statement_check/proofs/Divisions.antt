@@ -1,6 +1,6 @@
 -- Neighbouring numbers, and whether they lie in one range.
-use Rattle.std.proofs.Common.{◌≡◌, ◌≢◌, ℕ, ◌+◌, ◌*◌, ◌/◌, ◌%◌, ◌<◌, ◌≤◌, arith}
-use Rattle.std.proofs.Math.Nat.{div-eq_of_lt-le, div-mul-le_self, mod-lt, lt-div-mul-add}
+use Rattle.std.proofs.Common.{◌≡◌, ℕ, ◌+◌, ◌*◌, ◌/◌, ◌%◌, ◌<◌, ◌≤◌, arith}
+use Rattle.std.proofs.Math.Nat.{div-eq_of_lt-le, div-mul-le_self, mod-lt}
 use Rattle.std.proofs.lemmas.Nat.{div-add-mod', le-div}
 
 -- A number lies in one range with the next unless that begins a range.

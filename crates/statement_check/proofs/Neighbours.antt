@@ -1,11 +1,11 @@
 -- Coordinates of one range are alike where neighbours are.
-use Rattle.std.proofs.Common.{◌≡◌, ℕ, zero, suc, ◌+◌, ◌-◌, ◌/◌, ◌%◌, ◌<◌, ◌≤◌, List, pos, refl, sym, ap, subst, ◌∙◌, inl, inr, arith}
+use Rattle.std.proofs.Common.{◌≡◌, ℕ, zero, suc, ◌+◌, ◌-◌, ◌/◌, ◌<◌, ◌≤◌, List, pos, sym, ap, ◌∙◌, inl, inr, arith}
 use Rattle.std.proofs.lemmas.Bool.{cases_lt}
 use Rattle.cube_values.specs.declared.value.Value.TheVariants.{Int}
 use Rattle.cube_language.specs.Misfits.{all_pass, ShareRange, HaveWholeRanges}
 use Rattle.cube_language.specs.declared.decl.DimDecl.{DimDecl}
 use Rattle.cube_language.specs.declared.statement.Cond.{Cond}
-use Rattle.statement_check.specs.Adjacent.{AgreesAt, AgreeEverywhere}
+use Rattle.statement_check.specs.Adjacent.{AgreeEverywhere}
 use Rattle.statement_check.proofs.Divisions.{same_range, begins_none, not_earlier}
 
 abbrev Alike : List Cond → DimDecl → ℕ → ℕ → Type 0

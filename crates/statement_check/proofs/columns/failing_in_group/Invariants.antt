@@ -1,7 +1,6 @@
 use Rattle.std.proofs.Common.{◌≡◌, length}
-use Rattle.cube_language.specs.ColumnUses.{item_uses, cond_use, group_use}
+use Rattle.cube_language.specs.ColumnUses.{group_use}
 use Rattle.std.specs.Prelude.{map}
-use Rattle.std.specs.List.{flat_map}
 use Rattle.statement_check.specs.ColumnTests.{first_failing}
 use Rattle.statement_check.proofs.columns.failing_in_group.Given as goal
 

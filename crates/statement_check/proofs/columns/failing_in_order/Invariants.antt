@@ -1,5 +1,5 @@
 use Rattle.std.proofs.Common.{◌≡◌, length}
-use Rattle.cube_language.specs.ColumnUses.{item_uses, cond_use, group_use}
+use Rattle.cube_language.specs.ColumnUses.{item_uses}
 use Rattle.std.specs.Prelude.{map}
 use Rattle.std.specs.List.{flat_map}
 use Rattle.statement_check.specs.ColumnTests.{first_failing}

@@ -1,8 +1,6 @@
 use Rattle.std.proofs.Common.{◌≡◌, length}
-use Rattle.std.specs.Prelude.{not, map, filter_map, find}
+use Rattle.std.specs.Prelude.{not, map, find}
 use Rattle.std.specs.List.{list_any}
-use Rattle.std.specs.Str.{bytes_eq}
-use Rattle.cube_language.specs.Misfits.{plain_name, is_avg}
 use Rattle.cube_language.specs.SameItems.{item_eq}
 use Rattle.statement_check.proofs.items.strange_in_having.Given as goal
 
