@@ -1,5 +1,5 @@
 -- What a session holds, by whether it is a writer.
-use Rattle.std.proofs.Common.{◌≡◌, Bool, true, false, Option, None, Some, refl}
+use Rattle.std.proofs.Common.{◌≡◌, Bool, true, Option, None, Some, refl}
 use Rattle.std.specs.Option.{IsSomeAnd, option_map, is_none}
 use Rattle.cube_values.specs.declared.snapshot.Snapshot.{Snapshot}
 
