@@ -1,0 +1,10 @@
+use Rattle.std.proofs.Common.{◌≡◌, length}
+use Rattle.std.specs.Prelude.{map, find}
+use Rattle.cube_language.specs.Misfits.{is_avg}
+use Rattle.statement_check.proofs.items.avg_in_having.Given as goal
+
+abbrev pub invariant-tests : goal.invariant-tests
+invariant-tests l = find is_avg (map (λ t. t.item) l.left) ≡ find is_avg (map (λ t. t.item) l.having)
+
+abbrev pub decreases-tests : goal.decreases-tests
+decreases-tests l = length l.left
