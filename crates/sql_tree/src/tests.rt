@@ -9,7 +9,7 @@ use std::str;
 use std::test::Fail;
 
 /// A text, and what is printed of its statement or says where it goes wrong.
-const TEXTS: [(&str, &str); 87] = [
+const TEXTS: [(&str, &str); 72] = [
     (
         "select  sum ( likes ) from visits where region in ('CA')",
         "SELECT SUM(likes) FROM visits WHERE region IN ('CA')",
@@ -139,6 +139,10 @@ const TEXTS: [(&str, &str); 87] = [
     ("CREATE CUBE t (DIM x 5 2)", "Syntax at 21"),
     ("CREATE CUBE t (METRIC m,)", "Syntax at 24"),
     ("CREATE CUBE text (METRIC m)", "Syntax at 12"),
+];
+
+/// Keywords in small and in mixed letters, and what is printed of the statement.
+const MIXED_TEXTS: [(&str, &str); 15] = [
     (
         "SeLeCt a,Min(b),mAx(c),aVG(d),cOuNt(*) FrOm t wHeRe a=1 aNd b iN(1) AnD c BeTwEeN 1 anD 2 gRoUp By a hAvInG sUm(m)=1 oRdEr bY a aSc,Sum(m) dEsC lImIt 3",
         "SELECT a, MIN(b), MAX(c), AVG(d), COUNT(*) FROM t WHERE a = 1 AND b IN (1) AND c BETWEEN 1 AND 2 GROUP BY a HAVING SUM(m) = 1 ORDER BY a, SUM(m) DESC LIMIT 3",
@@ -217,26 +221,53 @@ fn is_spelled_by(alloc: Global, bytes: &[u8], statement: &Statement) -> Result<b
     }
 }
 
+/// The first of texts that is not shown as wanted.
+fn first_other<'a>(
+    alloc: Global,
+    texts: &[(&'a str, &str)],
+) -> Result<Option<&'a str>, AllocError> {
+    for (text, wanted) in texts {
+        let printed = shown(alloc, text)?;
+        if printed.as_slice() != wanted.as_bytes() {
+            return Ok(Some(*text));
+        }
+    }
+    Ok(None)
+}
+
+/// The first of texts whose statement is not the one that its printed form spells.
+fn first_lost<'a>(alloc: Global, texts: &[(&'a str, &str)]) -> Result<Option<&'a str>, AllocError> {
+    for (text, _) in texts {
+        if let Ok(statement) = parse(alloc, text) {
+            let printed = print(alloc, &statement)?;
+            if !is_spelled_by(alloc, printed.as_slice(), &statement)? {
+                return Ok(Some(*text));
+            }
+        }
+    }
+    Ok(None)
+}
+
 #[test]
 fn texts_are_read_and_printed(rt: HostRuntime) -> Result<(), Fail> {
     a_text_spells_or_has_one_fault();
     what_is_printed_spells_its_statement();
-    for (text, wanted) in TEXTS {
-        let printed = shown(rt.alloc(), text)?;
-        assert!(rt; printed.as_slice() == wanted.as_bytes(), "at {text}");
-    }
+    let other = first_other(rt.alloc(), &TEXTS)?;
+    assert_eq!(rt; other.unwrap_or("none"), "none");
+    Ok(())
+}
+
+#[test]
+fn keywords_have_any_letters(rt: HostRuntime) -> Result<(), Fail> {
+    let other = first_other(rt.alloc(), &MIXED_TEXTS)?;
+    assert_eq!(rt; other.unwrap_or("none"), "none");
     Ok(())
 }
 
 #[test]
 fn what_is_printed_is_read_again(rt: HostRuntime) -> Result<(), Fail> {
-    for (text, _) in TEXTS {
-        if let Ok(statement) = parse(rt.alloc(), text) {
-            let printed = print(rt.alloc(), &statement)?;
-            let same = is_spelled_by(rt.alloc(), printed.as_slice(), &statement)?;
-            assert!(rt; same, "at {text}");
-        }
-    }
+    let lost = first_lost(rt.alloc(), &TEXTS)?;
+    assert_eq!(rt; lost.unwrap_or("none"), "none");
     Ok(())
 }
 
