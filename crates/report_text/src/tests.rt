@@ -1,0 +1,515 @@
+//! Each reply, each refusal and each entry once, with its text written out by hand.
+
+use crate::{end_bytes, entry_bytes, put_head, put_journal, reply_bytes};
+use cube_journal::{
+    AbortCause, Counters, JournalEntry, LostCause, Refusal, Rejection, Rejections, Reply,
+};
+use cube_language::{BadRow, Item, Reason, SchemaFault, Syntax};
+use cube_values::{EpochList, Field, Line, Table, Text};
+use std::alloc::{AllocError, Global};
+use std::test::Fail;
+
+/// A table of one line.
+fn one_line(alloc: Global, line: Vec<Field>) -> Result<Table, AllocError> {
+    Ok(Table::from_vec(vec![in alloc; Line::from_vec(line)]?))
+}
+
+/// A column that a value does not fit.
+fn misfit(alloc: Global, name: &str, reason: Reason) -> Result<BadRow, AllocError> {
+    Ok(BadRow::Column {
+        name: Text::new(alloc, name)?,
+        reason,
+    })
+}
+
+/// The epochs 2 and 3.
+fn two_epochs() -> EpochList {
+    let mut epochs = EpochList::new();
+    epochs.push(2);
+    epochs.push(3);
+    epochs
+}
+
+/// Whether the reply to the second statement of the first session is written so.
+fn replies(alloc: Global, reply: Reply, wanted: &str) -> Result<bool, AllocError> {
+    Ok(reply_bytes(alloc, 1, 2, &reply)?.as_slice() == wanted.as_bytes())
+}
+
+/// Whether the refusal of the third statement of the last session is written so.
+fn refuses(alloc: Global, refusal: Refusal, wanted: &str) -> Result<bool, AllocError> {
+    let reply = Reply::Refused { refusal };
+    Ok(reply_bytes(alloc, 16, 3, &reply)?.as_slice() == wanted.as_bytes())
+}
+
+/// A refusal that says a name.
+fn of_name(alloc: Global, number: u32, name: &str) -> Result<Refusal, AllocError> {
+    let name = Text::new(alloc, name)?;
+    Ok(match number {
+        2 => Refusal::UnknownCube { name },
+        3 => Refusal::UnknownColumn { name },
+        4 => Refusal::WrongKind { name },
+        5 => Refusal::NotGrouped { name },
+        6 => Refusal::CutsBrick { name },
+        15 => Refusal::DictionaryFull { name },
+        _ => Refusal::CubeExists { name },
+    })
+}
+
+/// A refusal that says an item.
+fn of_item(number: u32, item: Item) -> Refusal {
+    match number {
+        25 => Refusal::NotWatchable { item },
+        26 => Refusal::NotAnItem { item },
+        _ => Refusal::BadHaving { item },
+    }
+}
+
+/// A refusal that says numbers or nothing.
+fn of_numbers(number: u32, n: u64, m: u64) -> Refusal {
+    match number {
+        1 => Refusal::Syntax(Syntax { at: n }),
+        8 => Refusal::NoSuchFile,
+        9 => Refusal::FileTooLong { size: n },
+        10 => Refusal::TooManyRejected {
+            rejected: n,
+            allowed: m,
+        },
+        11 => Refusal::ReadFault,
+        12 => Refusal::TransactionOpen,
+        13 => Refusal::NoTransaction,
+        14 => Refusal::TransactionAborted,
+        16 => Refusal::NoMemory,
+        17 => Refusal::StoreFailed,
+        18 => Refusal::ShardFull { shard: 63, rows: m },
+        21 => Refusal::TooManyCubes,
+        22 => Refusal::ReadOnly,
+        23 => Refusal::WatchOpen,
+        24 => Refusal::NoWatch,
+        28 => Refusal::NoSuchOpen { epoch: n },
+        29 => Refusal::NoSuchEntry,
+        30 => Refusal::TooManyOpen,
+        _ => Refusal::Spent { counter: n },
+    }
+}
+
+/// Numbers of refusals, the name that each says, and the whole reply.
+const NAMED: [(u32, &str, &str); 9] = [
+    (2, "w", "16.3 refused 2 UnknownCube w\n"),
+    (3, "likes", "16.3 refused 3 UnknownColumn likes\n"),
+    (4, "region", "16.3 refused 4 WrongKind region\n"),
+    (5, "_x9", "16.3 refused 5 NotGrouped _x9\n"),
+    (6, "x", "16.3 refused 6 CutsBrick x\n"),
+    (15, "b", "16.3 refused 15 DictionaryFull 'b'\n"),
+    (15, "it's '", "16.3 refused 15 DictionaryFull 'it''s '''\n"),
+    (15, "", "16.3 refused 15 DictionaryFull ''\n"),
+    (19, "u", "16.3 refused 19 CubeExists u\n"),
+];
+
+/// Numbers of refusals, two numbers to say, and the whole reply.
+const NUMBERED: [(u32, u64, u64, &str); 19] = [
+    (1, 7, 0, "16.3 refused 1 Syntax at 7\n"),
+    (8, 0, 0, "16.3 refused 8 NoSuchFile\n"),
+    (9, 67_108_865, 0, "16.3 refused 9 FileTooLong 67108865\n"),
+    (10, 8, 7, "16.3 refused 10 TooManyRejected 8 allowed 7\n"),
+    (11, 0, 0, "16.3 refused 11 ReadFault\n"),
+    (12, 0, 0, "16.3 refused 12 TransactionOpen\n"),
+    (13, 0, 0, "16.3 refused 13 NoTransaction\n"),
+    (14, 0, 0, "16.3 refused 14 TransactionAborted\n"),
+    (16, 0, 0, "16.3 refused 16 NoMemory\n"),
+    (17, 0, 0, "16.3 refused 17 StoreFailed\n"),
+    (
+        18,
+        0,
+        1_099_511_627_776,
+        "16.3 refused 18 ShardFull 63 rows 1099511627776\n",
+    ),
+    (21, 0, 0, "16.3 refused 21 TooManyCubes\n"),
+    (22, 0, 0, "16.3 refused 22 ReadOnly\n"),
+    (23, 0, 0, "16.3 refused 23 WatchOpen\n"),
+    (24, 0, 0, "16.3 refused 24 NoWatch\n"),
+    (28, 1, 0, "16.3 refused 28 NoSuchOpen 1\n"),
+    (29, 0, 0, "16.3 refused 29 NoSuchEntry\n"),
+    (30, 0, 0, "16.3 refused 30 TooManyOpen\n"),
+    (
+        31,
+        4_611_686_018_427_387_905,
+        0,
+        "16.3 refused 31 Spent 4611686018427387905\n",
+    ),
+];
+
+#[test]
+fn refusals_of_names_and_numbers(rt: HostRuntime) -> Result<(), Fail> {
+    let alloc = rt.alloc();
+    for (number, name, wanted) in NAMED {
+        assert!(rt;
+            refuses(alloc, of_name(alloc, number, name)?, wanted)?,
+            "{wanted}"
+        );
+    }
+    for (number, n, m, wanted) in NUMBERED {
+        assert!(rt;
+            refuses(alloc, of_numbers(number, n, m), wanted)?,
+            "{wanted}"
+        );
+    }
+    Ok(())
+}
+
+/// Numbers of refusals, the word of the item that each says, and the whole reply.
+const OF_ITEMS: [(u32, &str, &str); 6] = [
+    (25, "MIN", "16.3 refused 25 NotWatchable MIN(likes)\n"),
+    (25, "MAX", "16.3 refused 25 NotWatchable MAX(likes)\n"),
+    (26, "", "16.3 refused 26 NotAnItem likes\n"),
+    (26, "SUM", "16.3 refused 26 NotAnItem SUM(likes)\n"),
+    (26, "COUNT", "16.3 refused 26 NotAnItem COUNT(*)\n"),
+    (27, "AVG", "16.3 refused 27 BadHaving AVG(likes)\n"),
+];
+
+fn item(alloc: Global, word: &str) -> Result<Item, AllocError> {
+    let name = Text::new(alloc, "likes")?;
+    Ok(match word {
+        "SUM" => Item::Sum(name),
+        "MIN" => Item::Min(name),
+        "MAX" => Item::Max(name),
+        "AVG" => Item::Avg(name),
+        "COUNT" => Item::CountAll,
+        _ => Item::Plain(name),
+    })
+}
+
+#[test]
+fn refusals_of_items(rt: HostRuntime) -> Result<(), Fail> {
+    let alloc = rt.alloc();
+    for (number, word, wanted) in OF_ITEMS {
+        assert!(rt;
+            refuses(alloc, of_item(number, item(alloc, word)?), wanted)?,
+            "{wanted}"
+        );
+    }
+    Ok(())
+}
+
+/// Why a value does not fit, and the refusal of an INSERT with it.
+const OF_VALUES: [(Reason, &str); 5] = [
+    (
+        Reason::NotNumber,
+        "16.3 refused 7 BadRow row 2 column x NotNumber\n",
+    ),
+    (
+        Reason::OutOfRange,
+        "16.3 refused 7 BadRow row 2 column x OutOfRange\n",
+    ),
+    (
+        Reason::NotText,
+        "16.3 refused 7 BadRow row 2 column x NotText\n",
+    ),
+    (
+        Reason::TooLong,
+        "16.3 refused 7 BadRow row 2 column x TooLong\n",
+    ),
+    (
+        Reason::DictionaryFull,
+        "16.3 refused 7 BadRow row 2 column x DictionaryFull\n",
+    ),
+];
+
+/// The place of a fault of a cube in the order of the checks, and the refusal of a CREATE CUBE.
+const OF_CUBES: [(u32, &str); 6] = [
+    (0, "16.3 refused 20 BadCube DuplicateName x\n"),
+    (1, "16.3 refused 20 BadCube ZeroCardinality x\n"),
+    (2, "16.3 refused 20 BadCube RangeTooLarge x\n"),
+    (3, "16.3 refused 20 BadCube TooManyBricks\n"),
+    (4, "16.3 refused 20 BadCube TooManyColumns\n"),
+    (5, "16.3 refused 20 BadCube NoMetric\n"),
+];
+
+fn schema_fault(alloc: Global, place: u32) -> Result<SchemaFault, AllocError> {
+    let name = Text::new(alloc, "x")?;
+    Ok(match place {
+        0 => SchemaFault::DuplicateName { name },
+        1 => SchemaFault::ZeroCardinality { name },
+        2 => SchemaFault::RangeTooLarge { name },
+        3 => SchemaFault::TooManyBricks,
+        4 => SchemaFault::TooManyColumns,
+        _ => SchemaFault::NoMetric,
+    })
+}
+
+#[test]
+fn refusals_of_rows_and_cubes(rt: HostRuntime) -> Result<(), Fail> {
+    let alloc = rt.alloc();
+    for (reason, wanted) in OF_VALUES {
+        let why = misfit(alloc, "x", reason)?;
+        assert!(rt;
+            refuses(alloc, Refusal::BadRow { row: 2, why }, wanted)?,
+            "{wanted}"
+        );
+    }
+    let why = BadRow::WrongCount { values: 1 };
+    let wanted = "16.3 refused 7 BadRow row 1 values 1 WrongCount\n";
+    assert!(rt; refuses(alloc, Refusal::BadRow { row: 1, why }, wanted)?);
+    for (place, wanted) in OF_CUBES {
+        let fault = schema_fault(alloc, place)?;
+        assert!(rt;
+            refuses(alloc, Refusal::BadCube { fault }, wanted)?,
+            "{wanted}"
+        );
+    }
+    Ok(())
+}
+
+/// The replies that say an epoch alone, by the order of their names, at epoch 4.
+fn at_four(place: u32) -> Reply {
+    let epoch = 4;
+    match place {
+        0 => Reply::Begun { epoch },
+        1 => Reply::Committed { epoch },
+        2 => Reply::Created { epoch },
+        3 => Reply::Dropped { epoch },
+        4 => Reply::Flushed { epoch },
+        5 => Reply::Purged { epoch },
+        _ => Reply::RolledBack { epoch },
+    }
+}
+
+const AT_FOUR: [&str; 7] = [
+    "1.2 begun 4\n",
+    "1.2 committed 4\n",
+    "1.2 created epoch 4\n",
+    "1.2 dropped epoch 4\n",
+    "1.2 flushed 4\n",
+    "1.2 purged 4\n",
+    "1.2 rolled back 4\n",
+];
+
+#[test]
+fn replies_of_epochs(rt: HostRuntime) -> Result<(), Fail> {
+    let alloc = rt.alloc();
+    let mut place = 0u32;
+    for wanted in AT_FOUR {
+        assert!(rt; replies(alloc, at_four(place), wanted)?, "{wanted}");
+        place = place.wrapping_add(1);
+    }
+    let stored = Reply::Stored { rows: 3, epoch: 2 };
+    assert!(rt; replies(alloc, stored, "1.2 stored 3 epoch 2\n")?);
+    let counters = Counters {
+        ec: 4,
+        lce: 1,
+        lse: 0,
+        pending: two_epochs(),
+    };
+    let wanted = "1.2 epochs ec 4 lce 1 lse 0 pending [2,3]\n";
+    assert!(rt; replies(alloc, Reply::Epochs { counters }, wanted)?);
+    let counters = Counters {
+        ec: 2,
+        lce: 1,
+        lse: 1,
+        pending: EpochList::new(),
+    };
+    let wanted = "1.2 epochs ec 2 lce 1 lse 1 pending []\n";
+    assert!(rt; replies(alloc, Reply::Epochs { counters }, wanted)?);
+    Ok(())
+}
+
+#[test]
+fn replies_of_lines(rt: HostRuntime) -> Result<(), Fail> {
+    let alloc = rt.alloc();
+    let texts = vec![in alloc; Field::Text(Text::new(alloc, "O'Hara")?), Field::Null]?;
+    let rows = Reply::Rows {
+        epoch: 4,
+        table: one_line(alloc, texts)?,
+    };
+    assert!(rt; replies(alloc, rows, "1.2 rows 1 epoch 4\n'O''Hara',NULL\n")?);
+    let none = Reply::Rows {
+        epoch: 0,
+        table: Table::new(alloc),
+    };
+    assert!(rt; replies(alloc, none, "1.2 rows 0 epoch 0\n")?);
+    let numbers = vec![in alloc;
+        Field::Whole(-5),
+        Field::Decimal {
+            neg: true,
+            whole: 0,
+            four: 5000
+        },
+        Field::Decimal {
+            neg: false,
+            whole: 9_223_372_036_854_775_807,
+            four: 7
+        },
+        Field::Whole(27_670_116_110_564_327_421),
+    ]?;
+    let watching = Reply::Watching {
+        epoch: 2,
+        table: one_line(alloc, numbers)?,
+    };
+    let wanted =
+        "1.2 watching 1 epoch 2\n-5,-0.5000,9223372036854775807.0007,27670116110564327421\n";
+    assert!(rt; replies(alloc, watching, wanted)?);
+    let list = vec![in alloc;
+        Rejection {
+            number: 2,
+            why: misfit(alloc, "likes", Reason::NotNumber)?
+        },
+        Rejection {
+            number: 3,
+            why: BadRow::WrongCount { values: 3 }
+        },
+    ]?;
+    let loaded = Reply::Loaded {
+        rows: 2,
+        rejected: 102,
+        list: Rejections::from_vec(list),
+        epoch: 1,
+    };
+    let wanted =
+        "1.2 stored 2 rejected 102 epoch 1\nreject 2 column likes NotNumber\nreject 3 values 3 WrongCount\n";
+    assert!(rt; replies(alloc, loaded, wanted)?);
+    Ok(())
+}
+
+/// The entries of a session's statement, by the order of their names.
+fn entry(place: u32) -> JournalEntry {
+    let session = 1;
+    let statement = 2;
+    let epoch = 3;
+    match place {
+        0 => JournalEntry::Begin {
+            session,
+            statement,
+            epoch,
+            deps: EpochList::new(),
+        },
+        1 => JournalEntry::Begin {
+            session,
+            statement,
+            epoch: 4,
+            deps: two_epochs(),
+        },
+        2 => JournalEntry::Cleared { session, statement },
+        3 => JournalEntry::Committed {
+            session,
+            statement,
+            epoch,
+        },
+        4 => JournalEntry::Cube {
+            session,
+            statement,
+            epoch,
+        },
+        5 => JournalEntry::Flushed { session, statement },
+        6 => JournalEntry::Idle { epoch },
+        7 => JournalEntry::Purged {
+            session,
+            statement,
+            epoch,
+        },
+        8 => JournalEntry::Read {
+            session: 17,
+            statement,
+            epoch,
+        },
+        9 => JournalEntry::ReadEnd {
+            session: 33,
+            statement,
+        },
+        10 => JournalEntry::Refused {
+            session,
+            statement,
+            code: 17,
+        },
+        11 => JournalEntry::Round { epoch },
+        12 => JournalEntry::RoundLost {
+            epoch,
+            cause: LostCause::Disk,
+        },
+        13 => JournalEntry::RoundLost {
+            epoch,
+            cause: LostCause::Memory,
+        },
+        14 => JournalEntry::Safe { epoch },
+        _ => JournalEntry::Show { session, statement },
+    }
+}
+
+const ENTRIES: [&str; 16] = [
+    "begin 1.2 epoch 3 deps []",
+    "begin 1.2 epoch 4 deps [2,3]",
+    "cleared 1.2",
+    "committed 1.2 epoch 3",
+    "cube 1.2 epoch 3",
+    "flushed 1.2",
+    "idle 3",
+    "purged 1.2 epoch 3",
+    "read 17.2 epoch 3",
+    "readend 33.2",
+    "refused 1.2 code 17",
+    "round 3",
+    "lost 3 disk",
+    "lost 3 memory",
+    "safe 3",
+    "show 1.2",
+];
+
+const ABORTS: [(AbortCause, &str); 6] = [
+    (AbortCause::Asked, "aborted 1.2 epoch 3 Asked"),
+    (AbortCause::EndOfScript, "aborted 1.2 epoch 3 EndOfScript"),
+    (
+        AbortCause::TooManyRejected,
+        "aborted 1.2 epoch 3 TooManyRejected",
+    ),
+    (AbortCause::ReadFault, "aborted 1.2 epoch 3 ReadFault"),
+    (AbortCause::NoMemory, "aborted 1.2 epoch 3 NoMemory"),
+    (
+        AbortCause::ShardFull {
+            shard: 4,
+            rows: 1_099_511_627_776,
+        },
+        "aborted 1.2 epoch 3 ShardFull 4 rows 1099511627776",
+    ),
+];
+
+#[test]
+fn entries_and_the_closing_line(rt: HostRuntime) -> Result<(), Fail> {
+    let alloc = rt.alloc();
+    let mut place = 0u32;
+    for wanted in ENTRIES {
+        let text = entry_bytes(alloc, &entry(place))?;
+        assert!(rt; text.as_slice() == wanted.as_bytes(), "{wanted}");
+        place = place.wrapping_add(1);
+    }
+    for (cause, wanted) in ABORTS {
+        let aborted = JournalEntry::Aborted {
+            session: 1,
+            statement: 2,
+            epoch: 3,
+            cause,
+        };
+        let text = entry_bytes(alloc, &aborted)?;
+        assert!(rt; text.as_slice() == wanted.as_bytes(), "{wanted}");
+    }
+    let counters = Counters {
+        ec: 5,
+        lce: 4,
+        lse: 3,
+        pending: two_epochs(),
+    };
+    let text = end_bytes(alloc, &counters)?;
+    assert_eq!(rt; text.as_slice(), b"end ec 5 lce 4 lse 3\n".as_slice());
+    Ok(())
+}
+
+/// What is appended to one buffer stands behind what it has.
+#[test]
+fn a_head_and_a_journal(rt: HostRuntime) -> Result<(), Fail> {
+    let alloc = rt.alloc();
+    let mut out = Vec::new(alloc);
+    put_head(&mut out, 2)?;
+    put_journal(&mut out, &[entry(11), entry(14)])?;
+    assert_eq!(rt;
+        out.as_slice(),
+        b"session 2\njournal 2\nround 3\nsafe 3\n".as_slice()
+    );
+    Ok(())
+}
