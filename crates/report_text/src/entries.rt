@@ -23,7 +23,6 @@ fn put_epochs_behind(out: &mut Vec<u8>, epochs: &[u64]) -> Result<(), AllocError
 }
 
 /// Appends epochs with commas between them.
-#[tactic(auto, using(crate::proofs::JoinedEpochs::joined_epochs))]
 fn put_joined(out: &mut Vec<u8>, epochs: &[u64]) -> Result<(), AllocError>
     ensures { OnOk result (out.new.items ≡ out.old.items ++ join_with_byte comma (map decimal epochs.now)) }
 {

@@ -33,16 +33,22 @@ fn put_reason(out: &mut Vec<u8>, reason: Reason) -> Result<(), AllocError>
     }
 }
 
+/// Appends how many values a row has that has not one for each column.
+fn put_wrong_count(out: &mut Vec<u8>, values: u64) -> Result<(), AllocError>
+    ensures { OnOk result (out.new.items
+        ≡ out.old.items ++ (codes "values " ++ (decimal values ++ codes " WrongCount"))) }
+{
+    put_counted(out, b"values ", values)?;
+    out.extend_from_slice(b" WrongCount")?;
+    Ok(())
+}
+
 /// Appends why a row is not stored.
 pub(crate) fn put_bad_row(out: &mut Vec<u8>, why: &BadRow) -> Result<(), AllocError>
     ensures { OnOk result (out.new.items ≡ out.old.items ++ bad_row_text why.now) }
 {
     match why {
-        BadRow::WrongCount { values } => {
-            put_counted(out, b"values ", *values)?;
-            out.extend_from_slice(b" WrongCount")?;
-            Ok(())
-        }
+        BadRow::WrongCount { values } => put_wrong_count(out, *values),
         BadRow::Column { name, reason } => {
             put_named(out, b"column ", name)?;
             out.push(b' ')?;
