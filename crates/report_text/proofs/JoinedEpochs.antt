@@ -18,4 +18,5 @@ joined_at_least text [] some = absurd (omega arith)
 joined_at_least text (epoch ∷ epochs) some =
     ap (λ more. text ++ more) (joined_epochs epoch epochs)
     ∙ (sym (append_assoc text (decimal epoch) (epochs_behind epochs))
-    ∙ ap (λ others. (text ++ decimal epoch) ++ epochs_behind others) (sym (take_all (length (epoch ∷ epochs) - 1) epochs (omega arith))))
+    ∙ ap (λ others. (text ++ decimal epoch) ++ epochs_behind others)
+    (sym (take_all (length (epoch ∷ epochs) - 1) epochs (omega arith))))

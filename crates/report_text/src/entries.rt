@@ -24,7 +24,8 @@ fn put_epochs_behind(out: &mut Vec<u8>, epochs: &[u64]) -> Result<(), AllocError
 
 /// Appends epochs with commas between them.
 fn put_joined(out: &mut Vec<u8>, epochs: &[u64]) -> Result<(), AllocError>
-    ensures { OnOk result (out.new.items ≡ out.old.items ++ join_with_byte comma (map decimal epochs.now)) }
+    ensures { OnOk result
+        (out.new.items ≡ out.old.items ++ join_with_byte comma (map decimal epochs.now)) }
 {
     let [first, others @ ..] = epochs else {
         return Ok(());
@@ -85,7 +86,8 @@ fn put_begin(
     deps: &EpochList,
 ) -> Result<(), AllocError>
     ensures { OnOk result (out.new.items ≡ out.old.items
-        ++ (codes "begin " ++ (epoch_text session statement epoch ++ (codes " deps " ++ epochs_text deps.now)))) }
+        ++ (codes "begin "
+        ++ (epoch_text session statement epoch ++ (codes " deps " ++ epochs_text deps.now)))) }
 {
     put_of_epoch(out, b"begin ", session, statement, epoch)?;
     out.extend_from_slice(b" deps ")?;
@@ -117,7 +119,8 @@ fn put_aborted(
     cause: AbortCause,
 ) -> Result<(), AllocError>
     ensures { OnOk result (out.new.items ≡ out.old.items
-        ++ (codes "aborted " ++ (epoch_text session statement epoch ++ (codes " " ++ abort_text cause)))) }
+        ++ (codes "aborted "
+        ++ (epoch_text session statement epoch ++ (codes " " ++ abort_text cause)))) }
 {
     put_of_epoch(out, b"aborted ", session, statement, epoch)?;
     out.push(b' ')?;
@@ -127,7 +130,8 @@ fn put_aborted(
 /// Appends the entry of a refusal of this number.
 fn put_refused(out: &mut Vec<u8>, session: u32, statement: u32, code: u32) -> Result<(), AllocError>
     ensures { OnOk result (out.new.items ≡ out.old.items
-        ++ (codes "refused " ++ (statement_text session statement ++ (codes " code " ++ decimal code)))) }
+        ++ (codes "refused "
+        ++ (statement_text session statement ++ (codes " code " ++ decimal code)))) }
 {
     put_of_statement(out, b"refused ", session, statement)?;
     out.extend_from_slice(b" code ")?;

@@ -9,7 +9,8 @@ use std::alloc::AllocError;
 
 /// Appends the word of an aggregate with its `(`, a metric and `)`.
 fn put_aggregate(out: &mut Vec<u8>, word: &[u8], metric: &Text) -> Result<(), AllocError>
-    ensures { OnOk result (out.new.items ≡ out.old.items ++ (word.now ++ (metric.now ++ codes ")"))) }
+    ensures { OnOk result
+        (out.new.items ≡ out.old.items ++ (word.now ++ (metric.now ++ codes ")"))) }
 {
     out.extend_from_slice(word)?;
     out.extend_from_slice(metric.as_bytes())?;

@@ -30,8 +30,8 @@ pub(crate) fn put_two_counted(
     next_word: &[u8],
     next: u64,
 ) -> Result<(), AllocError>
-    ensures { OnOk result
-        (out.new.items ≡ out.old.items ++ (word.now ++ (decimal n ++ (next_word.now ++ decimal next)))) }
+    ensures { OnOk result (out.new.items ≡ out.old.items
+        ++ (word.now ++ (decimal n ++ (next_word.now ++ decimal next)))) }
 {
     put_counted(out, word, n)?;
     put_counted(out, next_word, next)

@@ -60,7 +60,8 @@ pub(crate) fn put_bad_row(out: &mut Vec<u8>, why: &BadRow) -> Result<(), AllocEr
 /// Appends the number of a row, counted from 1, and why it is not stored.
 fn put_row_refusal(out: &mut Vec<u8>, row: u64, why: &BadRow) -> Result<(), AllocError>
     ensures { OnOk result (out.new.items
-        ≡ out.old.items ++ (codes "BadRow row " ++ (decimal row ++ (codes " " ++ bad_row_text why.now)))) }
+        ≡ out.old.items
+        ++ (codes "BadRow row " ++ (decimal row ++ (codes " " ++ bad_row_text why.now)))) }
 {
     put_counted(out, b"BadRow row ", row)?;
     out.push(b' ')?;

@@ -29,7 +29,8 @@ fn put_at_epoch(out: &mut Vec<u8>, words: &[u8], epoch: u64) -> Result<(), Alloc
 /// Appends an answer: a word with the space behind it, how many lines, the epoch, and the lines.
 fn put_answer(out: &mut Vec<u8>, word: &[u8], epoch: u64, table: &Table) -> Result<(), AllocError>
     ensures { OnOk result (out.new.items ≡ out.old.items
-        ++ (word.now ++ (decimal (length table.now) ++ (at_epoch (codes " epoch") epoch ++ table_text table.now)))) }
+        ++ (word.now ++ (decimal (length table.now)
+        ++ (at_epoch (codes " epoch") epoch ++ table_text table.now)))) }
 {
     out.extend_from_slice(word)?;
     put_u64(out, table.len() as u64)?;
@@ -39,8 +40,8 @@ fn put_answer(out: &mut Vec<u8>, word: &[u8], epoch: u64, table: &Table) -> Resu
 
 /// Appends how many rows were stored.
 fn put_stored(out: &mut Vec<u8>, rows: u64, epoch: u64) -> Result<(), AllocError>
-    ensures { OnOk result
-        (out.new.items ≡ out.old.items ++ (codes "stored " ++ (decimal rows ++ at_epoch (codes " epoch") epoch))) }
+    ensures { OnOk result (out.new.items ≡ out.old.items
+        ++ (codes "stored " ++ (decimal rows ++ at_epoch (codes " epoch") epoch))) }
 {
     out.extend_from_slice(b"stored ")?;
     put_u64(out, rows)?;
@@ -91,7 +92,8 @@ fn put_loaded(
 
 /// Appends the counters, with the epochs that are pending.
 fn put_shown(out: &mut Vec<u8>, counters: &Counters) -> Result<(), AllocError>
-    ensures { OnOk result (out.new.items ≡ out.old.items ++ (codes "epochs " ++ (counters_text counters.now
+    ensures { OnOk result (out.new.items ≡ out.old.items
+        ++ (codes "epochs " ++ (counters_text counters.now
         ++ (codes " pending " ++ (epochs_text counters.now.pending ++ codes "\n"))))) }
 {
     out.extend_from_slice(b"epochs ")?;
@@ -104,8 +106,8 @@ fn put_shown(out: &mut Vec<u8>, counters: &Counters) -> Result<(), AllocError>
 
 /// Appends why a statement was not done.
 fn put_refused(out: &mut Vec<u8>, refusal: &Refusal) -> Result<(), AllocError>
-    ensures { OnOk result
-        (out.new.items ≡ out.old.items ++ (codes "refused " ++ (refusal_text refusal.now ++ codes "\n"))) }
+    ensures { OnOk result (out.new.items ≡ out.old.items
+        ++ (codes "refused " ++ (refusal_text refusal.now ++ codes "\n"))) }
 {
     out.extend_from_slice(b"refused ")?;
     put_refusal(out, refusal)?;
