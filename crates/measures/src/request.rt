@@ -20,6 +20,8 @@ pub(crate) enum HotPath {
     Fold,
     /// A job through a mail and its answer back.
     Mail,
+    /// A writer and a reader of a session at the desk, each opened and ended.
+    Desk,
 }
 
 impl HotPath {
@@ -35,6 +37,7 @@ impl HotPath {
             "plan" => Some(HotPath::Plan),
             "fold" => Some(HotPath::Fold),
             "mail" => Some(HotPath::Mail),
+            "desk" => Some(HotPath::Desk),
             _ => None,
         }
     }
@@ -52,6 +55,7 @@ impl HotPath {
             HotPath::Plan => 10_000_000,
             HotPath::Fold => 1_000_000_000,
             HotPath::Mail => 1_000_000_000,
+            HotPath::Desk => 10_000_000,
         }
     }
 
@@ -67,6 +71,7 @@ impl HotPath {
             HotPath::Plan => "entries purged",
             HotPath::Fold => "rows folded",
             HotPath::Mail => "jobs mailed",
+            HotPath::Desk => "entries added to a journal",
         }
     }
 }

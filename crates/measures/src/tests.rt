@@ -1,6 +1,7 @@
 //! The words, the line, and each path on a thousand items. The checksums were computed apart, from PCG's
 //! numbers and plain loops over rows, marks and names.
 
+use crate::desks::Turns;
 use crate::groups::Fold;
 use crate::line::Line;
 use crate::mails::Deliver;
@@ -104,5 +105,6 @@ fn checksums(rt: HostRuntime) -> Result<(), Fail> {
     assert_eq!(rt; checksum::<Plan>(rt.alloc())?, 10_401);
     assert_eq!(rt; checksum::<Fold>(rt.alloc())?, 8_001_016);
     assert_eq!(rt; checksum::<Deliver>(rt.alloc())?, 1_155_500);
+    assert_eq!(rt; checksum::<Turns>(rt.alloc())?, 251);
     Ok(())
 }
