@@ -22,6 +22,12 @@ pub(crate) enum HotPath {
     Mail,
     /// A writer and a reader of a session at the desk, each opened and ended.
     Desk,
+    /// A mutex locked and let go, by one thread.
+    Lock,
+    /// `Board::call` of a counter, by one thread.
+    Call,
+    /// `Board::call` of four counters, each by a thread of its own.
+    Cells,
 }
 
 impl HotPath {
@@ -38,6 +44,9 @@ impl HotPath {
             "fold" => Some(HotPath::Fold),
             "mail" => Some(HotPath::Mail),
             "desk" => Some(HotPath::Desk),
+            "lock" => Some(HotPath::Lock),
+            "call" => Some(HotPath::Call),
+            "cells" => Some(HotPath::Cells),
             _ => None,
         }
     }
@@ -56,6 +65,9 @@ impl HotPath {
             HotPath::Fold => 1_000_000_000,
             HotPath::Mail => 1_000_000_000,
             HotPath::Desk => 10_000_000,
+            HotPath::Lock => 1_000_000_000,
+            HotPath::Call => 1_000_000_000,
+            HotPath::Cells => 1_000_000_000,
         }
     }
 
@@ -72,6 +84,9 @@ impl HotPath {
             HotPath::Fold => "rows folded",
             HotPath::Mail => "jobs mailed",
             HotPath::Desk => "entries added to a journal",
+            HotPath::Lock => "locks taken",
+            HotPath::Call => "calls made",
+            HotPath::Cells => "calls made on each of four cells",
         }
     }
 }
