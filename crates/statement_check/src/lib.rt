@@ -1,0 +1,17 @@
+//! The tests of a statement on its cube: the columns that it uses, the items of a query, the ranges that a
+//! deletion cuts, and the rows that an INSERT brings.
+#![tactic(auto)]
+
+mod check;
+mod columns;
+mod items;
+mod names;
+mod parts;
+mod ranges;
+mod rows;
+
+pub use check::check_statement;
+pub use cube_language::Misfit;
+
+#[cfg(test)]
+mod tests;
