@@ -43,11 +43,13 @@ alike_in Q x (v ∷ wanted) told = elim (beside_or_apart v x) [
   ]
 ]
 
-above_low : (low : ℤ) (x : ℕ) → value_eq (Int low) (Int (pos (x + 1))) ≡ false → not (int_lt (pos x) low) ≡ not (int_lt (pos (x + 1)) low)
+above_low : (low : ℤ) (x : ℕ) → value_eq (Int low) (Int (pos (x + 1))) ≡ false
+    → not (int_lt (pos x) low) ≡ not (int_lt (pos (x + 1)) low)
 above_low (pos n) x apart = grind (arith, nat_tests)
 above_low (negsuc n) x apart = refl
 
-below_high : (high : ℤ) (x : ℕ) → value_eq (Int high) (Int (pos x)) ≡ false → not (int_lt high (pos x)) ≡ not (int_lt high (pos (x + 1)))
+below_high : (high : ℤ) (x : ℕ) → value_eq (Int high) (Int (pos x)) ≡ false
+    → not (int_lt high (pos x)) ≡ not (int_lt high (pos (x + 1)))
 below_high (pos n) x apart = grind (arith, nat_tests)
 below_high (negsuc n) x apart = refl
 
@@ -95,7 +97,8 @@ alike_for_all Q name x (c ∷ conds) told =
 
 agree_from_all : (conds : List Cond) (dim : DimDecl) → All (AgreesFor conds dim) conds → AgreeEverywhere conds dim
 agree_from_all conds dim all x =
-    let told : All (Told (AgreesAt conds dim x) dim.name x) conds = λ k d lt named j e within beside. all k d lt named j e within x beside in
+    let told : All (Told (AgreesAt conds dim x) dim.name x) conds =
+    λ k d lt named j e within beside. all k d lt named j e within x beside in
     elim (alike_for_all (AgreesAt conds dim x) dim.name x conds told) [
       | inl agrees ↦ agrees
       | inr same ↦ λ within other. same
@@ -105,10 +108,12 @@ all_from_agree : (conds : List Cond) (dim : DimDecl) → AgreeEverywhere conds d
 all_from_agree conds dim agree k d lt named j e within x beside = agree x
 
 -- The conditions have whole ranges exactly where they agree on each side of the values that they name.
-pub whole_ranges : (conds : List Cond) (dim : DimDecl) → 0 < dim.range → All (AgreesFor conds dim) conds ↔ HaveWholeRanges conds dim
-whole_ranges conds dim some =
-    ((λ all. whole_from_agree conds dim some (agree_from_all conds dim all)),
-      (λ whole. all_from_agree conds dim (agree_from_whole conds dim some whole)))
+pub whole_ranges : (conds : List Cond) (dim : DimDecl) → 0 < dim.range → All (AgreesFor conds dim) conds
+    ↔ HaveWholeRanges conds dim
+whole_ranges conds dim some = (
+  (λ all. whole_from_agree conds dim some (agree_from_all conds dim all)),
+  (λ whole. all_from_agree conds dim (agree_from_whole conds dim some whole)),
+)
 
 up_to_some : (most : ℕ) (n : ℤ) (k : ℕ) → Some k ≡ number_up_to most n → n ≡ pos k
 up_to_some most (pos n) k is = elim (cases_Bool (nat_lt most n)) [
@@ -118,7 +123,8 @@ up_to_some most (pos n) k is = elim (cases_Bool (nat_lt most n)) [
 up_to_some most (negsuc n) k is = absurd cc
 
 -- Conditions agree beside a number that is a coordinate, or the one after the last.
-pub beside_some : (conds : List Cond) (dim : DimDecl) (v : Value) (n : ℤ) (k : ℕ) (b : Bool) → v ≡ Int n → Some k ≡ number_up_to dim.cardinality n
+pub beside_some : (conds : List Cond) (dim : DimDecl) (v : Value) (n : ℤ) (k : ℕ) (b : Bool) → v ≡ Int n
+    → Some k ≡ number_up_to dim.cardinality n
     → (IsTrue b ↔ AgreesBeside conds dim (Int (pos k))) → IsTrue b ↔ AgreesBeside conds dim v
 beside_some conds dim v n k b is some agrees =
     let same : v ≡ Int (pos k) = is ∙ ap Int (up_to_some dim.cardinality n k some) in
@@ -130,16 +136,20 @@ not_above most x le none =
     let some = rw below at none in
     absurd cc
 
-far : (conds : List Cond) (dim : DimDecl) (n : ℤ) → None ≡ number_up_to dim.cardinality n → AgreesBeside conds dim (Int n)
+far : (conds : List Cond) (dim : DimDecl) (n : ℤ) → None ≡ number_up_to dim.cardinality n
+    → AgreesBeside conds dim (Int n)
 far conds dim n none x (inl is) within other =
     let same : n ≡ pos x = cc in
-    absurd (not_above dim.cardinality x (omega arith) (subst (λ (m : ℤ). None ≡ number_up_to dim.cardinality m) same none))
+    absurd (not_above dim.cardinality x (omega arith)
+    (subst (λ (m : ℤ). None ≡ number_up_to dim.cardinality m) same none))
 far conds dim n none x (inr is) within other =
     let same : n ≡ pos (x + 1) = cc in
-    absurd (not_above dim.cardinality (x + 1) (omega arith) (subst (λ (m : ℤ). None ≡ number_up_to dim.cardinality m) same none))
+    absurd (not_above dim.cardinality (x + 1) (omega arith)
+    (subst (λ (m : ℤ). None ≡ number_up_to dim.cardinality m) same none))
 
 -- Beside any other number they do.
-pub beside_none : (conds : List Cond) (dim : DimDecl) (v : Value) (n : ℤ) → v ≡ Int n → None ≡ number_up_to dim.cardinality n
+pub beside_none : (conds : List Cond) (dim : DimDecl) (v : Value) (n : ℤ) → v ≡ Int n
+    → None ≡ number_up_to dim.cardinality n
     → IsTrue true ↔ AgreesBeside conds dim v
 beside_none conds dim v n is none =
     ((λ t. subst (AgreesBeside conds dim) (sym is) (far conds dim n none)), (λ agrees. refl))

@@ -11,7 +11,8 @@ use Rattle.statement_check.proofs.Divisions.{same_range, begins_none, not_earlie
 abbrev Alike : List Cond → DimDecl → ℕ → ℕ → Type 0
 Alike conds dim x y = all_pass conds dim.name (Int (pos x)) ≡ all_pass conds dim.name (Int (pos y))
 
-alike_after : (conds : List Cond) (dim : DimDecl) (x n : ℕ) → AgreeEverywhere conds dim → 0 < dim.range → x + n < dim.cardinality
+alike_after : (conds : List Cond) (dim : DimDecl) (x n : ℕ) → AgreeEverywhere conds dim → 0 < dim.range
+    → x + n < dim.cardinality
     → x / dim.range ≡ (x + n) / dim.range → Alike conds dim x (x + n)
 alike_after conds dim x zero agree some within same =
     let none : x ≡ x + 0 = omega arith in
@@ -23,21 +24,26 @@ alike_after conds dim x (suc n) agree some within same =
     let same_n : x / dim.range ≡ (x + n) / dim.range = omega arith in
     let same_next : (x + n) / dim.range ≡ (x + n + 1) / dim.range = rw next (omega arith) in
     let step = agree (x + n) (omega arith) (begins_none dim.range (x + n) same_next) in
-    alike_after conds dim x n agree some (omega arith) same_n ∙ step ∙ ap (λ (y : ℕ). all_pass conds dim.name (Int (pos y))) next
+    alike_after conds dim x n agree some (omega arith) same_n ∙ step
+    ∙ ap (λ (y : ℕ). all_pass conds dim.name (Int (pos y))) next
 
-alike_up : (conds : List Cond) (dim : DimDecl) (x y : ℕ) → AgreeEverywhere conds dim → 0 < dim.range → x ≤ y → ShareRange dim x y → Alike conds dim x y
+alike_up : (conds : List Cond) (dim : DimDecl) (x y : ℕ) → AgreeEverywhere conds dim → 0 < dim.range → x ≤ y
+    → ShareRange dim x y → Alike conds dim x y
 alike_up conds dim x y agree some le share =
     let back : x + (y - x) ≡ y = omega arith in
     let within : x + (y - x) < dim.cardinality = rw back share.second in
     let same : x / dim.range ≡ (x + (y - x)) / dim.range = rw back share.range in
     alike_after conds dim x (y - x) agree some within same ∙ ap (λ (z : ℕ). all_pass conds dim.name (Int (pos z))) back
 
-pub whole_from_agree : (conds : List Cond) (dim : DimDecl) → 0 < dim.range → AgreeEverywhere conds dim → HaveWholeRanges conds dim
+pub whole_from_agree : (conds : List Cond) (dim : DimDecl) → 0 < dim.range → AgreeEverywhere conds dim
+    → HaveWholeRanges conds dim
 whole_from_agree conds dim some agree x y share = elim (cases_lt x y) [
   | inl lt ↦ alike_up conds dim x y agree some (omega arith) share
-  | inr le ↦ sym (alike_up conds dim y x agree some le (record { first = share.second; second = share.first; range = sym share.range }))
+  | inr le ↦ sym (alike_up conds dim y x agree some le
+      (record { first = share.second; second = share.first; range = sym share.range }))
 ]
 
-pub agree_from_whole : (conds : List Cond) (dim : DimDecl) → 0 < dim.range → HaveWholeRanges conds dim → AgreeEverywhere conds dim
+pub agree_from_whole : (conds : List Cond) (dim : DimDecl) → 0 < dim.range → HaveWholeRanges conds dim
+    → AgreeEverywhere conds dim
 agree_from_whole conds dim some whole x within other =
     whole x (x + 1) (record { first = omega arith; second = within; range = same_range dim.range x some other })

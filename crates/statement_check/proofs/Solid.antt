@@ -12,4 +12,5 @@ solid : (dim : DimDecl) → has_zero dim ≡ false → 0 < dim.range
 solid dim none = grind (arith, nat_tests)
 
 pub solid_dims : (d : Decl) → IsStorable d → AreSolid d.dims
-solid_dims d storable k e lt = solid (get_or d.dims k e) (none_found_at has_zero d.dims k e (parts_of d storable).coords lt)
+solid_dims d storable k e lt =
+    solid (get_or d.dims k e) (none_found_at has_zero d.dims k e (parts_of d storable).coords lt)

@@ -12,7 +12,7 @@ use Rattle.cube_language.specs.declared.statement.Cond.TheVariants.{Equal, In, B
 abbrev pub AgreesAt : List Cond → DimDecl → ℕ → Type 0
 AgreesAt conds dim x =
     x + 1 < dim.cardinality → ((x + 1) % dim.range ≡ 0 → ⊥)
-      → all_pass conds dim.name (Int (pos x)) ≡ all_pass conds dim.name (Int (pos (x + 1)))
+    → all_pass conds dim.name (Int (pos x)) ≡ all_pass conds dim.name (Int (pos (x + 1)))
 
 -- They do so at each coordinate.
 abbrev pub AgreeEverywhere : List Cond → DimDecl → Type 0

@@ -6,9 +6,9 @@ use Rattle.statement_check.specs.declared.rows.ColumnFault.{ColumnFault}
 use Rattle.statement_check.specs.declared.rows.FirstBadRow.{FirstBadRow}
 
 -- A column that its value does not fit.
-abbrev pub bad_column : ColumnFault → BadRow
-bad_column fault = Column fault.name.now fault.reason
+abbrev pub column_found : ColumnFault → BadRow
+column_found fault = Column fault.name.now fault.reason
 
 -- A bad row with its number.
-abbrev pub bad_row : FirstBadRow → ℕ × BadRow
-bad_row found = (found.row, found.why)
+abbrev pub row_found : FirstBadRow → ℕ × BadRow
+row_found found = (found.row, found.why)

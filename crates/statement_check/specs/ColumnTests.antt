@@ -11,10 +11,10 @@ abbrev pub measure_use : List ℕ → ColumnUse
 measure_use metric = record { name = metric; purpose = Measuring }
 
 -- The use of a column fails the test.
-abbrev pub fails : ColumnTest → Decl → ColumnUse → Bool
-fails Unknown d u = is_unknown d u
-fails WrongUse d u = is_wrong_use d u
+abbrev pub use_fails : ColumnTest → Decl → ColumnUse → Bool
+use_fails Unknown d u = is_unknown d u
+use_fails WrongUse d u = is_wrong_use d u
 
 -- The name of the first column whose use fails the test.
 abbrev pub first_failing : ColumnTest → Decl → List ColumnUse → Option (List ℕ)
-first_failing test d uses = option_map (λ u. u.name) (find (fails test d) uses)
+first_failing test d uses = option_map (λ u. u.name) (find (use_fails test d) uses)

@@ -5,7 +5,7 @@ ghost use Rattle.std.specs.Prelude.{◌≡◌, [], ◌∷◌, map, option_copied
 ghost use Rattle.std.specs.List.{list_any, flat_map};
 ghost use Rattle.cube_language.specs.ColumnUses.{column_uses, item_uses, cond_use, group_use, is_of_other_kind, is_against_dim, is_text};
 ghost use Rattle.cube_language.specs.Misfits.{cond_name};
-ghost use Rattle.statement_check.specs.ColumnTests.{fails, first_failing, measure_use};
+ghost use Rattle.statement_check.specs.ColumnTests.{use_fails, first_failing, measure_use};
 
 use crate::names::{dim_named, is_column};
 use crate::parts::{conds_of, group_of, having_of, items_of, order_of};
@@ -65,7 +65,7 @@ pub(crate) fn cond_name(cond: &Cond) -> &Text
 }
 
 fn cond_fails(test: ColumnTest, decl: &Decl, cond: &Cond) -> bool
-    ensures { result ≡ fails test decl.now (cond_use cond.now) }
+    ensures { result ≡ use_fails test decl.now (cond_use cond.now) }
 {
     match test {
         ColumnTest::Unknown => !is_column(decl, cond_name(cond)),
@@ -77,7 +77,7 @@ fn cond_fails(test: ColumnTest, decl: &Decl, cond: &Cond) -> bool
 }
 
 fn group_fails(test: ColumnTest, decl: &Decl, name: &Text) -> bool
-    ensures { result ≡ fails test decl.now (group_use name.now) }
+    ensures { result ≡ use_fails test decl.now (group_use name.now) }
 {
     match test {
         ColumnTest::Unknown => !is_column(decl, name),
@@ -86,7 +86,7 @@ fn group_fails(test: ColumnTest, decl: &Decl, name: &Text) -> bool
 }
 
 fn measure_fails(test: ColumnTest, decl: &Decl, metric: &Text) -> bool
-    ensures { result ≡ fails test decl.now (measure_use metric.now) }
+    ensures { result ≡ use_fails test decl.now (measure_use metric.now) }
 {
     match test {
         ColumnTest::Unknown => !is_column(decl, metric),

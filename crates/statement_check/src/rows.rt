@@ -5,7 +5,7 @@ ghost use Rattle.std.specs.Option.{option_map};
 ghost use Rattle.cube_language.specs.Columns.{columns_of};
 ghost use Rattle.cube_language.specs.RowFaults.{text_reason, coord_reason, dim_reason, value_reason, column_fault, row_fault, first_bad_row};
 ghost use Rattle.cube_language.specs.declared.decl.Column.TheVariants.{Metric};
-ghost use Rattle.statement_check.specs.ColumnFaults.{bad_column, bad_row};
+ghost use Rattle.statement_check.specs.ColumnFaults.{column_found, row_found};
 
 use cube_language::{BadRow, Decl, DimDecl, Reason, TEXT_BYTES};
 use cube_values::{Text, Value, Values};
@@ -79,7 +79,7 @@ fn metric_reason(name: &Text, value: &Value) -> Option<Reason>
 
 /// The first of metrics that its value does not fit.
 fn metric_fault<'a>(metrics: &'a [Text], values: &[Value]) -> Option<ColumnFault<'a>>
-    ensures { option_map bad_column result ≡ column_fault (map Metric metrics.now) values.now }
+    ensures { option_map column_found result ≡ column_fault (map Metric metrics.now) values.now }
 {
     let mut columns_left = metrics;
     let mut values_left = values;
@@ -98,7 +98,7 @@ fn metric_fault<'a>(metrics: &'a [Text], values: &[Value]) -> Option<ColumnFault
 
 /// The first of the columns that its value does not fit.
 fn column_fault<'a>(decl: &'a Decl, values: &[Value]) -> Option<ColumnFault<'a>>
-    ensures { option_map bad_column result ≡ column_fault (columns_of decl.now) values.now }
+    ensures { option_map column_found result ≡ column_fault (columns_of decl.now) values.now }
 {
     let mut columns_left = decl.dims.as_slice();
     let mut values_left = values;
@@ -145,7 +145,7 @@ fn row_fault(decl: &Decl, values: &[Value]) -> Result<Option<BadRow>, AllocError
 
 /// The first row that cannot be stored.
 pub(crate) fn first_bad_row(decl: &Decl, rows: &[Values]) -> Result<Option<FirstBadRow>, AllocError>
-    ensures { IfOk result (λ found. option_map bad_row found ≡ first_bad_row decl.now rows.now) }
+    ensures { IfOk result (λ found. option_map row_found found ≡ first_bad_row decl.now rows.now) }
 {
     let mut row = 1;
     let mut left = rows;

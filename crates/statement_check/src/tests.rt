@@ -3,8 +3,8 @@
 mod statements;
 
 use super::*;
-use cube_values::CallError;
 use cube_schema::read_cubes;
+use cube_values::CallError;
 use sql_tree::parse;
 use statements::{NUMBERS, VISITS, WIDE};
 use std::alloc::{AllocError, Global};

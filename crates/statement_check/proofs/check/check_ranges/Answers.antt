@@ -8,5 +8,6 @@ use Rattle.statement_check.proofs.check.check_ranges.Goals as goal
 pub returns-clause-passes : goal.returns-clause-passes
 returns-clause-passes c =
     let d = c.args.decl.now in
-    let aligned = subst (λ (conds : List Cond). All (AreAligned conds) d.dims) c.deleted_conds.ensures c.in_default.ensures in
+    let aligned = subst (λ (conds : List Cond). All (AreAligned conds) d.dims) c.deleted_conds.ensures
+    c.in_default.ensures in
     ranges_pass d c.args.statement.now c.requires.before aligned

@@ -6,7 +6,8 @@ use Rattle.statement_check.specs.ColumnTests.{first_failing}
 use Rattle.statement_check.proofs.columns.failing_in_items.Given as goal
 
 abbrev pub invariant-items : goal.invariant-items
-invariant-items l = first_failing l.test l.decl (flat_map item_uses l.left) ≡ first_failing l.test l.decl (flat_map item_uses l.items)
+invariant-items l = first_failing l.test l.decl (flat_map item_uses l.left) ≡ first_failing l.test l.decl
+    (flat_map item_uses l.items)
 
 abbrev pub decreases-items : goal.decreases-items
 decreases-items l = length l.left

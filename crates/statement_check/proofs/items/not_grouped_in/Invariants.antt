@@ -7,7 +7,8 @@ use Rattle.cube_language.specs.SameItems.{item_eq}
 use Rattle.statement_check.proofs.items.not_grouped_in.Given as goal
 
 abbrev pub invariant-items : goal.invariant-items
-invariant-items l = find (λ name. not (list_any (bytes_eq name) l.group)) (filter_map plain_name l.left) ≡ find (λ name. not (list_any (bytes_eq name) l.group)) (filter_map plain_name l.items)
+invariant-items l = find (λ name. not (list_any (bytes_eq name) l.group)) (filter_map plain_name l.left) ≡ find
+    (λ name. not (list_any (bytes_eq name) l.group)) (filter_map plain_name l.items)
 
 abbrev pub decreases-items : goal.decreases-items
 decreases-items l = length l.left

@@ -7,7 +7,8 @@ use Rattle.cube_language.specs.SameItems.{item_eq}
 use Rattle.statement_check.proofs.items.strange_in_having.Given as goal
 
 abbrev pub invariant-tests : goal.invariant-tests
-invariant-tests l = find (λ item. not (list_any (item_eq item) l.items)) (map (λ t. t.item) l.left) ≡ find (λ item. not (list_any (item_eq item) l.items)) (map (λ t. t.item) l.having)
+invariant-tests l = find (λ item. not (list_any (item_eq item) l.items)) (map (λ t. t.item) l.left) ≡ find
+    (λ item. not (list_any (item_eq item) l.items)) (map (λ t. t.item) l.having)
 
 abbrev pub decreases-tests : goal.decreases-tests
 decreases-tests l = length l.left

@@ -7,7 +7,8 @@ use Rattle.cube_language.specs.SameItems.{item_eq}
 use Rattle.statement_check.proofs.items.strange_in_order.Given as goal
 
 abbrev pub invariant-keys : goal.invariant-keys
-invariant-keys l = find (λ item. not (list_any (item_eq item) l.items)) (map (λ t. t.item) l.left) ≡ find (λ item. not (list_any (item_eq item) l.items)) (map (λ t. t.item) l.order)
+invariant-keys l = find (λ item. not (list_any (item_eq item) l.items)) (map (λ t. t.item) l.left) ≡ find
+    (λ item. not (list_any (item_eq item) l.items)) (map (λ t. t.item) l.order)
 
 abbrev pub decreases-keys : goal.decreases-keys
 decreases-keys l = length l.left

@@ -7,4 +7,5 @@ use Rattle.statement_check.proofs.ranges.agrees_at_cond.Goals as goal
 pub returns-in-In : goal.returns-in-In
 returns-in-In c =
     let all = rw c.as_slice.ensures at c.agrees_beside_values.ensures in
-    subst (λ (cond : Cond). IsTrue c.agrees_beside_values.result ↔ All (AgreesBeside c.args.conds.now c.args.dim.now) (values_in cond)) (sym c.in-In.is) all
+    subst (λ (cond : Cond). IsTrue c.agrees_beside_values.result
+    ↔ All (AgreesBeside c.args.conds.now c.args.dim.now) (values_in cond)) (sym c.in-In.is) all
