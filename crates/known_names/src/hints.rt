@@ -1,7 +1,8 @@
 //! Hints where texts stand in a list, by their hashes.
 //!
-//! A hint is tried before it is believed, so no answer depends on one and no contract speaks of them: a lost, a stale
-//! or a foreign hint costs time alone. After B. W. Lampson, "Hints for computer system design", 1983.
+//! A hint is tried before it is believed, so no answer depends on one and no contract speaks of them: a
+//! hint that is lost or wrong costs time alone. After B. W. Lampson, "Hints for computer system design",
+//! 1983.
 
 use std::alloc::{AllocError, Global};
 use std::hash::{FoldHasher, Hasher};
@@ -18,16 +19,16 @@ const SLOTS_PER_TEXT: usize = 4;
 /// What stands in a slot without a hint.
 const NO_HINT: u32 = u32::MAX;
 
-/// The hash of a text, by the library's hasher. Its bytes are taken many at a time, where the `Hash` of a list takes them
-/// one by one.
+/// The hash of a text, by the library's hasher. It takes the bytes many at a time, where the `Hash` of a
+/// list takes them one by one.
 pub(crate) fn hash_of(text: &[u8]) -> u64 {
     let mut hasher = FoldHasher::default();
     hasher.write(text);
     hasher.finish()
 }
 
-/// For hashes of texts, the places of these in a list. The same caveat as for dictionaries holds: whoever prepares texts
-/// of one hash leaves most of them without a hint.
+/// The places of texts in a list, by the hashes of the texts. The hasher's seed is fixed: whoever chooses
+/// the texts can prepare some of one hash, of which most then have no hint.
 #[derive(Drop)]
 pub(crate) struct Hints {
     slots: Vec<u32>,
@@ -68,7 +69,8 @@ impl Hints {
         Some(self.slots[slot] as usize)
     }
 
-    /// Notes the place of a text with a hash in the first slot of its own that is free. Where none is free it gets no hint.
+    /// Notes the place of a text with a hash, in the first of its slots that is free. Where none is free the
+    /// text gets no hint.
     pub(crate) fn note(&mut self, hash: u64, place: usize) {
         let place = u32::try_from(place).unwrap_or(NO_HINT);
         for tried in 0..TRIES {

@@ -9,11 +9,11 @@ use indexmap::IndexMap;
 use std::alloc::{AllocError, Global};
 use std::marker::Model;
 
-/// Distinct texts of a dimension, each with the code that its dictionary gave, in the order in which they were learned.
-/// Codes are never taken back, so one that was learned stays right.
+/// Distinct texts of a dimension, each with the code that its dictionary gave, in the order in which they
+/// were learned. Codes are never taken back, so one that was learned stays right.
 ///
-/// A text is found by its bytes, without a `String` and a test for UTF-8: a hint by its hash leads to its place, where it
-/// is compared. A text without a hint, and one that is not known, are asked of the map.
+/// A text is found by its bytes, without a `String` and a test for UTF-8: a hint by its hash leads to its
+/// place, where it is compared. A text without a hint, and one that is not known, are asked of the map.
 #[derive(Drop)]
 pub struct Known {
     texts: IndexMap<Vec<u8>, u32>,
@@ -57,6 +57,14 @@ fn more_hints(texts: &IndexMap<Vec<u8>, u32>, hints: &Hints) -> Result<Hints, Al
     Ok(more)
 }
 
+/// Makes more hints where there are too few for one text more.
+fn make_room(texts: &IndexMap<Vec<u8>, u32>, hints: &mut Hints) -> Result<(), AllocError> {
+    if hints.are_few(texts.len()) {
+        *hints = more_hints(texts, hints)?;
+    }
+    Ok(())
+}
+
 impl Known {
     /// No text.
     pub fn new(alloc: Global) -> Known
@@ -79,14 +87,14 @@ impl Known {
         self.texts.get(text).copied()
     }
 
-    /// Learns the code of a text. A text that is known keeps the code that it has. Only where a text is not known may
-    /// memory be wanted, and then nothing changes.
+    /// Learns the code of a text. A text that is known keeps the code that it has. Only where a text is not
+    /// known may memory be wanted, and then nothing changes.
     pub fn learn(&mut self, text: &[u8], code: u32) -> Result<(), AllocError>
         ensures learned { OnOk result (self.new ≡ with_text self.old text.now code) }
         ensures err { OnErr result (self.new ≡ self.old) }
         ensures wanted { OnErr result (code_of self.old text.now ≡ None) }
     {
-        if let Some(_code) = self.find(text) {
+        if let Some(_known) = self.find(text) {
             return Ok(());
         }
         self.add(text, code)
@@ -98,10 +106,8 @@ impl Known {
         ensures added { OnOk result (self.new ≡ with_text self.old text.now code) }
         ensures err { OnErr result (self.new ≡ self.old) }
     {
+        make_room(&self.texts, &mut self.hints)?;
         let place = self.texts.len();
-        if self.hints.are_few(place) {
-            self.hints = more_hints(&self.texts, &self.hints)?;
-        }
         let owned = Vec::from_slice(*self.texts.allocator(), text)?;
         self.texts.insert(owned, code)?;
         self.hints.note(hash_of(text), place);
