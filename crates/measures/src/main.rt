@@ -2,6 +2,7 @@
 //! and a checksum, which is the same at each run; with `--time` also the time per item.
 #![tactic(auto)]
 
+mod board;
 mod groups;
 mod line;
 mod mails;
@@ -12,6 +13,7 @@ mod seed;
 mod vectors;
 mod work;
 
+use board::{measure_calls, measure_cells, measure_locks};
 use groups::Fold;
 use line::Line;
 use mails::Deliver;
@@ -28,7 +30,7 @@ use work::{Measured, measure};
 #[cfg(test)]
 mod tests;
 
-const USAGE: &str = "usage: measures [--time] split|encode|lookup|visible|plan|fold|mail N";
+const USAGE: &str = "usage: measures [--time] split|encode|lookup|visible|plan|fold|mail|lock|call|cells N";
 
 /// The words after the program's name, and none where a word is not UTF-8. The error is want of memory.
 fn words<R: Env + AllocGlobal>(rt: &R) -> io::Result<Vec<String>> {
@@ -50,6 +52,9 @@ fn ran(rt: &HostRuntime, request: &Request) -> io::Result<Measured> {
         HotPath::Plan => measure::<Plan, HostRuntime>(rt, rt.alloc(), items),
         HotPath::Fold => measure::<Fold, HostRuntime>(rt, rt.alloc(), items),
         HotPath::Mail => measure::<Deliver, HostRuntime>(rt, rt.alloc(), items),
+        HotPath::Lock => measure_locks(rt, items),
+        HotPath::Call => measure_calls(rt, rt.alloc(), items),
+        HotPath::Cells => measure_cells(rt, rt.alloc(), items),
     }
 }
 

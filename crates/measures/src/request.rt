@@ -20,6 +20,12 @@ pub(crate) enum HotPath {
     Fold,
     /// A job through a mail and its answer back.
     Mail,
+    /// A mutex locked and let go, by one thread.
+    Lock,
+    /// `Board::call` of a counter, by one thread.
+    Call,
+    /// `Board::call` of four counters, each by a thread of its own.
+    Cells,
 }
 
 impl HotPath {
@@ -35,6 +41,9 @@ impl HotPath {
             "plan" => Some(HotPath::Plan),
             "fold" => Some(HotPath::Fold),
             "mail" => Some(HotPath::Mail),
+            "lock" => Some(HotPath::Lock),
+            "call" => Some(HotPath::Call),
+            "cells" => Some(HotPath::Cells),
             _ => None,
         }
     }
@@ -52,6 +61,9 @@ impl HotPath {
             HotPath::Plan => 10_000_000,
             HotPath::Fold => 1_000_000_000,
             HotPath::Mail => 1_000_000_000,
+            HotPath::Lock => 1_000_000_000,
+            HotPath::Call => 1_000_000_000,
+            HotPath::Cells => 1_000_000_000,
         }
     }
 
@@ -67,6 +79,9 @@ impl HotPath {
             HotPath::Plan => "entries purged",
             HotPath::Fold => "rows folded",
             HotPath::Mail => "jobs mailed",
+            HotPath::Lock => "locks taken",
+            HotPath::Call => "calls made",
+            HotPath::Cells => "calls made on each of four cells",
         }
     }
 }
