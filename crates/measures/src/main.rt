@@ -5,6 +5,7 @@
 mod board;
 mod groups;
 mod line;
+mod loads;
 mod mails;
 mod names;
 mod request;
@@ -16,6 +17,7 @@ mod work;
 use board::{measure_calls, measure_cells, measure_locks};
 use groups::Fold;
 use line::Line;
+use loads::{LoadStep, Records};
 use mails::Deliver;
 use names::{Encode, Lookup};
 use request::{HotPath, Request, asked_for};
@@ -30,7 +32,8 @@ use work::{Measured, measure};
 #[cfg(test)]
 mod tests;
 
-const USAGE: &str = "usage: measures [--time] split|encode|lookup|visible|plan|fold|mail|lock|call|cells N";
+const USAGE: &str = "usage: measures [--time] \
+    split|encode|lookup|visible|plan|fold|mail|lock|call|cells|records|load_step N";
 
 /// The words after the program's name, and none where a word is not UTF-8. The error is want of memory.
 fn words<R: Env + AllocGlobal>(rt: &R) -> io::Result<Vec<String>> {
@@ -55,6 +58,8 @@ fn ran(rt: &HostRuntime, request: &Request) -> io::Result<Measured> {
         HotPath::Lock => measure_locks(rt, items),
         HotPath::Call => measure_calls(rt, rt.alloc(), items),
         HotPath::Cells => measure_cells(rt, rt.alloc(), items),
+        HotPath::Records => measure::<Records, HostRuntime>(rt, rt.alloc(), items),
+        HotPath::LoadStep => measure::<LoadStep, HostRuntime>(rt, rt.alloc(), items),
     }
 }
 

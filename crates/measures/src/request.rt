@@ -26,6 +26,10 @@ pub(crate) enum HotPath {
     Call,
     /// `Board::call` of four counters, each by a thread of its own.
     Cells,
+    /// `Source::read` of the records of a file.
+    Records,
+    /// `Loader::step` over the same records.
+    LoadStep,
 }
 
 impl HotPath {
@@ -44,6 +48,8 @@ impl HotPath {
             "lock" => Some(HotPath::Lock),
             "call" => Some(HotPath::Call),
             "cells" => Some(HotPath::Cells),
+            "records" => Some(HotPath::Records),
+            "load_step" => Some(HotPath::LoadStep),
             _ => None,
         }
     }
@@ -64,6 +70,8 @@ impl HotPath {
             HotPath::Lock => 1_000_000_000,
             HotPath::Call => 1_000_000_000,
             HotPath::Cells => 1_000_000_000,
+            HotPath::Records => 10_000_000,
+            HotPath::LoadStep => 10_000_000,
         }
     }
 
@@ -82,6 +90,8 @@ impl HotPath {
             HotPath::Lock => "locks taken",
             HotPath::Call => "calls made",
             HotPath::Cells => "calls made on each of four cells",
+            HotPath::Records => "records read",
+            HotPath::LoadStep => "records loaded",
         }
     }
 }

@@ -4,6 +4,7 @@
 use crate::board::{measure_calls, measure_cells, measure_locks};
 use crate::groups::Fold;
 use crate::line::Line;
+use crate::loads::{LoadStep, Records};
 use crate::mails::Deliver;
 use crate::names::{Encode, Lookup};
 use crate::request::{HotPath, Request, asked_for};
@@ -105,6 +106,8 @@ fn checksums(rt: HostRuntime) -> Result<(), Fail> {
     assert_eq!(rt; checksum::<Plan>(rt.alloc())?, 10_401);
     assert_eq!(rt; checksum::<Fold>(rt.alloc())?, 8_001_016);
     assert_eq!(rt; checksum::<Deliver>(rt.alloc())?, 1_155_500);
+    assert_eq!(rt; checksum::<Records>(rt.alloc())?, 1_000);
+    assert_eq!(rt; checksum::<LoadStep>(rt.alloc())?, 1_000);
     assert_eq!(rt; measure_locks(&rt, 1_000)?.checksum, 1_000);
     assert_eq!(rt; measure_calls(&rt, rt.alloc(), 1_000)?.checksum, 1_000);
     assert_eq!(rt; measure_cells(&rt, rt.alloc(), 1_000)?.checksum, 4_000);
