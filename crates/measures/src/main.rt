@@ -3,6 +3,7 @@
 #![tactic(auto)]
 
 mod board;
+mod desks;
 mod groups;
 mod line;
 mod loads;
@@ -15,6 +16,7 @@ mod vectors;
 mod work;
 
 use board::{measure_calls, measure_cells, measure_locks};
+use desks::Turns;
 use groups::Fold;
 use line::Line;
 use loads::{LoadStep, Records};
@@ -33,7 +35,7 @@ use work::{Measured, measure};
 mod tests;
 
 const USAGE: &str = "usage: measures [--time] \
-    split|encode|lookup|visible|plan|fold|mail|lock|call|cells|records|load_step N";
+    split|encode|lookup|visible|plan|fold|mail|desk|lock|call|cells|records|load_step N";
 
 /// The words after the program's name, and none where a word is not UTF-8. The error is want of memory.
 fn words<R: Env + AllocGlobal>(rt: &R) -> io::Result<Vec<String>> {
@@ -55,6 +57,7 @@ fn ran(rt: &HostRuntime, request: &Request) -> io::Result<Measured> {
         HotPath::Plan => measure::<Plan, HostRuntime>(rt, rt.alloc(), items),
         HotPath::Fold => measure::<Fold, HostRuntime>(rt, rt.alloc(), items),
         HotPath::Mail => measure::<Deliver, HostRuntime>(rt, rt.alloc(), items),
+        HotPath::Desk => measure::<Turns, HostRuntime>(rt, rt.alloc(), items),
         HotPath::Lock => measure_locks(rt, items),
         HotPath::Call => measure_calls(rt, rt.alloc(), items),
         HotPath::Cells => measure_cells(rt, rt.alloc(), items),

@@ -2,6 +2,7 @@
 //! numbers and plain loops over rows, marks and names.
 
 use crate::board::{measure_calls, measure_cells, measure_locks};
+use crate::desks::Turns;
 use crate::groups::Fold;
 use crate::line::Line;
 use crate::loads::{LoadStep, Records};
@@ -106,6 +107,7 @@ fn checksums(rt: HostRuntime) -> Result<(), Fail> {
     assert_eq!(rt; checksum::<Plan>(rt.alloc())?, 10_401);
     assert_eq!(rt; checksum::<Fold>(rt.alloc())?, 8_001_016);
     assert_eq!(rt; checksum::<Deliver>(rt.alloc())?, 1_155_500);
+    assert_eq!(rt; checksum::<Turns>(rt.alloc())?, 251);
     assert_eq!(rt; checksum::<Records>(rt.alloc())?, 1_000);
     assert_eq!(rt; checksum::<LoadStep>(rt.alloc())?, 1_000);
     assert_eq!(rt; measure_locks(&rt, 1_000)?.checksum, 1_000);
