@@ -17,8 +17,10 @@ OneMore = (safe : ℕ) (journal : List JournalEntry) (e : JournalEntry)
 same : (n : ℕ) → (n == n) ≡ true
 same n = grind (arith, nat_tests)
 
-pub free : (s : JournalState) (n : ℕ) → s.snapshots ≡ [] → held_by s.snapshots n ≡ None
-free s n idle = rw idle refl
+-- Where no snapshot is open, no session holds one.
+pub free : (d : DeskState) (n : ℕ) → (state_of d.register).snapshots ≡ []
+    → held_by (state_of d.register).snapshots n ≡ None
+free d n idle = rw idle refl
 
 writes : (s : JournalState) (n st epoch : ℕ) (deps : List ℕ) → s.snapshots ≡ []
     → IsWriting (state_after s (entry.Begin n st epoch deps)) n
@@ -36,52 +38,69 @@ did_read : (s : JournalState) (n st later epoch : ℕ) → s.snapshots ≡ []
     → (state_after (state_after s (entry.Read n st epoch)) (entry.ReadEnd n later)).snapshots ≡ []
 did_read s n st later epoch idle = rw idle (rw (same n) refl)
 
-module _ (law : OneMore) (a b d : DeskState) (n st later : ℕ) (s : Snapshot)
-    (idle : (state_of a.register).snapshots ≡ [])
-  where
-    begun : b ≡ desk_over a (after_begin a.register n st s)
-        → state_of b.register ≡ state_after (state_of a.register) (entry.Begin n st s.epoch s.deps)
-    begun is = ap (λ (x : DeskState). state_of x.register) is
-        ∙ law a.register.safe a.register.journal (entry.Begin n st s.epoch s.deps)
+module _ (law : OneMore) (a b d : DeskState) (n st later : ℕ) (s : Snapshot) where
+  begun : b ≡ desk_over a (after_begin a.register n st s)
+      → state_of b.register ≡ state_after (state_of a.register) (entry.Begin n st s.epoch s.deps)
+  begun is = ap (λ (x : DeskState). state_of x.register) is
+      ∙ law a.register.safe a.register.journal (entry.Begin n st s.epoch s.deps)
 
-    pub is_writing : b ≡ desk_over a (after_begin a.register n st s) → IsWriting (state_of b.register) n
-    is_writing is = subst (λ q. IsWriting q n) (sym (begun is)) (writes (state_of a.register) n st s.epoch s.deps idle)
+  committed : b ≡ desk_over a (after_begin a.register n st s) → d ≡ desk_over b (after_commit b.register n later)
+      → state_of d.register ≡ state_after (state_after (state_of a.register) (entry.Begin n st s.epoch s.deps))
+      (entry.Committed n later (held_epoch (state_of b.register) n))
+  committed is ends = ap (λ (x : DeskState). state_of x.register) ends
+      ∙ law b.register.safe b.register.journal (entry.Committed n later (held_epoch (state_of b.register) n))
+      ∙ ap (λ q. state_after q (entry.Committed n later (held_epoch (state_of b.register) n))) (begun is)
 
-    committed : b ≡ desk_over a (after_begin a.register n st s) → d ≡ desk_over b (after_commit b.register n later)
-        → state_of d.register ≡ state_after (state_after (state_of a.register) (entry.Begin n st s.epoch s.deps))
-        (entry.Committed n later (held_epoch (state_of b.register) n))
-    committed is ends = ap (λ (x : DeskState). state_of x.register) ends
-        ∙ law b.register.safe b.register.journal (entry.Committed n later (held_epoch (state_of b.register) n))
-        ∙ ap (λ q. state_after q (entry.Committed n later (held_epoch (state_of b.register) n))) (begun is)
+  opened : b ≡ desk_over a (after_read a.register n st s)
+      → state_of b.register ≡ state_after (state_of a.register) (entry.Read n st s.epoch)
+  opened is = ap (λ (x : DeskState). state_of x.register) is
+      ∙ law a.register.safe a.register.journal (entry.Read n st s.epoch)
 
-    pub is_idle : b ≡ desk_over a (after_begin a.register n st s) → d ≡ desk_over b (after_commit b.register n later)
-        → (state_of d.register).snapshots ≡ []
-    is_idle is ends = (λ i. (committed is ends i).snapshots)
-        ∙ wrote (state_of a.register) n st later s.epoch (held_epoch (state_of b.register) n) s.deps idle
+  closed : b ≡ desk_over a (after_read a.register n st s) → d ≡ desk_with_entry b (entry.ReadEnd n later)
+      → state_of d.register
+      ≡ state_after (state_after (state_of a.register) (entry.Read n st s.epoch)) (entry.ReadEnd n later)
+  closed is ends = ap (λ (x : DeskState). state_of x.register) ends
+      ∙ law b.register.safe b.register.journal (entry.ReadEnd n later)
+      ∙ ap (λ q. state_after q (entry.ReadEnd n later)) (opened is)
 
-    pub ec_rises : b ≡ desk_over a (after_begin a.register n st s) → d ≡ desk_over b (after_commit b.register n later)
-        → (state_of d.register).ec ≡ (state_of a.register).ec + 1
-    ec_rises is ends = λ i. (committed is ends i).ec
+-- The session is writing once its writer is open.
+pub is_writing : OneMore → (a b : DeskState) (n st : ℕ) (s : Snapshot) → (state_of a.register).snapshots ≡ []
+    → b ≡ desk_over a (after_begin a.register n st s) → IsWriting (state_of b.register) n
+is_writing law a b n st s idle is =
+    subst (λ q. IsWriting q n) (sym (begun law a b b n st st s is))
+    (writes (state_of a.register) n st s.epoch s.deps idle)
 
-    opened : b ≡ desk_over a (after_read a.register n st s)
-        → state_of b.register ≡ state_after (state_of a.register) (entry.Read n st s.epoch)
-    opened is = ap (λ (x : DeskState). state_of x.register) is
-        ∙ law a.register.safe a.register.journal (entry.Read n st s.epoch)
+-- Once it is committed no snapshot is open, and EC has risen by one.
+pub is_idle : OneMore → (a b d : DeskState) (n st later : ℕ) (s : Snapshot)
+    → (state_of a.register).snapshots ≡ [] → b ≡ desk_over a (after_begin a.register n st s)
+    → d ≡ desk_over b (after_commit b.register n later) → (state_of d.register).snapshots ≡ []
+is_idle law a b d n st later s idle is ends =
+    ap (λ (q : JournalState). q.snapshots) (committed law a b d n st later s is ends)
+    ∙ wrote (state_of a.register) n st later s.epoch (held_epoch (state_of b.register) n) s.deps idle
 
-    pub is_reading : b ≡ desk_over a (after_read a.register n st s) → HoldsReader (state_of b.register) n
-    is_reading is = subst (λ q. HoldsReader q n) (sym (opened is)) (reads (state_of a.register) n st s.epoch idle)
+pub ec_rises : OneMore → (a b d : DeskState) (n st later : ℕ) (s : Snapshot)
+    → b ≡ desk_over a (after_begin a.register n st s)
+    → d ≡ desk_over b (after_commit b.register n later) → (state_of d.register).ec ≡ (state_of a.register).ec + 1
+ec_rises law a b d n st later s is ends =
+    ap (λ (q : JournalState). q.ec) (committed law a b d n st later s is ends)
 
-    closed : b ≡ desk_over a (after_read a.register n st s) → d ≡ desk_with_entry b (entry.ReadEnd n later)
-        → state_of d.register
-        ≡ state_after (state_after (state_of a.register) (entry.Read n st s.epoch)) (entry.ReadEnd n later)
-    closed is ends = ap (λ (x : DeskState). state_of x.register) ends
-        ∙ law b.register.safe b.register.journal (entry.ReadEnd n later)
-        ∙ ap (λ q. state_after q (entry.ReadEnd n later)) (opened is)
+-- The session holds a reader once it is open.
+pub is_reading : OneMore → (a b : DeskState) (n st : ℕ) (s : Snapshot) → (state_of a.register).snapshots ≡ []
+    → b ≡ desk_over a (after_read a.register n st s) → HoldsReader (state_of b.register) n
+is_reading law a b n st s idle is =
+    subst (λ q. HoldsReader q n) (sym (opened law a b b n st st s is))
+    (reads (state_of a.register) n st s.epoch idle)
 
-    pub is_idle_again : b ≡ desk_over a (after_read a.register n st s) → d ≡ desk_with_entry b (entry.ReadEnd n later)
-        → (state_of d.register).snapshots ≡ []
-    is_idle_again is ends = (λ i. (closed is ends i).snapshots) ∙ did_read (state_of a.register) n st later s.epoch idle
+-- Once it is closed no snapshot is open, and EC is what it was.
+pub is_idle_again : OneMore → (a b d : DeskState) (n st later : ℕ) (s : Snapshot)
+    → (state_of a.register).snapshots ≡ [] → b ≡ desk_over a (after_read a.register n st s)
+    → d ≡ desk_with_entry b (entry.ReadEnd n later) → (state_of d.register).snapshots ≡ []
+is_idle_again law a b d n st later s idle is ends =
+    ap (λ (q : JournalState). q.snapshots) (closed law a b d n st later s is ends)
+    ∙ did_read (state_of a.register) n st later s.epoch idle
 
-    pub ec_stays : b ≡ desk_over a (after_read a.register n st s) → d ≡ desk_with_entry b (entry.ReadEnd n later)
-        → (state_of d.register).ec ≡ (state_of a.register).ec
-    ec_stays is ends = λ i. (closed is ends i).ec
+pub ec_stays : OneMore → (a b d : DeskState) (n st later : ℕ) (s : Snapshot)
+    → b ≡ desk_over a (after_read a.register n st s)
+    → d ≡ desk_with_entry b (entry.ReadEnd n later) → (state_of d.register).ec ≡ (state_of a.register).ec
+ec_stays law a b d n st later s is ends =
+    ap (λ (q : JournalState). q.ec) (closed law a b d n st later s is ends)

@@ -26,7 +26,10 @@ use request::{HotPath, Request, asked_for};
 use scripts::Split;
 use std::io::ErrorKind;
 use std::process::ExitCode;
-use std::rt::Env;
+use std::rt::{Env, Runtime};
+use std::sync::Wait;
+use std::thread::Threads;
+use std::time::Clock;
 use std::{env, io};
 use vectors::{Plan, Visible};
 use work::{Measured, measure};
@@ -47,27 +50,30 @@ fn words<R: Env + AllocGlobal>(rt: &R) -> io::Result<Vec<String>> {
 }
 
 /// What a request measures.
-fn ran(rt: &HostRuntime, request: &Request) -> io::Result<Measured> {
+fn ran<R: Clock + AllocGlobal + Threads + Wait + Sync>(
+    rt: &R,
+    request: &Request,
+) -> io::Result<Measured> {
     let items = request.items;
     match request.path {
-        HotPath::Split => measure::<Split, HostRuntime>(rt, rt.alloc(), items),
-        HotPath::Encode => measure::<Encode, HostRuntime>(rt, rt.alloc(), items),
-        HotPath::Lookup => measure::<Lookup, HostRuntime>(rt, rt.alloc(), items),
-        HotPath::Visible => measure::<Visible, HostRuntime>(rt, rt.alloc(), items),
-        HotPath::Plan => measure::<Plan, HostRuntime>(rt, rt.alloc(), items),
-        HotPath::Fold => measure::<Fold, HostRuntime>(rt, rt.alloc(), items),
-        HotPath::Mail => measure::<Deliver, HostRuntime>(rt, rt.alloc(), items),
-        HotPath::Desk => measure::<Turns, HostRuntime>(rt, rt.alloc(), items),
+        HotPath::Split => measure::<Split, R>(rt, rt.alloc(), items),
+        HotPath::Encode => measure::<Encode, R>(rt, rt.alloc(), items),
+        HotPath::Lookup => measure::<Lookup, R>(rt, rt.alloc(), items),
+        HotPath::Visible => measure::<Visible, R>(rt, rt.alloc(), items),
+        HotPath::Plan => measure::<Plan, R>(rt, rt.alloc(), items),
+        HotPath::Fold => measure::<Fold, R>(rt, rt.alloc(), items),
+        HotPath::Mail => measure::<Deliver, R>(rt, rt.alloc(), items),
+        HotPath::Desk => measure::<Turns, R>(rt, rt.alloc(), items),
         HotPath::Lock => measure_locks(rt, items),
         HotPath::Call => measure_calls(rt, rt.alloc(), items),
         HotPath::Cells => measure_cells(rt, rt.alloc(), items),
-        HotPath::Records => measure::<Records, HostRuntime>(rt, rt.alloc(), items),
-        HotPath::LoadStep => measure::<LoadStep, HostRuntime>(rt, rt.alloc(), items),
+        HotPath::Records => measure::<Records, R>(rt, rt.alloc(), items),
+        HotPath::LoadStep => measure::<LoadStep, R>(rt, rt.alloc(), items),
     }
 }
 
 /// The exit status: 0 after the line, 2 after the usage line.
-fn finish(rt: &HostRuntime) -> io::Result<u8> {
+fn finish<R: Runtime + AllocGlobal + Threads + Wait + Sync>(rt: &R) -> io::Result<u8> {
     let words = words(rt)?;
     let Some(request) = asked_for(words.as_slice()) else {
         eprintln!(rt; "{USAGE}")?;
