@@ -28,6 +28,10 @@ row_counted d rows sum found fields old new next is so =
     let more = ap (λ rs. length (filter (is_row d) rs)) next ∙ filter_more (is_row d) fields new found is in
     omega (arith, so, more)
 
+-- where none is left, none is a row
+pub no_row_left : (p : RecordFields → Bool) (old : List RecordFields) → old ≡ [] → length (filter p old) ≡ 0
+no_row_left p old none = ap (λ rs. length (filter p rs)) none
+
 pub rows_counted : (d : Decl) (rows sum : ℕ) (old : List RecordFields) → rows < 2 ^ 64 → old ≡ []
     → (rows + length (filter (is_row d) old)) % 2 ^ 64 ≡ sum → rows ≡ sum
-rows_counted d rows sum old small none is = omega (arith, small, is, ap (λ rs. length (filter (is_row d) rs)) none)
+rows_counted d rows sum old small none is = omega (arith, small, is, no_row_left (is_row d) old none)

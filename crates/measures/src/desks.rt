@@ -17,7 +17,7 @@ pub(crate) struct Turns {
     desk: Desk,
     turns: u32,
     ghost idle: { (state_of desk.register).snapshots ≡ [] },
-    ghost sessions: { desk.register.sessions ≡ MOST_SESSIONS },
+    ghost sessions: { desk.register.sessions ≡ 16 },
 }
 
 /// Opens the writer of a session and commits it.
