@@ -1,5 +1,5 @@
 -- Counts of records, in 64 bits.
-use Rattle.std.proofs.Common.{◌≡◌, ℕ, ◌+◌, ◌%◌, ◌^◌, ◌<◌, Bool, true, false, List, [], ◌∷◌, length, refl, sym, ap, ◌∙◌, arith}
+use Rattle.std.proofs.Common.{◌≡◌, ℕ, ◌+◌, ◌%◌, ◌^◌, ◌<◌, Bool, true, false, List, [], ◌∷◌, length, sym, ap, ◌∙◌, arith}
 use Rattle.std.specs.Prelude.{filter, if◌then◌else◌}
 use Rattle.cube_language.specs.declared.decl.Decl.{Decl}
 use Rattle.csv_load.specs.FileRecords.{RecordFields}
@@ -19,7 +19,7 @@ counted_all records sum old small none is = omega (arith, small, is, ap length n
 filter_more : (p : RecordFields → Bool) (x : RecordFields) (xs : List RecordFields) (found : Bool) → found ≡ p x
     → length (filter p (x ∷ xs)) ≡ (if found then 1 else 0) + length (filter p xs)
 filter_more p x xs true is = rw (sym is) (omega arith)
-filter_more p x xs false is = rw (sym is) refl
+filter_more p x xs false is = rw (sym is) (omega arith)
 
 pub row_counted : (d : Decl) (rows sum : ℕ) (found : Bool) (fields : RecordFields) (old new : List RecordFields)
     → old ≡ fields ∷ new → found ≡ is_row d fields → (rows + length (filter (is_row d) old)) % 2 ^ 64 ≡ sum

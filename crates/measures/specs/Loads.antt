@@ -1,5 +1,5 @@
 -- The checksums of a file whose records are read and checked.
-use Rattle.std.specs.Prelude.{◌≡◌, ℕ, ◌%◌, ◌^◌, Bool, List, [], filter, length, is_none, Option, Some, None}
+use Rattle.std.specs.Prelude.{◌≡◌, ℕ, ◌%◌, ◌^◌, Bool, List, filter, length, is_none}
 use Rattle.cube_language.specs.declared.decl.Decl.{Decl}
 use Rattle.csv_load.specs.FileRecords.{RecordFields, record_fault}
 use Rattle.csv_load.specs.Loads.{LoadState, TakesRecord}
@@ -16,7 +16,6 @@ is_row decl fields = is_none (record_fault decl fields)
 abbrev pub rows_sum : Decl → List RecordFields → ℕ
 rows_sum decl records = length (filter (is_row decl) records) % 2 ^ 64
 
--- A load takes its next record, which is a row or not, or has none left.
-abbrev pub TakesRow : LoadState → LoadState → Option Bool → Type 0
-TakesRow old new None = old.left ≡ []
-TakesRow old new (Some found) = TakesRecord old new × (found ≡ is_row new.decl new.fields)
+-- A load takes its next record, which is a row or not.
+abbrev pub TakesRow : LoadState → LoadState → Bool → Type 0
+TakesRow old new found = TakesRecord old new × (found ≡ is_row new.decl new.fields)

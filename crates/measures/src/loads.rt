@@ -1,6 +1,6 @@
 //! Reading the records of a file that the generator made, alone and with every check of a load.
 
-ghost use Rattle.std.specs.Prelude.{◌≡◌, ◌+◌, ◌%◌, ◌^◌, IfOk, if◌then◌else◌};
+ghost use Rattle.std.specs.Prelude.{◌≡◌, ◌+◌, ◌%◌, ◌^◌, [], IfOk, IfNone, IfSome, if◌then◌else◌};
 ghost use Rattle.measures.specs.Loads.{TakesRow, records_sum, rows_sum};
 
 use crate::work::Work;
@@ -55,7 +55,8 @@ pub(crate) struct LoadStep {
 
 /// Whether the next record is a row, where there is one.
 fn next_is_row(loader: &mut Loader) -> Result<Option<bool>, AllocError>
-    ensures { IfOk result (λ found. TakesRow loader.old loader.new found) }
+    ensures none { IfOk result (λ found. IfNone found (loader.old.left ≡ [])) }
+    ensures some { IfOk result (λ found. IfSome found (TakesRow loader.old loader.new)) }
 {
     match loader.step()? {
         Step::Good => Ok(Some(true)),
@@ -72,7 +73,7 @@ fn counted(rows: u64, is_row: bool) -> u64
 }
 
 /// How many of the records that a load has left are rows.
-#[tactic(auto, using(crate::proofs::RecordCounts::row_counted, crate::proofs::RecordCounts::rows_counted, crate::proofs::RecordCounts::no_row_left))]
+#[tactic(auto, using(crate::proofs::RecordCounts::row_counted, crate::proofs::RecordCounts::rows_counted))]
 fn count_rows(loader: &mut Loader) -> Result<u64, AllocError>
     ensures { IfOk result (λ sum. sum ≡ rows_sum loader.old.decl loader.old.left) }
 {
