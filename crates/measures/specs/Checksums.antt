@@ -39,6 +39,10 @@ line_sum line = sum_by field_count line % 2 ^ 64
 abbrev pub table_sum : List (List Field) → ℕ
 table_sum table = sum_by line_sum table % 2 ^ 64
 
+-- Of counters: their sum, in 64 bits.
+abbrev pub counters_sum : List ℕ → ℕ
+counters_sum counters = sum_by (λ counter. counter) counters % 2 ^ 64
+
 -- Of jobs 0, 1, .., so many: each job and `more`, in 64 bits.
 abbrev pub answers_sum : ℕ → ℕ → ℕ
 answers_sum jobs more = sum_by (λ answer. answer) (map (λ job. job + more) (range_with_len 0 jobs)) % 2 ^ 64

@@ -2,7 +2,7 @@
 use Rattle.std.specs.Prelude.{◌≡◌, ℕ, ◌<◌, ◌^◌, Bool, true, false, ◌&&◌, nat_le, List, [], ◌∷◌, Option, Some, None, bytes_eq, codes, if◌then◌else◌}
 use Rattle.std.specs.Str.Parse.{IsNumeral, digits_value, without_leading_plus}
 use Rattle.measures.specs.declared.request.HotPath.{HotPath}
-use Rattle.measures.specs.declared.request.HotPath.TheVariants.{Split, Encode, Lookup, Visible, Plan, Fold, Mail}
+use Rattle.measures.specs.declared.request.HotPath.TheVariants.{Split, Encode, Lookup, Visible, Plan, Fold, Mail, Desk, Lock, Call, Cells, Records, LoadStep}
 use Rattle.measures.specs.declared.request.Request.{Request}
 
 -- The path of a name.
@@ -15,6 +15,12 @@ path_of word =
     else if bytes_eq word (codes "plan") then Some Plan
     else if bytes_eq word (codes "fold") then Some Fold
     else if bytes_eq word (codes "mail") then Some Mail
+    else if bytes_eq word (codes "desk") then Some Desk
+    else if bytes_eq word (codes "lock") then Some Lock
+    else if bytes_eq word (codes "call") then Some Call
+    else if bytes_eq word (codes "cells") then Some Cells
+    else if bytes_eq word (codes "records") then Some Records
+    else if bytes_eq word (codes "load_step") then Some LoadStep
     else None
 
 -- How many items a path takes at most.
@@ -26,6 +32,12 @@ most_of Visible = 10_000_000
 most_of Plan = 10_000_000
 most_of Fold = 1_000_000_000
 most_of Mail = 1_000_000_000
+most_of Desk = 10_000_000
+most_of Lock = 1_000_000_000
+most_of Call = 1_000_000_000
+most_of Cells = 1_000_000_000
+most_of Records = 10_000_000
+most_of LoadStep = 10_000_000
 
 -- What a path does with its items.
 abbrev pub done_of : HotPath → List ℕ
@@ -36,6 +48,12 @@ done_of Visible = codes "entries asked for the visible rows"
 done_of Plan = codes "entries purged"
 done_of Fold = codes "rows folded"
 done_of Mail = codes "jobs mailed"
+done_of Desk = codes "entries added to a journal"
+done_of Lock = codes "locks taken"
+done_of Call = codes "calls made"
+done_of Cells = codes "calls made on each of four cells"
+done_of Records = codes "records read"
+done_of LoadStep = codes "records loaded"
 
 -- A text spells a number below 2 ^ 32 in decimal digits, or none.
 abbrev pub IsRead : List ℕ → Option ℕ → Type 0

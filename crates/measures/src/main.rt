@@ -2,8 +2,11 @@
 //! and a checksum, which is the same at each run; with `--time` also the time per item.
 #![tactic(auto)]
 
+mod board;
+mod desks;
 mod groups;
 mod line;
+mod loads;
 mod mails;
 mod names;
 mod request;
@@ -12,15 +15,21 @@ mod seed;
 mod vectors;
 mod work;
 
+use board::{measure_calls, measure_cells, measure_locks};
+use desks::Turns;
 use groups::Fold;
 use line::Line;
+use loads::{LoadStep, Records};
 use mails::Deliver;
 use names::{Encode, Lookup};
 use request::{HotPath, Request, asked_for};
 use scripts::Split;
 use std::io::ErrorKind;
 use std::process::ExitCode;
-use std::rt::Env;
+use std::rt::{Env, Runtime};
+use std::sync::Wait;
+use std::thread::Threads;
+use std::time::Clock;
 use std::{env, io};
 use vectors::{Plan, Visible};
 use work::{Measured, measure};
@@ -28,7 +37,8 @@ use work::{Measured, measure};
 #[cfg(test)]
 mod tests;
 
-const USAGE: &str = "usage: measures [--time] split|encode|lookup|visible|plan|fold|mail N";
+const USAGE: &str = "usage: measures [--time] \
+    split|encode|lookup|visible|plan|fold|mail|desk|lock|call|cells|records|load_step N";
 
 /// The words after the program's name, and none where a word is not UTF-8. The error is want of memory.
 fn words<R: Env + AllocGlobal>(rt: &R) -> io::Result<Vec<String>> {
@@ -40,21 +50,30 @@ fn words<R: Env + AllocGlobal>(rt: &R) -> io::Result<Vec<String>> {
 }
 
 /// What a request measures.
-fn ran(rt: &HostRuntime, request: &Request) -> io::Result<Measured> {
+fn ran<R: Clock + AllocGlobal + Threads + Wait + Sync>(
+    rt: &R,
+    request: &Request,
+) -> io::Result<Measured> {
     let items = request.items;
     match request.path {
-        HotPath::Split => measure::<Split, HostRuntime>(rt, rt.alloc(), items),
-        HotPath::Encode => measure::<Encode, HostRuntime>(rt, rt.alloc(), items),
-        HotPath::Lookup => measure::<Lookup, HostRuntime>(rt, rt.alloc(), items),
-        HotPath::Visible => measure::<Visible, HostRuntime>(rt, rt.alloc(), items),
-        HotPath::Plan => measure::<Plan, HostRuntime>(rt, rt.alloc(), items),
-        HotPath::Fold => measure::<Fold, HostRuntime>(rt, rt.alloc(), items),
-        HotPath::Mail => measure::<Deliver, HostRuntime>(rt, rt.alloc(), items),
+        HotPath::Split => measure::<Split, R>(rt, rt.alloc(), items),
+        HotPath::Encode => measure::<Encode, R>(rt, rt.alloc(), items),
+        HotPath::Lookup => measure::<Lookup, R>(rt, rt.alloc(), items),
+        HotPath::Visible => measure::<Visible, R>(rt, rt.alloc(), items),
+        HotPath::Plan => measure::<Plan, R>(rt, rt.alloc(), items),
+        HotPath::Fold => measure::<Fold, R>(rt, rt.alloc(), items),
+        HotPath::Mail => measure::<Deliver, R>(rt, rt.alloc(), items),
+        HotPath::Desk => measure::<Turns, R>(rt, rt.alloc(), items),
+        HotPath::Lock => measure_locks(rt, items),
+        HotPath::Call => measure_calls(rt, rt.alloc(), items),
+        HotPath::Cells => measure_cells(rt, rt.alloc(), items),
+        HotPath::Records => measure::<Records, R>(rt, rt.alloc(), items),
+        HotPath::LoadStep => measure::<LoadStep, R>(rt, rt.alloc(), items),
     }
 }
 
 /// The exit status: 0 after the line, 2 after the usage line.
-fn finish(rt: &HostRuntime) -> io::Result<u8> {
+fn finish<R: Runtime + AllocGlobal + Threads + Wait + Sync>(rt: &R) -> io::Result<u8> {
     let words = words(rt)?;
     let Some(request) = asked_for(words.as_slice()) else {
         eprintln!(rt; "{USAGE}")?;

@@ -20,6 +20,18 @@ pub(crate) enum HotPath {
     Fold,
     /// A job through a mail and its answer back.
     Mail,
+    /// A writer and a reader of a session at the desk, each opened and ended.
+    Desk,
+    /// A mutex locked and let go, by one thread.
+    Lock,
+    /// `Board::call` of a counter, by one thread.
+    Call,
+    /// `Board::call` of four counters, each by a thread of its own.
+    Cells,
+    /// `Source::read` of the records of a file.
+    Records,
+    /// `Loader::step` over the same records.
+    LoadStep,
 }
 
 impl HotPath {
@@ -35,6 +47,12 @@ impl HotPath {
             "plan" => Some(HotPath::Plan),
             "fold" => Some(HotPath::Fold),
             "mail" => Some(HotPath::Mail),
+            "desk" => Some(HotPath::Desk),
+            "lock" => Some(HotPath::Lock),
+            "call" => Some(HotPath::Call),
+            "cells" => Some(HotPath::Cells),
+            "records" => Some(HotPath::Records),
+            "load_step" => Some(HotPath::LoadStep),
             _ => None,
         }
     }
@@ -52,6 +70,12 @@ impl HotPath {
             HotPath::Plan => 10_000_000,
             HotPath::Fold => 1_000_000_000,
             HotPath::Mail => 1_000_000_000,
+            HotPath::Desk => 10_000_000,
+            HotPath::Lock => 1_000_000_000,
+            HotPath::Call => 1_000_000_000,
+            HotPath::Cells => 1_000_000_000,
+            HotPath::Records => 10_000_000,
+            HotPath::LoadStep => 10_000_000,
         }
     }
 
@@ -67,6 +91,12 @@ impl HotPath {
             HotPath::Plan => "entries purged",
             HotPath::Fold => "rows folded",
             HotPath::Mail => "jobs mailed",
+            HotPath::Desk => "entries added to a journal",
+            HotPath::Lock => "locks taken",
+            HotPath::Call => "calls made",
+            HotPath::Cells => "calls made on each of four cells",
+            HotPath::Records => "records read",
+            HotPath::LoadStep => "records loaded",
         }
     }
 }

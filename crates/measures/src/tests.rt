@@ -1,8 +1,11 @@
 //! The words, the line, and each path on a thousand items. The checksums were computed apart, from PCG's
 //! numbers and plain loops over rows, marks and names.
 
+use crate::board::{measure_calls, measure_cells, measure_locks};
+use crate::desks::Turns;
 use crate::groups::Fold;
 use crate::line::Line;
+use crate::loads::{LoadStep, Records};
 use crate::mails::Deliver;
 use crate::names::{Encode, Lookup};
 use crate::request::{HotPath, Request, asked_for};
@@ -104,5 +107,11 @@ fn checksums(rt: HostRuntime) -> Result<(), Fail> {
     assert_eq!(rt; checksum::<Plan>(rt.alloc())?, 10_401);
     assert_eq!(rt; checksum::<Fold>(rt.alloc())?, 8_001_016);
     assert_eq!(rt; checksum::<Deliver>(rt.alloc())?, 1_155_500);
+    assert_eq!(rt; checksum::<Turns>(rt.alloc())?, 251);
+    assert_eq!(rt; checksum::<Records>(rt.alloc())?, 1_000);
+    assert_eq!(rt; checksum::<LoadStep>(rt.alloc())?, 1_000);
+    assert_eq!(rt; measure_locks(&rt, 1_000)?.checksum, 1_000);
+    assert_eq!(rt; measure_calls(&rt, rt.alloc(), 1_000)?.checksum, 1_000);
+    assert_eq!(rt; measure_cells(&rt, rt.alloc(), 1_000)?.checksum, 4_000);
     Ok(())
 }

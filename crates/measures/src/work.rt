@@ -1,5 +1,7 @@
 //! What is measured, and how its time is taken.
 
+ghost use Rattle.std.specs.Prelude.{◌≡◌, IfOk};
+
 use std::alloc::{AllocError, Global};
 use std::io;
 use std::time::{Clock, Instant};
@@ -30,6 +32,17 @@ pub(crate) fn measure<W: Work + Drop, R: Clock>(
     let mut data = W::prepared(alloc, items)?;
     let start = Instant::now(clock)?;
     let checksum = data.work(alloc)?;
+    measured_since(clock, start, checksum)
+}
+
+/// What a hot call gave that began at `start` and has just ended. The error is the clock's.
+pub(crate) fn measured_since<R: Clock>(
+    clock: &R,
+    start: Instant,
+    checksum: u64,
+) -> io::Result<Measured>
+    ensures { IfOk result (λ measured. measured.checksum ≡ checksum) }
+{
     let spent = start.elapsed(clock)?;
     Ok(Measured {
         checksum,
