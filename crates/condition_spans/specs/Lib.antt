@@ -1,0 +1,3 @@
+pub mod CodedConditions
+pub mod Codes
+pub mod Spans
