@@ -7,5 +7,4 @@ pub returns : goal.returns
 returns c =
     let none = none_found _ _ c.in_default.not-Some c.in_ok-is_row.ensures.none in
     let zero = no_row_left (is_row c.rows.loader.decl) c.rows.loader.left none in
-    first_of
-    (grind (arith, zero, c.rows.invariant.sum), omega (arith, zero, c.rows.invariant.sum, c.next_is_row.type_inv))
+    omega (arith, zero, c.rows.invariant.few, c.rows.invariant.sum)
