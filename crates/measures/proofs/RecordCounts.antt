@@ -1,5 +1,5 @@
 -- Counts of records, in 64 bits.
-use Rattle.std.proofs.Common.{◌≡◌, ℕ, ◌+◌, ◌%◌, ◌^◌, ◌<◌, Bool, true, false, List, [], ◌∷◌, length, sym, ap, ◌∙◌, arith}
+use Rattle.std.proofs.Common.{◌≡◌, ℕ, ◌+◌, ◌%◌, ◌^◌, ◌<◌, Bool, true, false, List, [], ◌∷◌, length, refl, sym, ap, ◌∙◌, Option, None, Some, IfNone, arith}
 use Rattle.std.specs.Prelude.{filter, if◌then◌else◌}
 use Rattle.cube_language.specs.declared.decl.Decl.{Decl}
 use Rattle.csv_load.specs.FileRecords.{RecordFields}
@@ -32,6 +32,7 @@ row_counted d rows sum found fields old new next is so =
 pub no_row_left : (p : RecordFields → Bool) (old : List RecordFields) → old ≡ [] → length (filter p old) ≡ 0
 no_row_left p old none = ap (λ rs. length (filter p rs)) none
 
-pub rows_counted : (d : Decl) (rows sum : ℕ) (old : List RecordFields) → rows < 2 ^ 64 → old ≡ []
-    → (rows + length (filter (is_row d) old)) % 2 ^ 64 ≡ sum → rows ≡ sum
-rows_counted d rows sum old small none is = omega (arith, small, is, no_row_left (is_row d) old none)
+-- what holds where nothing is found, where nothing is
+pub none_found : (found : Option Bool) (P : Type 0) → ((b : Bool) → found ≡ Some b → ⊥) → IfNone found P → P
+none_found None P never h = h
+none_found (Some b) P never h = absurd (never b refl)

@@ -73,7 +73,7 @@ fn counted(rows: u64, is_row: bool) -> u64
 }
 
 /// How many of the records that a load has left are rows.
-#[tactic(auto, using(crate::proofs::RecordCounts::row_counted, crate::proofs::RecordCounts::rows_counted))]
+#[tactic(auto, using(crate::proofs::RecordCounts::row_counted))]
 fn count_rows(loader: &mut Loader) -> Result<u64, AllocError>
     ensures { IfOk result (λ sum. sum ≡ rows_sum loader.old.decl loader.old.left) }
 {
