@@ -1,0 +1,4 @@
+pub mod Addresses
+pub mod CodedConditions
+pub mod Codes
+pub mod Spans

@@ -1,0 +1,10 @@
+pub mod Places
+pub mod Distinct
+pub mod Kinds
+pub mod Aligned
+pub mod Coded
+pub mod Whole
+pub mod Agree
+pub mod Within
+pub mod Cubes
+pub mod Ties

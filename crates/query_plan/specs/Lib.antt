@@ -1,0 +1,4 @@
+pub mod Bindings
+pub mod Refusals
+pub mod TopPlans
+pub mod Ties
