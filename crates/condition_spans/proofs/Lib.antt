@@ -1,6 +1,4 @@
-pub mod Heads
 pub mod Among
 pub mod Rising
 pub mod Shared
-pub mod Between
 pub mod Parts

@@ -1,10 +1,11 @@
 -- Parts that have what the conditions on each dimension pass make a span that has what all conditions hold for.
-use Rattle.std.proofs.Common.{◌≡◌, ℕ, zero, suc, ◌+◌, ◌-◌, ◌<◌, Bool, true, false, List, [], ◌∷◌, length, map, Option, Some, None, refl, sym, ap, subst, ◌∙◌, inl, inr, arith}
-use Rattle.std.specs.Prelude.{All, pos, not, ◌||◌, ◌&&◌, ◌==◌, nat_lt, slice_get}
+use Rattle.std.proofs.Common.{◌≡◌, ℕ, zero, suc, ◌+◌, ◌-◌, ◌<◌, ◌≤◌, Bool, true, false, List, [], ◌∷◌, ◌++◌, length, get_or, take, drop, Option, None, refl, sym, ap, subst, ◌∙◌, inl, inr, append_assoc, append-nil, arith}
+use Rattle.std.specs.Prelude.{All, fold, pos, not, ◌||◌, ◌&&◌, ◌==◌, nat_lt, slice_get}
 use Rattle.std.specs.List.{list_all}
 use Rattle.std.specs.Option.{option_map_or}
 use Rattle.std.proofs.lemmas.Bool.{cases_order, eq-eqb, ne_eqb, lt-ltb, le-ltb}
-use Rattle.std.proofs.lemmas.List.Elements.{All-head, All-tail, All-weaker}
+use Rattle.std.proofs.lemmas.List.{take_all}
+use Rattle.std.proofs.lemmas.List.Elements.{All-nil, All-cons, All-head, All-tail, All-weaker}
 use Rattle.cube_values.specs.Regions.{holds_of, passes}
 use Rattle.cube_values.specs.Spans.{part_has, parts_have}
 use Rattle.cube_values.specs.declared.operation.Condition.{Condition}
@@ -13,8 +14,9 @@ use Rattle.cube_values.specs.declared.shape.Size.{Size}
 use Rattle.cube_values.specs.declared.span.Part.{Part}
 use Rattle.cube_values.specs.declared.span.Span.{Span}
 use Rattle.cube_values.specs.declared.value.Value.TheVariants.{Int}
-use Rattle.condition_spans.specs.Addresses.{AreCoords}
-use Rattle.condition_spans.specs.Spans.{ArePartsOf, IsSpanOf, coord_values, passes_here, passes_at}
+use Rattle.brick_address.specs.Addresses.{AreCoords}
+use Rattle.condition_spans.specs.CodedConditions.{coded_condition, coded_conditions, codes_behind, values_of_test}
+use Rattle.condition_spans.specs.Spans.{ArePartsOf, IsPartOf, IsSpanOf, coord_values, passes_here, passes_at}
 
 -- A test passes the coordinate, where there is one.
 abbrev tells : (ℕ → Bool) → Option ℕ → Bool
@@ -147,3 +149,42 @@ as_many_parts conditions k [] (part ∷ parts) are = absurd are
 as_many_parts conditions k (s ∷ sizes) [] are = absurd are
 as_many_parts conditions k (s ∷ sizes) (part ∷ parts) are =
     ap suc (as_many_parts conditions (k + 1) sizes parts are.1)
+
+-- One step of a loop that makes a part for each dimension.
+pub parts_more : (conditions : List Condition) (place : ℕ) (all left : List Size) (before after : List Part) (part : Part)
+    (d : Size) → 1 ≤ length left → IsPartOf (get_or left 0 d).cardinality (passes_at place conditions) part
+    → after ≡ before ++ part ∷ []
+    → ((tail : List Part) → ArePartsOf conditions place left tail → ArePartsOf conditions 0 all (before ++ tail))
+    → (tail : List Part) → ArePartsOf conditions (place + 1) (take (length left - 1) (drop 1 left)) tail
+    → ArePartsOf conditions 0 all (after ++ tail)
+parts_more conditions place all [] before after part d some is after_is so_far tail are = absurd (omega arith)
+parts_more conditions place all (s ∷ left) before after part d some is after_is so_far tail are =
+    let rest : take (length (s ∷ left) - 1) left ≡ left = take_all (length (s ∷ left) - 1) left (omega arith) in
+    let behind = subst (λ (sizes : List Size). ArePartsOf conditions (place + 1) sizes tail) rest are in
+    subst (λ (parts : List Part). ArePartsOf conditions 0 all parts)
+    (sym (ap (λ (parts : List Part). parts ++ tail) after_is ∙ append_assoc before (part ∷ []) tail))
+    (so_far (part ∷ tail) (is, behind))
+
+pub parts_all : (conditions : List Condition) (place : ℕ) (all left : List Size) (before : List Part) → length left < 1
+    → ((tail : List Part) → ArePartsOf conditions place left tail → ArePartsOf conditions 0 all (before ++ tail))
+    → ArePartsOf conditions 0 all before
+parts_all conditions place all [] before none so_far =
+    subst (λ (parts : List Part). ArePartsOf conditions 0 all parts) (append-nil before) (so_far [] tt)
+parts_all conditions place all (s ∷ left) before none so_far = absurd (omega arith)
+
+pub one_fewer : (left : List Size) → 1 ≤ length left → length (take (length left - 1) (drop 1 left)) + 1 ≡ length left
+one_fewer [] some = absurd (omega arith)
+one_fewer (s ∷ left) some =
+    let rest : take (length (s ∷ left) - 1) left ≡ left = take_all (length (s ∷ left) - 1) left (omega arith) in
+    let same : length (take (length (s ∷ left) - 1) left) ≡ length left = ap length rest in
+    omega arith
+
+-- Conditions on coordinates have the places of the conditions.
+pub coded_within : (n : ℕ) (codes : List (Option ℕ)) (conditions : List Condition) → All (λ c. c.place < n) conditions
+    → All (λ c. c.place < n) (coded_conditions codes conditions)
+coded_within n codes [] within = All-nil (λ (c : Condition). c.place < n)
+coded_within n codes (c ∷ conditions) within =
+    let P = λ (d : Condition). d.place < n in
+    let behind = fold codes_behind codes (values_of_test c.test) in
+    All-cons P (coded_condition codes c) (coded_conditions behind conditions)
+    (All-head P c conditions within) (coded_within n behind conditions (All-tail P c conditions within))

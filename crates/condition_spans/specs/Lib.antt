@@ -1,4 +1,3 @@
-pub mod Addresses
 pub mod CodedConditions
 pub mod Codes
 pub mod Spans

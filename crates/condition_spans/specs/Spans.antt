@@ -10,7 +10,7 @@ use Rattle.cube_values.specs.declared.span.Part.{Part}
 use Rattle.cube_values.specs.declared.span.Span.{Span}
 use Rattle.cube_values.specs.declared.value.Value.{Value}
 use Rattle.cube_values.specs.declared.value.Value.TheVariants.{Text, Int}
-use Rattle.condition_spans.specs.Addresses.{AreCoords, brick_of}
+use Rattle.brick_address.specs.Addresses.{AreCoords, brick_of}
 
 -- Coordinates as values.
 abbrev pub coord_values : List ℕ → List Value

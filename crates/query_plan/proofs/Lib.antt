@@ -7,4 +7,5 @@ pub mod Whole
 pub mod Agree
 pub mod Within
 pub mod Cubes
+pub mod Plans
 pub mod Ties

@@ -1,6 +1,6 @@
 //! Statements bound to their cubes.
 
-ghost use Rattle.std.specs.Prelude.{◌≡◌, ◌≤◌, length, map, IfOk, OnOk, IsSome};
+ghost use Rattle.std.specs.Prelude.{◌≡◌, ◌<◌, ◌≤◌, length, map, IfOk, OnOk, IsSome};
 ghost use Rattle.cube_values.specs.declared.shape.TheConstants.{MOST_COLUMNS};
 ghost use Rattle.cube_values.specs.Faults.{IfFault};
 ghost use Rattle.cube_language.specs.Misfits.{FitsCube};
@@ -50,6 +50,7 @@ fn check_fit(cube: &Schema, statement: &Statement) -> Result<(), CallError<BindF
 fn bound_place(cubes: &[Schema], statement: &Statement) -> Result<u32, CallError<BindFault>>
     requires { IsSome (cube_needed statement.now) }
     ensures bound { IfOk result (IsBoundAt cubes.now statement.now) }
+    ensures within { IfOk result (λ place. place < length cubes.now) }
     ensures fault { IfFault result (IsBindFault cubes.now statement.now) }
 {
     let Some(name) = cube_needed(statement) else {
