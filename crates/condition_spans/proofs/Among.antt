@@ -12,11 +12,11 @@ use Rattle.condition_spans.specs.Spans.{coords_among}
 pub same_number : (n x : ℕ) → value_eq (Int (pos n)) (Int (pos x)) ≡ (n == x)
 same_number n x = elim (cases_eq n x) [
   | inl same ↦ (value_eq-Decides (Int (pos n)) (Int (pos x))).1 (ap (λ (k : ℕ). Int (pos k)) same)
-    ∙ sym (eq-eqb n x same)
+      ∙ sym (eq-eqb n x same)
   | inr apart ↦ false_from_ne_true (value_eq (Int (pos n)) (Int (pos x)))
-    (λ t. let e : Int (pos n) ≡ Int (pos x) = (value_eq-Decides (Int (pos n)) (Int (pos x))).0 t in
-    apart (cc))
-    ∙ sym (ne_eqb n x apart)
+      (λ t. let e : Int (pos n) ≡ Int (pos x) = (value_eq-Decides (Int (pos n)) (Int (pos x))).0 t in
+      apart (cc))
+      ∙ sym (ne_eqb n x apart)
 ]
 
 listed : (n x : ℕ) (t : Bool) (coords : List ℕ) (any : Bool) → (t ≡ false → (n == x) ≡ false)

@@ -48,21 +48,21 @@ tells_step : (k place x : ℕ) (test : ℕ → Bool) (coords : List ℕ)
     → tells_from k place test (x ∷ coords) ≡ (tests_here k place test x && tells_from (k + 1) place test coords)
 tells_step k place x test coords = elim (cases_order place k) [
   | inl same ↦ subst (λ (p : ℕ). tells_from k p test (x ∷ coords)
-    ≡ (tests_here k p test x && tells_from (k + 1) p test coords)) (sym same) (tells_at k x test coords)
+      ≡ (tests_here k p test x && tells_from (k + 1) p test coords)) (sym same) (tells_at k x test coords)
   | inr apart ↦ elim apart [
     | inl below ↦
-      let before : nat_lt place k ≡ true = lt-ltb place k below in
-      let here : (place == k) ≡ false = ne_eqb place k (λ e. absurd (omega arith)) in
-      let after : nat_lt place (k + 1) ≡ true = lt-ltb place (k + 1) (omega arith) in
-      (λ i. before i || tells test (slice_get (x ∷ coords) (place - k)))
-      ∙ (λ i. (not (sym here i) || test x) && (sym after i || tells test (slice_get coords (place - (k + 1)))))
+        let before : nat_lt place k ≡ true = lt-ltb place k below in
+        let here : (place == k) ≡ false = ne_eqb place k (λ e. absurd (omega arith)) in
+        let after : nat_lt place (k + 1) ≡ true = lt-ltb place (k + 1) (omega arith) in
+        (λ i. before i || tells test (slice_get (x ∷ coords) (place - k)))
+        ∙ (λ i. (not (sym here i) || test x) && (sym after i || tells test (slice_get coords (place - (k + 1)))))
     | inr above ↦
-      let before : nat_lt place k ≡ false = le-ltb place k (omega arith) in
-      let here : (place == k) ≡ false = ne_eqb place k (λ e. absurd (omega arith)) in
-      let after : nat_lt place (k + 1) ≡ false = le-ltb place (k + 1) (omega arith) in
-      let less : place - k ≡ suc (place - (k + 1)) = omega arith in
-      (λ i. before i || tells test (slice_get (x ∷ coords) (less i)))
-      ∙ (λ i. (not (sym here i) || test x) && (sym after i || tells test (slice_get coords (place - (k + 1)))))
+        let before : nat_lt place k ≡ false = le-ltb place k (omega arith) in
+        let here : (place == k) ≡ false = ne_eqb place k (λ e. absurd (omega arith)) in
+        let after : nat_lt place (k + 1) ≡ false = le-ltb place (k + 1) (omega arith) in
+        let less : place - k ≡ suc (place - (k + 1)) = omega arith in
+        (λ i. before i || tells test (slice_get (x ∷ coords) (less i)))
+        ∙ (λ i. (not (sym here i) || test x) && (sym after i || tells test (slice_get coords (place - (k + 1)))))
   ]
 ]
 
@@ -113,8 +113,8 @@ have_from conditions k (s ∷ sizes) [] coords are of below = absurd are
 have_from conditions k (s ∷ sizes) (part ∷ parts) [] are of below = absurd of
 have_from conditions k (s ∷ sizes) (part ∷ parts) (x ∷ coords) are of below =
     let behind = All-weaker (λ (c : Condition). c.place < k + length (s ∷ sizes))
-        (λ (c : Condition). c.place < (k + 1) + length sizes)
-        (λ (c : Condition) (h : c.place < k + length (s ∷ sizes)). omega arith) conditions below in
+    (λ (c : Condition). c.place < (k + 1) + length sizes)
+    (λ (c : Condition) (h : c.place < k + length (s ∷ sizes)). omega arith) conditions below in
     (λ i. are.0 x of.0 i && have_from conditions (k + 1) sizes parts coords are.1 of.1 behind i)
     ∙ sym (all_step k x coords conditions)
 

@@ -72,7 +72,11 @@ fn code_in(texts: &[Text], text: &Text) -> Result<Option<u32>, AllocError>
 }
 
 /// Appends the code of a value, if it is a text.
-fn append_code(codes: &mut Vec<Option<u32>>, texts: &[Text], value: &Value) -> Result<(), AllocError>
+fn append_code(
+    codes: &mut Vec<Option<u32>>,
+    texts: &[Text],
+    value: &Value,
+) -> Result<(), AllocError>
     ensures { OnOk result (codes.new.items ≡ codes.old.items ++ codes_among texts.now (value.now ∷ [])) }
 {
     if let Value::Text(text) = value {
@@ -82,7 +86,11 @@ fn append_code(codes: &mut Vec<Option<u32>>, texts: &[Text], value: &Value) -> R
 }
 
 /// Appends the codes of the texts among values.
-fn append_codes(codes: &mut Vec<Option<u32>>, texts: &[Text], values: &[Value]) -> Result<(), AllocError>
+fn append_codes(
+    codes: &mut Vec<Option<u32>>,
+    texts: &[Text],
+    values: &[Value],
+) -> Result<(), AllocError>
     ensures { OnOk result (codes.new.items ≡ codes.old.items ++ codes_among texts.now values.now) }
 {
     let mut left = values;
@@ -104,7 +112,11 @@ pub fn codes_in(
     let mut codes = Vec::new(alloc);
     let mut left = conditions;
     'conditions: while let [condition, rest @ ..] = left {
-        append_codes(&mut codes, texts_at(lists, condition.place), values_of_test(&condition.test))?;
+        append_codes(
+            &mut codes,
+            texts_at(lists, condition.place),
+            values_of_test(&condition.test),
+        )?;
         left = rest;
     }
     Ok(codes)

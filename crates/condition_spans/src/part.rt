@@ -122,7 +122,8 @@ fn part_from(cardinality: u32, start: u64, end: u64) -> Part
 /// The coordinates between two numbers, both included.
 fn part_between_numbers(cardinality: u32, low: i64, high: i64) -> Part
     requires { 0 < cardinality }
-    ensures has { IsPartOf cardinality (λ x. lies_between (Int low) (Int high) (Int (pos x))) result }
+    ensures has { IsPartOf cardinality
+        (λ x. lies_between (Int low) (Int high) (Int (pos x))) result }
     ensures sound { IsSoundPart result }
 {
     part_from(cardinality, start_of(low), end_of(high))
@@ -175,7 +176,8 @@ fn part_of_test(
     codes: &[Option<u32>],
 ) -> Result<Part, AllocError>
     requires { 0 < cardinality }
-    ensures has { IfOk result (IsPartOf cardinality (λ x. passes (coded_test codes.now test.now) (Int (pos x)))) }
+    ensures has { IfOk result (IsPartOf cardinality
+        (λ x. passes (coded_test codes.now test.now) (Int (pos x)))) }
     ensures sound { IfOk result (λ p. IsSoundPart p) }
 {
     match test {
@@ -216,7 +218,8 @@ pub fn part_at(
     codes: &[Option<u32>],
 ) -> Result<Part, AllocError>
     requires { 0 < cardinality }
-    ensures has { IfOk result (IsPartOf cardinality (passes_at place (coded_conditions codes.now conditions.now))) }
+    ensures has { IfOk result
+        (IsPartOf cardinality (passes_at place (coded_conditions codes.now conditions.now))) }
     ensures sound { IfOk result (λ p. IsSoundPart p) }
 {
     let mut part = Part::All;

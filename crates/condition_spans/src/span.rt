@@ -20,7 +20,8 @@ fn parts_of(
 ) -> Result<Vec<Part>, AllocError>
     requires sizes { All IsSoundSize sizes.now }
     requires few { length sizes.now ≤ MOST_COLUMNS }
-    ensures parts { IfOk result (λ parts. ArePartsOf (coded_conditions codes.now conditions.now) 0 sizes.now parts.items) }
+    ensures parts { IfOk result (λ parts.
+        ArePartsOf (coded_conditions codes.now conditions.now) 0 sizes.now parts.items) }
     ensures sound { IfOk result (λ parts. All IsSoundPart parts.items) }
 {
     let mut parts = Vec::new(alloc);
@@ -44,7 +45,8 @@ pub fn span_for(
 ) -> Result<Span, AllocError>
     requires shape { IsSoundShape shape.now }
     requires places { All (λ c. c.place < length shape.now.sizes) conditions.now }
-    ensures span { IfOk result (IsSpanOf shape.now.sizes (coded_conditions codes.now conditions.now)) }
+    ensures span { IfOk result
+        (IsSpanOf shape.now.sizes (coded_conditions codes.now conditions.now)) }
     ensures parts { IfOk result (λ span.
         ArePartsOf (coded_conditions codes.now conditions.now) 0 shape.now.sizes span.parts) }
     ensures sound { IfOk result (λ span. All IsSoundPart span.parts) }

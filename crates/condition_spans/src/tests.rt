@@ -5,9 +5,11 @@ ghost use Rattle.cube_values.specs.Shapes.{IsSoundShape};
 
 use crate::{append, codes_in, lists_at, narrow, span_for};
 use cube_values::{
-    Condition, NameLists, Shape, Size, Sizes, Text, TextLists, Texts, Value, ValueTest, Values,
+    Condition, NameLists, Shape, Size, Sizes, Span, Text, TextLists, Texts, Value, ValueTest,
+    Values,
 };
 use std::alloc::{AllocError, Global};
+use std::process::Abort;
 use std::test::*;
 
 /// What a condition asks: one of these texts, one of these numbers, or a number between two.
@@ -88,48 +90,87 @@ fn condition_of(alloc: Global, asked: Asked) -> Result<Condition, AllocError> {
 }
 
 /// Conditions, with the coordinates of each dimension that they take, where a and b are the known texts.
-const TAKEN: [(&[Asked], [u32; 3], [u32; 5]); 12] = [
-    (&[], [1, 1, 1], [1, 1, 1, 1, 1]),
-    (&[Asked::Texts(&["b"])], [0, 1, 0], [1, 1, 1, 1, 1]),
-    (&[Asked::Texts(&["c", "a", "b", "a"])], [1, 1, 0], [1, 1, 1, 1, 1]),
-    (&[Asked::Texts(&["c"])], [0, 0, 0], [1, 1, 1, 1, 1]),
-    (&[Asked::Numbers(&[4])], [1, 1, 1], [0, 0, 0, 0, 1]),
-    (&[Asked::Numbers(&[5])], [1, 1, 1], [0, 0, 0, 0, 0]),
-    (&[Asked::Numbers(&[3, -1, 1, 3])], [1, 1, 1], [0, 1, 0, 1, 0]),
-    (&[Asked::From(-2, 1)], [1, 1, 1], [1, 1, 0, 0, 0]),
-    (&[Asked::From(3, 9)], [1, 1, 1], [0, 0, 0, 1, 1]),
-    (&[Asked::From(3, 1)], [1, 1, 1], [0, 0, 0, 0, 0]),
+const TAKEN: [(&[Asked], &[u32], &[u32]); 12] = [
+    (&[], &[1, 1, 1], &[1, 1, 1, 1, 1]),
+    (&[Asked::Texts(&["b"])], &[0, 1, 0], &[1, 1, 1, 1, 1]),
     (
-        &[Asked::From(1, 3), Asked::Texts(&["b", "a"]), Asked::Numbers(&[4, 3]), Asked::Texts(&["c", "b"])],
-        [0, 1, 0],
-        [0, 0, 0, 1, 0],
+        &[Asked::Texts(&["c", "a", "b", "a"])],
+        &[1, 1, 0],
+        &[1, 1, 1, 1, 1],
     ),
-    (&[Asked::From(1, 3), Asked::From(2, 4)], [1, 1, 1], [0, 0, 1, 1, 0]),
+    (&[Asked::Texts(&["c"])], &[0, 0, 0], &[1, 1, 1, 1, 1]),
+    (&[Asked::Numbers(&[4])], &[1, 1, 1], &[0, 0, 0, 0, 1]),
+    (&[Asked::Numbers(&[5])], &[1, 1, 1], &[0, 0, 0, 0, 0]),
+    (
+        &[Asked::Numbers(&[3, -1, 1, 3])],
+        &[1, 1, 1],
+        &[0, 1, 0, 1, 0],
+    ),
+    (&[Asked::From(-2, 1)], &[1, 1, 1], &[1, 1, 0, 0, 0]),
+    (&[Asked::From(3, 9)], &[1, 1, 1], &[0, 0, 0, 1, 1]),
+    (&[Asked::From(3, 1)], &[1, 1, 1], &[0, 0, 0, 0, 0]),
+    (
+        &[
+            Asked::From(1, 3),
+            Asked::Texts(&["b", "a"]),
+            Asked::Numbers(&[4, 3]),
+            Asked::Texts(&["c", "b"]),
+        ],
+        &[0, 1, 0],
+        &[0, 0, 0, 1, 0],
+    ),
+    (
+        &[Asked::From(1, 3), Asked::From(2, 4)],
+        &[1, 1, 1],
+        &[0, 0, 1, 1, 0],
+    ),
 ];
 
-#[test]
-fn spans_by_hand(rt: HostRuntime) -> Result<(), Fail> {
-    let alloc = rt.alloc();
+fn conditions_of(alloc: Global, asked: &[Asked]) -> Result<Vec<Condition>, AllocError> {
+    let mut conditions = Vec::new(alloc);
+    for one in asked {
+        append(&mut conditions, Some(condition_of(alloc, *one)?))?;
+    }
+    Ok(conditions)
+}
+
+/// The span of conditions, where a and b are the known texts.
+fn span_of(rt: &impl Abort, alloc: Global, asked: &[Asked]) -> Result<Span, AllocError> {
     let shape = two_dimensions(alloc)?;
     let mut lists = TextLists::new(alloc);
     lists.push(texts_of(alloc, &["a", "b"])?)?;
-    let mut names = NameLists::new(alloc);
-    names.push(lists)?;
-    for (asked, texts, numbers) in &TAKEN {
-        let mut conditions = Vec::new(alloc);
-        for one in *asked {
-            append(&mut conditions, Some(condition_of(alloc, *one)?))?;
+    let conditions = conditions_of(alloc, asked)?;
+    let codes = codes_in(alloc, lists.as_slice(), conditions.as_slice())?;
+    assert!(rt; are_within(conditions.as_slice(), 2));
+    span_for(alloc, &shape, conditions.as_slice(), codes.as_slice())
+}
+
+fn check_span(rt: &impl Abort, span: &Span, texts: &[u32], numbers: &[u32]) {
+    for r in 0..3 {
+        for x in 0..5 {
+            let is_taken = texts.get(r) == Some(&1) && numbers.get(x) == Some(&1);
+            assert_eq!(rt; span.has(&[r as u32, x as u32]), is_taken);
         }
-        let codes = codes_in(alloc, lists_at(&names, 0), conditions.as_slice())?;
-        assert!(rt; are_within(conditions.as_slice(), 2));
-        let span = span_for(alloc, &shape, conditions.as_slice(), codes.as_slice())?;
-        for (r, text) in texts.iter().enumerate() {
-            for (x, number) in numbers.iter().enumerate() {
-                let coords = [narrow(r)?, narrow(x)?];
-                assert_eq!(rt; span.has(&coords), *text == 1 && *number == 1);
-            }
-        }
-        assert!(rt; !span.has(&[0]));
     }
+    assert!(rt; !span.has(&[0]));
+}
+
+#[test]
+fn spans_by_hand(rt: HostRuntime) -> Result<(), Fail> {
+    for (asked, texts, numbers) in &TAKEN {
+        let span = span_of(&rt, rt.alloc(), asked)?;
+        check_span(&rt, &span, texts, numbers);
+    }
+    Ok(())
+}
+
+#[test]
+fn names_of_no_cube(rt: HostRuntime) -> Result<(), Fail> {
+    let alloc = rt.alloc();
+    let mut names = NameLists::new(alloc);
+    names.push(TextLists::new(alloc))?;
+    assert!(rt; lists_at(&names, 0).is_empty());
+    assert!(rt; lists_at(&names, 1).is_empty());
+    assert_eq!(rt; narrow(7)?, 7);
     Ok(())
 }

@@ -22,6 +22,13 @@ is_called name d = bytes_eq d.name name
 pub no_cube : (cubes : List Decl) (name : List ℕ) → cube_place cubes name ≡ None → cube_called cubes name ≡ None
 no_cube cubes name none = finds_nothing (is_called name) 0 cubes none
 
+pub lacks_cube : (cubes : List Decl) (s : Statement) (name lacked : List ℕ) → cube_needed s ≡ Some name → lacked ≡ name
+    → cube_place cubes name ≡ None → IsBindFault cubes s (UnknownCube lacked)
+lacks_cube cubes s name lacked needed same none = record {
+  needed = needed ∙ ap Some (sym same);
+  lacks = ap (cube_called cubes) same ∙ no_cube cubes name none;
+}
+
 pub place_below : (cubes : List Decl) (name : List ℕ) (place : ℕ) → cube_place cubes name ≡ Some place
     → place < length cubes
 place_below cubes name place is =

@@ -7,5 +7,6 @@ pub mod Whole
 pub mod Agree
 pub mod Within
 pub mod Cubes
+pub mod Needs
 pub mod Plans
 pub mod Ties

@@ -1,6 +1,6 @@
 -- What a condition asks of a coordinate is what it asks of the value that the coordinate stands for.
 use Rattle.std.proofs.Common.{◌≡◌, ℕ, zero, suc, ◌+◌, ◌-◌, ◌<◌, Bool, true, false, cond, List, [], ◌∷◌, ◌++◌, length, map, get_or, Option, Some, None, refl, sym, ap, subst, ◌∙◌, inl, inr, arith}
-use Rattle.std.specs.Prelude.{All, filter, filter_map, flat_map, find, fold, pos, slice_get, unwrap_or, ◌||◌, ◌&&◌, ◌==◌}
+use Rattle.std.specs.Prelude.{All, filter, filter_map, find, fold, pos, slice_get, ◌||◌, ◌&&◌, ◌==◌, if◌then◌else◌}
 use Rattle.std.specs.List.{IsDistinct, AllByRecursion, list_any, list_all, cons_option, position_from}
 use Rattle.std.specs.Option.{option_map, option_map_or}
 use Rattle.std.specs.Str.{bytes_eq}
@@ -19,7 +19,7 @@ use Rattle.cube_values.specs.declared.row.Row.{Row}
 use Rattle.cube_values.specs.declared.row.StoredRow.{StoredRow}
 use Rattle.cube_values.specs.declared.value.Value.{Value}
 use Rattle.cube_values.specs.declared.value.Value.TheVariants.{Text, Int}
-use Rattle.cube_language.specs.ColumnUses.{is_of_other_kind, is_against_dim, is_wrong_use, cond_use, dim_named}
+use Rattle.cube_language.specs.ColumnUses.{is_text, is_of_other_kind, is_against_dim, is_wrong_use, cond_use, dim_named}
 use Rattle.cube_language.specs.Cubes.{sizes_of}
 use Rattle.cube_language.specs.Misfits.{cond_name, cond_test}
 use Rattle.cube_language.specs.ResolvedNames.{dim_place, resolved_cond, resolved_region, resolved_query}
@@ -97,7 +97,7 @@ by_code texts text None x others rest distinct is within same =
 by_code texts text (Some code) x others rest distinct is within same =
     λ i. (same_number code x ∙ sym (text_at texts text code x distinct is within)) i || same i
 
-is_number : Value → Bool
+abbrev is_number : Value → Bool
 is_number (Int n) = true
 is_number (Text text) = false
 
@@ -105,7 +105,6 @@ by_codes : (texts : List (List ℕ)) (codes : List (Option ℕ)) (values : List 
     → BeginWithCodes texts codes values → list_any is_number values ≡ false → x < length texts
     → list_any (λ w. value_eq w (Int (pos x))) (coded_values codes values)
     ≡ list_any (λ w. value_eq w (Text (get_or texts x []))) values
-unfolding is_number
 by_codes texts codes [] x distinct are texts_alone within = refl
 by_codes texts codes (Int n ∷ values) x distinct are texts_alone within = absurd cc
 by_codes texts [] (Text text ∷ values) x distinct are texts_alone within = absurd are
@@ -116,12 +115,10 @@ by_codes texts (code ∷ codes) (Text text ∷ values) x distinct are texts_alon
 
 other_kinds : (dim : DimDecl) (values : List Value) → dim.text ≡ true → list_any (is_of_other_kind dim) values ≡ false
     → list_any is_number values ≡ false
-unfolding is_number
 other_kinds dim [] text fits = refl
 other_kinds dim (Int n ∷ values) text fits =
     let first = (or_parts (is_of_other_kind dim (Int n)) (list_any (is_of_other_kind dim) values) fits).0 in
-    let wrong : true ≡ false = rw text at first in
-    absurd cc
+    absurd (true≢false ((λ i. if sym text i then true else false) ∙ first))
 other_kinds dim (Text t ∷ values) text fits =
     other_kinds dim values text (or_parts (is_of_other_kind dim (Text t)) (list_any (is_of_other_kind dim) values) fits).1
 
@@ -141,8 +138,7 @@ asks_of_text dim texts (Equal name wanted) codes x text fits distinct are within
 asks_of_text dim texts (In name wanted) codes x text fits distinct are within =
     by_codes texts codes wanted x distinct are (other_kinds dim wanted text fits) within
 asks_of_text dim texts (Between name first last) codes x text fits distinct are within =
-    let wrong : true ≡ false = rw text at fits in
-    absurd cc
+    absurd (true≢false ((λ i. sym text i || (is_text first || is_text last)) ∙ fits))
 
 asks_of_number : (dim : DimDecl) (c : Cond) (codes : List (Option ℕ)) (x : ℕ) → dim.text ≡ false
     → is_against_dim (cond_use c).purpose dim ≡ false

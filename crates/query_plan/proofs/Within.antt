@@ -1,6 +1,6 @@
 -- Places that names are resolved to are places of the cube.
-use Rattle.std.proofs.Common.{◌≡◌, ℕ, zero, suc, ◌+◌, ◌<◌, Bool, true, false, List, [], ◌∷◌, length, Option, Some, None, refl, sym, ap, subst, ◌∙◌, inl, inr, arith}
-use Rattle.std.specs.Prelude.{All, Contains, find, filter_map, not, slice_index_or}
+use Rattle.std.proofs.Common.{◌≡◌, ℕ, suc, ◌+◌, ◌<◌, Bool, true, false, List, [], ◌∷◌, length, Option, Some, None, refl, sym, ap, subst, ◌∙◌, inl, inr, arith}
+use Rattle.std.specs.Prelude.{All, Contains, find, filter_map, not}
 use Rattle.std.specs.List.{list_any, cons_option, position_from}
 use Rattle.std.specs.Option.{option_map}
 use Rattle.std.specs.Str.{bytes_eq}
@@ -40,13 +40,17 @@ all_with : {K : Type 0} (P : K → Type 0) (o : Option K) (xs : List K) → ((k 
 all_with P None xs each all = all
 all_with P (Some k) xs each all = All-cons P k xs (each k refl) all
 
+-- A condition, if there is one, is at a place below a number.
+abbrev IsBelow : ℕ → Option Condition → Type 0
+IsBelow n None = Unit {0}
+IsBelow n (Some c) = c.place < n
+
 has_place : (d : Decl) (c : Cond) (o : Option ℕ) → dim_place d (cond_name c) ≡ o → (at : Condition)
     → option_map (λ p. record { place = p; test = cond_test c }) o ≡ Some at → at.place < length d.dims
 has_place d c None is at some = absurd cc
 has_place d c (Some p) is at some =
     let lt : p < length d.dims = dim_below d (cond_name c) p is in
-    let same : record { place = p; test = cond_test c } ≡ at = cc in
-    subst (λ (b : Condition). b.place < length d.dims) same lt
+    subst (λ (found : Option Condition). IsBelow (length d.dims) found) some lt
 
 pub conds_within : (d : Decl) (conds : List Cond)
     → All (λ c. c.place < length d.dims) (filter_map (resolved_cond d) conds)

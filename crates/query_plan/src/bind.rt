@@ -25,11 +25,10 @@ use statement_check::check_statement;
 use std::alloc::{AllocError, Global};
 
 /// The declaration of a cube, which has few columns.
-#[tactic(auto, using(cube_schema::proofs::Sound::parts_of))]
 fn decl_of(cube: &Schema) -> &Decl
     ensures decl { result.now ≡ cube.now }
-    ensures dims { length cube.now.dims ≤ MOST_COLUMNS }
-    ensures metrics { length cube.now.metrics ≤ MOST_COLUMNS }
+    ensures dims { length result.now.dims ≤ MOST_COLUMNS }
+    ensures metrics { length result.now.metrics ≤ MOST_COLUMNS }
 {
     cube.decl()
 }
@@ -41,12 +40,13 @@ fn check_fit(cube: &Schema, statement: &Statement) -> Result<(), CallError<BindF
 {
     match check_statement(cube, statement) {
         Ok(()) => Ok(()),
-        Err(CallError::Fault(misfit)) => Err(CallError::Fault(BindFault::Unfit(misfit))),
+        Err(CallError::Fault(misfit)) => Err(CallError::Fault(BindFault::Unfit { misfit })),
         Err(CallError::NoMemory) => Err(CallError::NoMemory),
     }
 }
 
 /// The place of the cube that a statement needs and fits.
+#[tactic(auto, using(crate::proofs::Cubes::lacks_cube, crate::proofs::Cubes::unfit_at, crate::proofs::Cubes::bound_at))]
 fn bound_place(cubes: &[Schema], statement: &Statement) -> Result<u32, CallError<BindFault>>
     requires { IsSome (cube_needed statement.now) }
     ensures bound { IfOk result (IsBoundAt cubes.now statement.now) }
@@ -54,7 +54,7 @@ fn bound_place(cubes: &[Schema], statement: &Statement) -> Result<u32, CallError
     ensures fault { IfFault result (IsBindFault cubes.now statement.now) }
 {
     let Some(name) = cube_needed(statement) else {
-        unreachable!();
+        unreachable!()
     };
     let Some(place) = cube_place(cubes, name) else {
         let name = name.copy()?;
@@ -86,6 +86,7 @@ fn drop_plan(
 ///
 /// Of the refusals of a statement those come that speak of it and the cubes alone, the first in their order:
 /// no cube has its name, or the first test of `check_statement` that it fails on the cube.
+#[tactic(auto, using(crate::proofs::Plans::drop_plan_from, crate::proofs::Needs::deletes_need))]
 pub fn bind_delete(
     alloc: Global,
     statement: &Statement,
@@ -105,6 +106,7 @@ pub fn bind_delete(
 /// `codes` has the code of each text of the conditions, in order: the text's number in the dictionary of its
 /// dimension, or None for one that no row can have. It takes time by the number of dimensions and by how many
 /// values the conditions have, never by the number of ranges.
+#[tactic(auto, using(crate::proofs::Plans::plan_within, crate::proofs::Plans::drop_span_from))]
 pub fn span_of(
     alloc: Global,
     plan: &DropPlan,
@@ -135,6 +137,7 @@ fn row_plan(
 
 /// An INSERT or a LOAD bound to its cube: the place of the cube, and the rows of the INSERT. It is refused as
 /// `bind_delete` says.
+#[tactic(auto, using(crate::proofs::Plans::row_plan_from, crate::proofs::Needs::puts_need))]
 pub fn bind_rows(
     alloc: Global,
     statement: &Statement,
@@ -180,6 +183,7 @@ fn query_on(
 ///
 /// `names` has the texts by cube and dimension. A condition on texts takes time by the number of its texts and of
 /// the names of its dimension.
+#[tactic(auto, using(crate::proofs::Plans::bound_query_from, crate::proofs::Plans::fits_there, crate::proofs::Needs::asks_need))]
 pub fn bind_select(
     alloc: Global,
     statement: &Statement,

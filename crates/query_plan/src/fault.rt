@@ -15,8 +15,8 @@ pub enum BindFault {
     #[error("UnknownCube {name}")]
     UnknownCube { name: Text },
     /// The statement fails a test on its cube.
-    #[error("{0}")]
-    Unfit(Misfit),
+    #[error("{misfit}")]
+    Unfit { misfit: Misfit },
 }
 
 impl BindFault {
@@ -26,7 +26,7 @@ impl BindFault {
     {
         match self {
             BindFault::UnknownCube { name } => Refusal::UnknownCube { name },
-            BindFault::Unfit(misfit) => Refusal::of_misfit(misfit),
+            BindFault::Unfit { misfit } => Refusal::of_misfit(misfit),
         }
     }
 }

@@ -1,6 +1,6 @@
 //! Places of names.
 
-ghost use Rattle.std.specs.Prelude.{◌≡◌, ◌≤◌, length};
+ghost use Rattle.std.specs.Prelude.{◌≡◌, ◌<◌, ◌≤◌, length, IfSome};
 ghost use Rattle.std.specs.List.{position_from};
 ghost use Rattle.std.specs.Str.{bytes_eq};
 ghost use Rattle.cube_values.specs.declared.shape.TheConstants.{MOST_COLUMNS};
@@ -53,7 +53,8 @@ pub fn metric_place(metrics: &[Text], name: &Text) -> Option<u32>
 
 /// The place of the cube of a name.
 pub fn cube_place(cubes: &[Schema], name: &Text) -> Option<usize>
-    ensures { result ≡ cube_place cubes.now name.now }
+    ensures place { result ≡ cube_place cubes.now name.now }
+    ensures within { IfSome result (λ place. place < length cubes.now) }
 {
     let mut place = 0;
     let mut left = cubes;

@@ -8,7 +8,7 @@ ghost use Rattle.cube_language.specs.ResolvedNames.{dim_place, metric_place, res
 use crate::places::{dim_place, metric_place};
 use condition_spans::append;
 use cube_language::{Cond, Decl, Item};
-use cube_values::{BoundItem, BoundItems, Condition, Conditions, Coords, Text, Value, ValueTest, Values};
+use cube_values::{BoundItem, BoundItems, Condition, Conditions, Coords, Text, ValueTest, Values};
 use std::alloc::{AllocError, Global};
 
 fn copy_values(values: &Values) -> Result<Values, AllocError>
@@ -78,11 +78,11 @@ fn resolved_item(decl: &Decl, item: &Item) -> Option<BoundItem>
     let dims = decl.dims.as_slice();
     let metrics = decl.metrics.as_slice();
     match item {
-        Item::Plain(name) => dim_place(dims, name).map(BoundItem::Group),
-        Item::Sum(name) => metric_place(metrics, name).map(BoundItem::Sum),
-        Item::Min(name) => metric_place(metrics, name).map(BoundItem::Min),
-        Item::Max(name) => metric_place(metrics, name).map(BoundItem::Max),
-        Item::Avg(name) => metric_place(metrics, name).map(BoundItem::Avg),
+        Item::Plain(name) => Some(BoundItem::Group(dim_place(dims, name)?)),
+        Item::Sum(name) => Some(BoundItem::Sum(metric_place(metrics, name)?)),
+        Item::Min(name) => Some(BoundItem::Min(metric_place(metrics, name)?)),
+        Item::Max(name) => Some(BoundItem::Max(metric_place(metrics, name)?)),
+        Item::Avg(name) => Some(BoundItem::Avg(metric_place(metrics, name)?)),
         Item::CountAll => Some(BoundItem::Count),
     }
 }

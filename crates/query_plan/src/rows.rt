@@ -45,7 +45,14 @@ fn metric_values(alloc: Global, values: &[Value]) -> Result<Numbers, AllocError>
 fn row_of_values(alloc: Global, decl: &Decl, values: &[Value]) -> Result<Row, AllocError>
     ensures { IfOk result (λ row. row ≡ row_of_values decl.now values.now) }
 {
-    let (dims, metrics) = values.split_at(decl.dims.len().min(values.len()));
+    let most = decl.dims.len();
+    if values.len() < most {
+        return Ok(Row {
+            dims: copy_all(alloc, values)?,
+            metrics: Numbers::new(alloc),
+        });
+    }
+    let (dims, metrics) = values.split_at(most);
     Ok(Row {
         dims: copy_all(alloc, dims)?,
         metrics: metric_values(alloc, metrics)?,

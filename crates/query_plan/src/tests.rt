@@ -1,10 +1,6 @@
 //! Statements bound to small cubes: what refuses them, what they ask by coordinates, and some thousands of drawn
 //! ones against a plain reading.
 
-mod drawn;
-mod refused;
-mod worked;
-
 ghost use Rattle.std.specs.Prelude.{IsTrue};
 ghost use Rattle.query_plan.specs.Bindings.{AsksRows, DeletesRows, PutsRows};
 
@@ -14,6 +10,10 @@ use cube_schema::Schema;
 use cube_values::{CallError, NameLists, Text, TextLists, Texts};
 use sql_tree::parse;
 use std::alloc::{AllocError, Global};
+
+mod drawn;
+mod refused;
+mod worked;
 
 /// Three cubes.
 const CUBES: &str = "cube visits\ndim region text 4 2\ndim gender text 4 1\nmetric likes\nmetric comments\n\

@@ -1,8 +1,7 @@
 //! What HAVING, ORDER BY and LIMIT ask of the lines of a table.
 
-ghost use Rattle.std.specs.Prelude.{◌≡◌, [], filter_map, IfOk, None};
+ghost use Rattle.std.specs.Prelude.{◌≡◌, filter_map, IfOk};
 ghost use Rattle.std.specs.List.{position_from};
-ghost use Rattle.std.specs.Option.{option_map};
 ghost use Rattle.cube_language.specs.ResolvedNames.{resolved_plan};
 ghost use Rattle.cube_language.specs.SameItems.{item_eq};
 ghost use Rattle.query_plan.specs.TopPlans.{test_at, key_at};

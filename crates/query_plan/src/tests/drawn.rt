@@ -248,7 +248,9 @@ fn check_delete(
         || numbers_pass(asked, 2) != numbers_pass(asked, 3);
     let plan = match bind_delete(alloc, &statement, cubes) {
         Ok(plan) => plan,
-        Err(CallError::Fault(BindFault::Unfit(Misfit::CutsBrick { name }))) => {
+        Err(CallError::Fault(BindFault::Unfit {
+            misfit: Misfit::CutsBrick { name },
+        })) => {
             assert!(rt; cuts && name.as_str() == "x", "{text}");
             return Ok(());
         }

@@ -1,14 +1,10 @@
 //! What statements ask by coordinates, worked out by hand.
 
-ghost use Rattle.std.specs.Prelude.{IsOk};
-
 use super::{CUBES, asks_rows, deletes_rows, names_of, puts_rows};
-use crate::{BindFault, bind_delete, bind_rows, bind_select, bind_top, span_of};
+use crate::{bind_delete, bind_rows, bind_select, bind_top, span_of};
 use cube_language::Statement;
 use cube_schema::{Schema, read_cubes};
-use cube_values::{
-    Bound, BoundItem, BoundKey, BoundQuery, CallError, Numbers, Part, Span, TopPlan, Value,
-};
+use cube_values::{Bound, BoundItem, BoundKey, BoundQuery, Span, Value};
 use sql_tree::parse;
 use std::alloc::{AllocError, Global};
 use std::process::Abort;

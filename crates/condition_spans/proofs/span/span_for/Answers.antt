@@ -11,7 +11,7 @@ returns-clause-span c =
     let sizes = c.args.shape.now.sizes in
     let conditions = coded_conditions c.args.codes.now c.args.conditions.now in
     let there = subst (λ (s : List Size). ArePartsOf conditions 0 s c.in_ok-parts.parts.items) c.as_slice.ensures
-        c.in_ok-parts.ensures.parts in
+    c.in_ok-parts.ensures.parts in
     let are = subst (λ (parts : List Part). ArePartsOf conditions 0 sizes parts) (sym c.from_vec.ensures) there in
     span_from_parts sizes conditions (record { parts = c.from_vec.result }) are
     (coded_within (length sizes) c.args.codes.now c.args.conditions.now c.requires.places)
@@ -21,6 +21,6 @@ returns-clause-same c =
     let sizes = c.args.shape.now.sizes in
     let conditions = coded_conditions c.args.codes.now c.args.conditions.now in
     let there = subst (λ (s : List Size). ArePartsOf conditions 0 s c.in_ok-parts.parts.items) c.as_slice.ensures
-        c.in_ok-parts.ensures.parts in
+    c.in_ok-parts.ensures.parts in
     as_many_parts conditions 0 sizes c.from_vec.result
     (subst (λ (parts : List Part). ArePartsOf conditions 0 sizes parts) (sym c.from_vec.ensures) there)
