@@ -15,7 +15,7 @@ use Rattle.condition_spans.specs.Spans.{passes_at}
 use Rattle.query_plan.proofs.Aligned.{all_aligned}
 use Rattle.query_plan.proofs.Coded.{same_asked, nothing_asked}
 use Rattle.query_plan.proofs.Distinct.{dim_at}
-use Rattle.query_plan.proofs.Kinds.{kinds_fit}
+use Rattle.query_plan.proofs.FitConditions.{kinds_fit}
 use Rattle.query_plan.proofs.Whole.{AgreeIn}
 
 -- In ranges of one coordinate each, coordinates of one range are one.

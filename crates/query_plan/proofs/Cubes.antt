@@ -14,7 +14,7 @@ use Rattle.cube_run.specs.RunRecords.{cube_called, cube_needed}
 use Rattle.query_plan.specs.Bindings.{cube_place, IsBoundTo, IsBoundAt, IsUnfitFault, IsBindFault}
 use Rattle.query_plan.specs.declared.fault.BindFault.{BindFault}
 use Rattle.query_plan.specs.declared.fault.BindFault.TheVariants.{UnknownCube, Unfit}
-use Rattle.query_plan.proofs.Places.{found, finds_nothing, finds_there}
+use Rattle.query_plan.proofs.FirstPlaces.{found, finds_nothing, finds_there}
 
 abbrev is_called : List ℕ → Decl → Bool
 is_called name d = bytes_eq d.name name

@@ -11,7 +11,7 @@ use Rattle.cube_language.specs.ResolvedNames.{dim_place}
 use Rattle.cube_language.specs.declared.decl.Decl.{Decl}
 use Rattle.cube_language.specs.declared.decl.DimDecl.{DimDecl}
 use Rattle.cube_schema.proofs.Sound.{parts_of}
-use Rattle.query_plan.proofs.Places.{found, finds}
+use Rattle.query_plan.proofs.FirstPlaces.{found, finds}
 
 pub names_same : (a b : List ℕ) → bytes_eq a b ≡ true → a ≡ b
 names_same a b = (bytes_eq-Decides a b).0

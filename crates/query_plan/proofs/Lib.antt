@@ -1,6 +1,6 @@
-pub mod Places
+pub mod FirstPlaces
 pub mod Distinct
-pub mod Kinds
+pub mod FitConditions
 pub mod Aligned
 pub mod Coded
 pub mod Whole

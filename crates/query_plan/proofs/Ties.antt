@@ -38,8 +38,8 @@ use Rattle.query_plan.specs.Ties.{stored_for, IsNamed, AreNamed, AreDistinct, Is
 use Rattle.condition_spans.proofs.Among.{same_number}
 use Rattle.query_plan.proofs.Coded.{placed, not_against, coded_alike, or_nothing}
 use Rattle.query_plan.proofs.Distinct.{names_same, name_is}
-use Rattle.query_plan.proofs.Kinds.{kinds_fit}
-use Rattle.query_plan.proofs.Places.{found, finds_nothing, finds_there}
+use Rattle.query_plan.proofs.FitConditions.{kinds_fit}
+use Rattle.query_plan.proofs.FirstPlaces.{found, finds_nothing, finds_there}
 
 -- ---- texts
 

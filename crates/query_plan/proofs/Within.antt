@@ -22,8 +22,8 @@ use Rattle.cube_language.specs.declared.statement.Item.TheVariants.{Plain, Sum, 
 use Rattle.cube_language.specs.declared.statement.Statement.{Statement}
 use Rattle.cube_schema.proofs.Bricks.{none_found}
 use Rattle.query_plan.proofs.Distinct.{names_same}
-use Rattle.query_plan.proofs.Kinds.{nothing}
-use Rattle.query_plan.proofs.Places.{found}
+use Rattle.query_plan.proofs.FitConditions.{nothing}
+use Rattle.query_plan.proofs.FirstPlaces.{found}
 
 below : {K : Type 0} (t : K → Bool) (xs : List K) (k : ℕ) → position_from t 0 xs ≡ Some k → k < length xs
 below t xs k is = let lt : k < 0 + length xs = (found t 0 xs k is).below in omega arith
