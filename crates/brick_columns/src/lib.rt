@@ -1,4 +1,4 @@
-//! The plain columns of a brick: one list for each dimension and one for each metric, seen as rows.
+//! The columns of a brick, seen as rows: offsets packed in words, and one list for each metric.
 #![tactic(auto)]
 
 mod columns;

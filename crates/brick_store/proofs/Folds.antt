@@ -1,0 +1,76 @@
+-- Rows that a partial gains one after another.
+use Rattle.std.proofs.Common.{◌≡◌, ℕ, ◌+◌, ◌<◌, ◌≤◌, Bool, true, false, List, [], ◌∷◌, ◌++◌, All, IsTrue, length, map, take, drop, filter, get_or, cond, zero, suc, add-one, refl, sym, ap, subst, ◌∙◌, arith}
+use Rattle.std.specs.List.{items_where_true}
+use Rattle.std.proofs.lemmas.List.{append-nil, append_assoc, length-append, length-take-le}
+use Rattle.std.proofs.lemmas.List.Elements.{All-head, All-tail, All-nil, All-cons}
+use Rattle.cube_values.specs.declared.query.BoundQuery.{BoundQuery}
+use Rattle.cube_values.specs.declared.row.CodedRow.{CodedRow}
+use Rattle.agg_fold.specs.declared.groups.Groups.{Groups}
+use Rattle.agg_fold.specs.Standing.{StandsFor, HasRoom, Gains}
+
+-- no rows, and more rows after others
+pub gains_none : (query : BoundQuery) (g : Groups) → Gains query [] g g
+gains_none query g rows s = subst (λ (rs : List CodedRow). StandsFor query rs g) (sym (append-nil rows)) s
+
+pub gains_more : (query : BoundQuery) (a b : List CodedRow) (g h k : Groups) → Gains query a g h → Gains query b h k → Gains query (a ++ b) g k
+gains_more query a b g h k p q rows s =
+    subst (λ (rs : List CodedRow). StandsFor query rs k) (append_assoc rows a b) (q (rows ++ a) (p rows s))
+
+pub gains_same : (query : BoundQuery) (a b : List CodedRow) (g h : Groups) → a ≡ b → Gains query a g h → Gains query b g h
+gains_same query a b g h e p = subst (λ (rs : List CodedRow). Gains query rs g h) e p
+
+-- room for rows that are left to come
+pub room_after : (query : BoundQuery) (n k : ℕ) (more : List CodedRow) (g h : Groups) → length more + k ≤ n → HasRoom query n g → Gains query more g h → HasRoom query k h
+room_after query n k more g h l room gains =
+    (room.0 ++ more, gains room.0 room.1, omega (arith, room.2, length-append room.0 more))
+
+module _ {A : Type 0} (test : A → Bool) where
+  filter_append : (xs ys : List A) → filter test (xs ++ ys) ≡ filter test xs ++ filter test ys
+  filter_append [] ys = refl
+  filter_append (x ∷ xs) ys = by_test (test x) where
+    by_test : (b : Bool) → cond b (x ∷ filter test (xs ++ ys)) (filter test (xs ++ ys)) ≡ cond b (x ∷ filter test xs) (filter test xs) ++ filter test ys
+    by_test true = ap (λ zs. x ∷ zs) (filter_append xs ys)
+    by_test false = filter_append xs ys
+
+  pub filter_none : (xs : List A) → All (λ x. test x ≡ false) xs → filter test xs ≡ []
+  filter_none [] h = refl
+  filter_none (x ∷ xs) h =
+      ap (λ b. cond b (x ∷ filter test xs) (filter test xs)) (All-head (λ x. test x ≡ false) x xs h) ∙ filter_none xs (All-tail (λ x. test x ≡ false) x xs h)
+
+  pub filter_short : (xs : List A) → length (filter test xs) ≤ length xs
+  filter_short [] = omega arith
+  filter_short (x ∷ xs) = by_test (test x) where
+    by_test : (b : Bool) → length (cond b (x ∷ filter test xs) (filter test xs)) ≤ suc (length xs)
+    by_test true = omega (arith, filter_short xs)
+    by_test false = omega (arith, filter_short xs)
+
+-- of the first i items those whose bit is set, and one more
+pub set_short : {A : Type 0} (bits : List Bool) (xs : List A) → length (items_where_true bits xs) ≤ length xs
+set_short [] xs = omega arith
+set_short (b ∷ bits) [] = omega arith
+set_short (true ∷ bits) (x ∷ xs) = omega (arith, set_short bits xs)
+set_short (false ∷ bits) (x ∷ xs) = omega (arith, set_short bits xs)
+
+pub set_more : {A : Type 0} (bits : List Bool) (xs : List A) (i : ℕ) (d : A) → i < length bits → i < length xs → items_where_true (take (i + 1) bits) (take (i + 1) xs) ≡ items_where_true (take i bits) (take i xs) ++ cond (get_or bits i false) (get_or xs i d ∷ []) []
+set_more bits xs i d p q = ap (λ n. items_where_true (take n bits) (take n xs)) (add-one i) ∙ by_place bits xs i p q where
+  by_place : (bits : List Bool) (xs : List A) (i : ℕ) → i < length bits → i < length xs → items_where_true (take (suc i) bits) (take (suc i) xs) ≡ items_where_true (take i bits) (take i xs) ++ cond (get_or bits i false) (get_or xs i d ∷ []) []
+  by_place [] xs i p q = absurd (omega arith)
+  by_place (b ∷ bits) [] i p q = absurd (omega arith)
+  by_place (true ∷ bits) (x ∷ xs) zero p q = refl
+  by_place (false ∷ bits) (x ∷ xs) zero p q = refl
+  by_place (true ∷ bits) (x ∷ xs) (suc i) p q = ap (λ ys. x ∷ ys) (by_place bits xs i (omega arith) (omega arith))
+  by_place (false ∷ bits) (x ∷ xs) (suc i) p q = by_place bits xs i (omega arith) (omega arith)
+
+-- what the fold has of the first i rows
+pub filtered_more : {A : Type 0} (test : A → Bool) (bits : List Bool) (xs : List A) (i : ℕ) (d : A) → i < length bits → i < length xs → get_or bits i false ≡ true → filter test (items_where_true (take (i + 1) bits) (take (i + 1) xs)) ≡ filter test (items_where_true (take i bits) (take i xs)) ++ filter test (get_or xs i d ∷ [])
+filtered_more test bits xs i d p q e =
+    ap (filter test) (set_more bits xs i d p q ∙ ap (λ b. items_where_true (take i bits) (take i xs) ++ cond b (get_or xs i d ∷ []) []) e)
+    ∙ filter_append test (items_where_true (take i bits) (take i xs)) (get_or xs i d ∷ [])
+
+pub filtered_same : {A : Type 0} (test : A → Bool) (bits : List Bool) (xs : List A) (i : ℕ) (d : A) → i < length bits → i < length xs → get_or bits i false ≡ false → filter test (items_where_true (take (i + 1) bits) (take (i + 1) xs)) ≡ filter test (items_where_true (take i bits) (take i xs))
+filtered_same test bits xs i d p q e =
+    ap (filter test) (set_more bits xs i d p q ∙ ap (λ b. items_where_true (take i bits) (take i xs) ++ cond b (get_or xs i d ∷ []) []) e ∙ append-nil (items_where_true (take i bits) (take i xs)))
+
+pub filtered_short : {A : Type 0} (test : A → Bool) (bits : List Bool) (xs : List A) (i : ℕ) → i ≤ length xs → length (filter test (items_where_true (take i bits) (take i xs))) ≤ i
+filtered_short test bits xs i h =
+    omega (arith, filter_short test (items_where_true (take i bits) (take i xs)), set_short (take i bits) (take i xs), length-take-le i xs h)

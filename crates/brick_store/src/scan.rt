@@ -1,0 +1,100 @@
+//! The fold of the rows that a snapshot sees into a partial answer.
+
+ghost use Rattle.std.specs.Prelude.{◌≡◌, ◌^◌, ◌<◌, ◌≤◌, ◌∷◌, [], IsTrue, length, filter, map, All, OnOk};
+ghost use Rattle.std.specs.List.{items_where_true};
+ghost use Rattle.cube_values.specs.Queries.{IsSoundQuery};
+ghost use Rattle.cube_values.specs.Spans.{span_has};
+ghost use Rattle.cube_values.specs.declared.shape.TheConstants.{MOST_COLUMNS};
+ghost use Rattle.agg_fold.specs.Standing.{Gains, HasRoom};
+ghost use Rattle.brick_columns.specs.Rows.{row_at};
+ghost use Rattle.brick_store.specs.Rows.{span_has_row};
+ghost use Rattle.brick_store.specs.Whole.{HasSmallCoords, coded_row, coords_from};
+
+use agg_fold::Partial;
+use brick_columns::Columns;
+use cube_values::{Bits, BoundQuery};
+use std::alloc::{AllocError, Global};
+
+/// Adds the rows whose bit is set and that the query's span has. It is asked of each row, unless the span
+/// has all.
+pub fn fold_rows(
+    alloc: Global,
+    columns: &Columns,
+    starts: &[u32],
+    bits: &Bits,
+    query: &BoundQuery,
+    all: bool,
+    into: &mut Partial,
+) -> Result<(), AllocError>
+    requires bits { length bits.now.bits ≡ length columns.now.rows }
+    requires starts { length starts.now ≡ length columns.now.layout.ranges }
+    requires dims { length starts.now ≤ MOST_COLUMNS }
+    requires metrics { columns.now.layout.metrics < 2 ^ 32 }
+    requires sound { IsSoundQuery query.now (length starts.now) columns.now.layout.metrics }
+    requires all { IsTrue all → All (λ row. IsTrue (span_has_row query.now.span row))
+        (map (coded_row starts.now) columns.now.rows) }
+    requires small { All (λ row. HasSmallCoords starts.now row) columns.now.rows }
+    requires room { HasRoom query.now (length columns.now.rows) into.old.groups }
+    ensures { OnOk result (Gains query.now
+        (filter (span_has_row query.now.span)
+          (items_where_true bits.now.bits (map (coded_row starts.now) columns.now.rows)))
+        into.old.groups into.new.groups) }
+{
+    let mut coords = vec![in alloc; 0; starts.len()]?;
+    let mut metrics = vec![in alloc; 0; columns.width()]?;
+    'rows: for row in 0..columns.len() {
+        if bits.get(row) {
+            read_coords(columns, starts, row, coords.as_mut_slice());
+            read_metrics(columns, row, metrics.as_mut_slice());
+            add_row(query, all, coords.as_slice(), metrics.as_slice(), into)?;
+        }
+    }
+    Ok(())
+}
+
+// Adds a row that the query's span has.
+fn add_row(
+    query: &BoundQuery,
+    all: bool,
+    coords: &[u32],
+    metrics: &[i64],
+    into: &mut Partial,
+) -> Result<(), AllocError>
+    requires sound { IsSoundQuery query.now (length coords.now) (length metrics.now) }
+    requires all { IsTrue all → IsTrue (span_has query.now.span coords.now) }
+    requires room { HasRoom query.now 1 into.old.groups }
+    ensures { OnOk result (Gains query.now
+        (filter (span_has_row query.now.span) (record { coords = coords.now; metrics = metrics.now } ∷ []))
+        into.old.groups into.new.groups) }
+{
+    if all || query.span.has(coords) {
+        into.add_row(query, coords, metrics)?;
+    }
+    Ok(())
+}
+
+// Writes the coordinates of a row.
+fn read_coords(columns: &Columns, starts: &[u32], row: u64, coords: &mut [u32])
+    requires row { row < length columns.now.rows }
+    requires starts { length starts.now ≡ length columns.now.layout.ranges }
+    requires dims { length starts.now ≤ MOST_COLUMNS }
+    requires long { length coords.old ≡ length starts.now }
+    requires small { HasSmallCoords starts.now (row_at columns.now.rows row) }
+    ensures { coords.new ≡ coords_from starts.now (row_at columns.now.rows row).offsets }
+{
+    'dims: for dim in 0..starts.len() {
+        coords[dim] = starts[dim] + columns.offset(row, dim as u32);
+    }
+}
+
+// Writes the metrics of a row.
+fn read_metrics(columns: &Columns, row: u64, metrics: &mut [i64])
+    requires row { row < length columns.now.rows }
+    requires long { length metrics.old ≡ columns.now.layout.metrics }
+    requires wide { columns.now.layout.metrics < 2 ^ 32 }
+    ensures { metrics.new ≡ (row_at columns.now.rows row).metrics }
+{
+    'metrics: for m in 0..metrics.len() {
+        metrics[m] = columns.metric(row, m as u32);
+    }
+}
