@@ -3,12 +3,14 @@ use Rattle.std.proofs.Common.{◌≡◌, ℕ, ℤ, pos, ◌+◌, ◌-◌, ◌<�
 use Rattle.std.specs.List.{AllZip, zip, items_where_true}
 use Rattle.std.specs.Vec.{with_items}
 use Rattle.std.proofs.lemmas.List.{length-map, map-append, length_push, with_items_is}
-use Rattle.std.proofs.lemmas.List.Elements.{All-nil, All-push, length_all_zip}
+use Rattle.std.proofs.lemmas.List.Elements.{All-nil, All-push, All-map, All-weaker, length_all_zip}
 use Rattle.std.proofs.lemmas.List.Sums.{count_by-le-length, sum_by-le}
 use Rattle.std.proofs.lemmas.Slice.Zip.{length-zip, firsts-zip, seconds-zip}
 use Rattle.cube_values.specs.BitRows.{set_bits}
 use Rattle.brick_columns.specs.declared.columns.Columns.TheInside.{Inside}
 use Rattle.brick_columns.specs.Lists.{column_rows, AreColumns, HaveSpare, IsGrown, IsSelection, ArePushed}
+use Rattle.cube_values.specs.declared.shape.Size.{Size}
+use Rattle.cube_values.specs.Shapes.{IsSoundSize}
 use Rattle.packed_words.specs.Rows.{NumberRows, HasWidth}
 use Rattle.brick_columns.specs.Rows.{BrickRow, BrickRows, IsBrickRow, IsWidth, metric_at}
 use Rattle.brick_columns.specs.Whole.{brick_rows, rows_in, layout_in, contract_view, IsWhole}
@@ -226,6 +228,11 @@ made_whole ranges os ms w o m = record {
   metrics = columns_empty ms.items m;
   sound = rw o (All-nil (IsBrickRow (record { ranges = ranges.items; metrics = length ms.items })));
 }
+
+-- the range sizes of a shape
+pub ranges_small : (sizes : List Size) → All IsSoundSize sizes → All (λ range. range < 2 ^ 32) (map (λ size. size.range) sizes)
+ranges_small sizes h =
+    All-map (λ range. range < 2 ^ 32) (λ (size : Size). size.range) sizes (All-weaker IsSoundSize (λ (size : Size). size.range < 2 ^ 32) (λ size s. omega (arith, s.fits, s.small)) sizes h)
 
 -- the widths of a shape's ranges are few and small
 pub width_small : (range width : ℕ) → range < 2 ^ 32 → IsWidth range width → width ≤ 32

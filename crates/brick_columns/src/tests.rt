@@ -173,23 +173,19 @@ fn put_all(
     Ok(())
 }
 
-// The columns have the rows of these numbers, read one by one and column by column.
+// The columns have the rows of these numbers.
 fn check(rt: &impl Abort, columns: &Columns, ranges: &[u32], metrics: u32, rows: &[u64])
     requires { columns.now.layout ≡ record { ranges = ranges.now; metrics = metrics } }
 {
     assert_eq!(rt; columns.len(), rows.len() as u64);
     for (dim, range) in ranges.iter().enumerate() {
         assert!(rt; dim < 16);
-        let column = columns.offsets_of(dim as u32);
-        assert_eq!(rt; column.len(), rows.len());
         for at in 0..rows.len() {
-            let wanted = offset_for(rows[at], dim, *range);
             assert_eq!(rt;
                 columns.offset(at as u64, dim as u32),
-                wanted,
+                offset_for(rows[at], dim, *range),
                 "row {at}, dim {dim}"
             );
-            assert_eq!(rt; column[at], wanted, "row {at}, dim {dim}");
         }
     }
     for m in 0..metrics {
@@ -253,12 +249,21 @@ fn visits(rt: &impl Abort, alloc: Global) -> Result<Columns, AllocError>
     Ok(columns)
 }
 
+// The offsets in a dimension are these.
+fn have_offsets(rt: &impl Abort, columns: &Columns, dim: u32, wanted: &[u32])
+    requires { dim < length columns.now.layout.ranges }
+{
+    assert_eq!(rt; columns.len(), wanted.len() as u64);
+    for at in 0..wanted.len() {
+        assert_eq!(rt; columns.offset(at as u64, dim), wanted[at], "row {at}, dim {dim}");
+    }
+}
+
 #[test]
 fn rows_of_a_brick_come_and_go(rt: HostRuntime) -> Result<(), AllocError> {
     let mut columns = visits(&rt, rt.alloc())?;
-    assert!(rt; columns.len() == 6);
-    assert_eq!(rt; columns.offsets_of(0), [1, 0, 0, 1, 1, 0].as_slice());
-    assert_eq!(rt; columns.offsets_of(1), [0; 6].as_slice());
+    have_offsets(&rt, &columns, 0, &[1, 0, 0, 1, 1, 0]);
+    have_offsets(&rt, &columns, 1, &[0; 6]);
     assert_eq!(rt;
         columns.metrics_of(0),
         [5, 2, 3, -7, i64::MIN, 0].as_slice()
@@ -267,17 +272,52 @@ fn rows_of_a_brick_come_and_go(rt: HostRuntime) -> Result<(), AllocError> {
         columns.metrics_of(1),
         [0, 4, 1, 2, i64::MAX, -1].as_slice()
     );
-    assert_eq!(rt; columns.offset(3, 0), 1);
-    assert_eq!(rt; columns.metric(3, 1), 2);
+    // One bit for the region of each row, none for its gender.
+    assert_eq!(rt; columns.words(), [25].as_slice());
     // The third row and the fourth go.
+    assert!(rt; columns.len() == 6);
     let mut bits = Bits::new(rt.alloc(), 6)?;
     bits.reset(6);
     bits.fill(2, 4, false);
     columns.keep(&bits);
-    assert_eq!(rt; columns.len(), 4);
-    assert_eq!(rt; columns.offsets_of(0), [1, 0, 1, 0].as_slice());
+    have_offsets(&rt, &columns, 0, &[1, 0, 1, 0]);
     assert_eq!(rt; columns.metrics_of(0), [5, 2, i64::MIN, 0].as_slice());
     assert_eq!(rt; columns.metrics_of(1), [0, 4, i64::MAX, -1].as_slice());
+    assert_eq!(rt; columns.words(), [5].as_slice());
+    Ok(())
+}
+
+// The words of rows of these numbers, bit by bit.
+fn plain_words(alloc: Global, ranges: &[u32], rows: &[u64]) -> Result<Vec<u64>, AllocError> {
+    let mut words = Vec::new(alloc);
+    let mut place = 0u32;
+    for row in rows {
+        for (dim, range) in ranges.iter().enumerate() {
+            let offset = offset_for(*row, dim, *range);
+            for k in 0..32u32 {
+                if u64::from(*range) > 1 << k {
+                    if place % 64 == 0 {
+                        words.push(0u64)?;
+                    }
+                    let last = words.len().saturating_sub(1);
+                    if last < words.len() {
+                        words[last] |= u64::from((offset >> k) & 1) << (place % 64);
+                    }
+                    place = place.wrapping_add(1);
+                }
+            }
+        }
+    }
+    Ok(words)
+}
+
+#[test]
+fn words_have_the_bits_of_the_rows(rt: HostRuntime) -> Result<(), AllocError> {
+    // The rows (1, 2) and (0, 1) in one bit and two: 1, 0 1, 0, 1 0.
+    let mut columns = columns_for(&rt, rt.alloc(), &[2, 3], 0)?;
+    put(&rt, &mut columns, &[2, 3], 0, (&[1, 2], &[]))?;
+    put(&rt, &mut columns, &[2, 3], 0, (&[0, 1], &[]))?;
+    assert_eq!(rt; columns.words(), [21].as_slice());
     Ok(())
 }
 
@@ -296,6 +336,8 @@ fn put_and_keep(
     check(rt, &columns, ranges, metrics, rows);
     let mut left = keep(rt, alloc, &mut columns, rows, choice)?;
     check(rt, &columns, ranges, metrics, left.as_slice());
+    let words = plain_words(alloc, ranges, left.as_slice())?;
+    assert_eq!(rt; columns.words(), words.as_slice());
     columns.reserve(40)?;
     check(rt, &columns, ranges, metrics, left.as_slice());
     put_all(rt, alloc, &mut columns, ranges, metrics, rows)?;

@@ -36,8 +36,8 @@ half true n = omega arith
 half false n = omega arith
 
 parity : (b : Bool) (n : ℕ) → ((from_bool b + 2 * n) % 2 == 1) ≡ b
-parity true n = ap (λ r. r == 1) (omega arith)
-parity false n = ap (λ r. r == 1) (omega arith)
+parity true n = let e : (1 + 2 * n) % 2 ≡ 1 = omega arith in ap (λ r. r == 1) e
+parity false n = let e : (0 + 2 * n) % 2 ≡ 0 = omega arith in ap (λ r. r == 1) e
 
 pub low_of_number : (bits : List Bool) (width : ℕ) → length bits ≡ width → low_bits width (number_of bits) ≡ bits
 low_of_number [] zero h = refl
@@ -50,3 +50,8 @@ pub number_below : (bits : List Bool) → number_of bits < 2 ^ length bits
 number_below [] = omega arith
 number_below (true ∷ bits) = omega (arith, number_below bits, pow-suc 2 (length bits))
 number_below (false ∷ bits) = omega (arith, number_below bits, pow-suc 2 (length bits))
+
+-- bit k of a number is the bit that it was made of
+pub bit_of_number : (bits : List Bool) (k : ℕ) → k < length bits → has_bit (number_of bits) k ≡ get_or bits k false
+bit_of_number bits k h =
+    sym (low_at (length bits) (number_of bits) k false h) ∙ ap (λ b. get_or b k false) (low_of_number bits (length bits) refl)

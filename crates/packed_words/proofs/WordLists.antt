@@ -4,7 +4,8 @@ use Rattle.std.specs.Int.{bit_at}
 use Rattle.std.proofs.lemmas.Nat.{pow_pos, mod_below}
 use Rattle.std.proofs.lemmas.Bool.{cases_lt, cases_eq}
 use Rattle.std.proofs.lemmas.Bool.Decides.{nat_tests}
-use Rattle.std.proofs.lemmas.List.{get_or-set_same, get_or-set_other, length-set, length-append, length-take-le, get_or_append_left, get_or-append_right, get_or-take, get_or_default}
+use Rattle.std.proofs.lemmas.List.{get_or-set_same, get_or-set_other, length-set, length-append, length-take-le, get_or_append_left, get_or-append_right, get_or-take}
+use lib.ListN.{get_or-eq_default}
 use Rattle.cube_values.specs.BitRows.{has_bit, is_set, word_count}
 use Rattle.cube_values.proofs.BitMasks.{none_set}
 use Rattle.packed_words.specs.Words.{IsAppended, IsReplaced, IsCut}
@@ -18,7 +19,18 @@ set_at words at i e = rw e
 pub set_past : (words : List ℕ) (i : ℕ) → length words ≤ i / 64 → is_set words i ≡ false
 unfolding is_set
 set_past words i h =
-    ap (λ w. has_bit w (i % 64)) (get_or_default words (i / 64) 0 h) ∙ none_set (i % 64)
+    ap (λ w. has_bit w (i % 64)) (get_or-eq_default words 0 h) ∙ none_set (i % 64)
+
+-- the bits of a word that is shifted down
+pub word_here : (words : List ℕ) (place k : ℕ) → place % 64 + k < 64 → has_bit (get_or words (place / 64) 0) (place % 64 + k) ≡ is_set words (place + k)
+word_here words place k h =
+    let within : (place + k) % 64 ≡ place % 64 + k = omega arith in
+    sym (set_at words (place / 64) (place + k) (omega arith) ∙ ap (has_bit (get_or words (place / 64) 0)) within)
+
+pub word_next : (words : List ℕ) (place k : ℕ) → k < 64 → 64 ≤ place % 64 + k → has_bit (get_or words (place / 64 + 1) 0) (place % 64 + k - 64) ≡ is_set words (place + k)
+word_next words place k l h =
+    let within : (place + k) % 64 ≡ place % 64 + k - 64 = omega arith in
+    sym (set_at words (place / 64 + 1) (place + k) (omega arith) ∙ ap (has_bit (get_or words (place / 64 + 1) 0)) within)
 
 -- a write to one word
 pub set_there : (words : List ℕ) (at word i : ℕ) → at < length words → i / 64 ≡ at → is_set (slice_set words at word) i ≡ has_bit word (i % 64)
@@ -48,6 +60,18 @@ appended old new len value front rest i = elim (cases_lt i len) [
   | inr a ↦ let e = rest i a in grind (arith, nat_tests)
 ]
 
+pub appended_unused : (old new : List ℕ) (len value width i : ℕ) → IsAppended old new len value → value < 2 ^ width → len + width ≤ i → is_set new i ≡ false
+appended_unused old new len value width i a f h =
+    let e = a i in
+    let none = has_above value width (i - len) f (omega arith) in
+    grind (arith, nat_tests)
+
+pub appended_front : (old new : List ℕ) (len value i : ℕ) → IsAppended old new len value → i < len → is_set new i ≡ is_set old i
+appended_front old new len value i a h = let e = a i in grind (arith, nat_tests)
+
+pub appended_rest : (old new : List ℕ) (len value i : ℕ) → IsAppended old new len value → len ≤ i → is_set new i ≡ has_bit value (i - len)
+appended_rest old new len value i a h = let e = a i in grind (arith, nat_tests)
+
 pub appended_none : (words : List ℕ) (len value width : ℕ) → ((i : ℕ) → len ≤ i → is_set words i ≡ false) → value < 2 ^ width → width ≡ 0 → IsAppended words words len value
 appended_none words len value width u f e =
     let zero : value < 2 ^ 0 = rw e at f in
@@ -65,7 +89,7 @@ appended_whole words len value c e f =
       ]
 
 -- the last word with the bits of a number from its first free bit on
-last_word : (words : List ℕ) (len value : ℕ) → List ℕ
+abbrev pub last_word : (words : List ℕ) (len value : ℕ) → List ℕ
 last_word words len value =
     slice_set words (len / 64) (bit_or (get_or words (len / 64) 0) (value * 2 ^ (len % 64) % 2 ^ 64))
 
@@ -155,6 +179,12 @@ cut old new len front rest i = elim (cases_lt i len) [
   | inl a ↦ let e = front i a in grind (arith, nat_tests)
   | inr a ↦ let e = rest i a in grind (arith, nat_tests)
 ]
+
+pub cut_front : (old new : List ℕ) (len i : ℕ) → IsCut old new len → i < len → is_set new i ≡ is_set old i
+cut_front old new len i c h = let e = c i in grind (arith, nat_tests)
+
+pub cut_rest : (old new : List ℕ) (len i : ℕ) → IsCut old new len → len ≤ i → is_set new i ≡ false
+cut_rest old new len i c h = let e = c i in grind (arith, nat_tests)
 
 set_taken : (words : List ℕ) (n i : ℕ) → i / 64 < n → is_set (take n words) i ≡ is_set words i
 unfolding is_set

@@ -1,6 +1,6 @@
 //! Bits in words, as a list to which numbers of a few bits are put.
 
-ghost use Rattle.std.specs.Prelude.{◌≡◌, ℕ, ◌+◌, ◌^◌, ◌<◌, ◌≤◌, false, [], ◌++◌, length, take, drop, max, IsOk, OnOk, OnErr};
+ghost use Rattle.std.specs.Prelude.{◌≡◌, ℕ, ◌+◌, ◌*◌, ◌^◌, ◌<◌, ◌≤◌, false, [], ◌++◌, length, take, drop, max, IsOk, OnOk, OnErr};
 ghost use Rattle.cube_values.specs.BitRows.{is_set, bits_of, word_count};
 ghost use Rattle.packed_words.specs.Numbers.{number_of, low_bits};
 
