@@ -10,12 +10,20 @@ use Rattle.cube_values.specs.BitRows.{set_bits}
 use Rattle.cube_values.specs.Rooms.{grown_room}
 use Rattle.cube_values.specs.Shapes.{IsSoundSize}
 use Rattle.cube_values.specs.declared.row.CodedRow.{CodedRow}
-use Rattle.brick_columns.specs.Rows.{BrickRow, row_from}
+use Rattle.cube_values.specs.BitRows.{BitRows}
+use Rattle.cube_values.specs.EpochsVector.{IsVector, rows_of, vector_with_entry}
+use Rattle.cube_values.specs.declared.entry.Entry.{Entry}
+use Rattle.purge_plan.specs.Purged.{is_spared, spared_bits}
+use Rattle.std.proofs.lemmas.List.FromFn.{length-map-range_with_len}
+use Rattle.cube_values.specs.declared.entry.Entry.TheVariants.{Run, Mark}
+use Rattle.epochs_vector.specs.Entries.{Vector}
+use Rattle.epochs_vector.proofs.Ends.{vector_rows, vector_more}
+use Rattle.brick_columns.specs.Rows.{BrickRow, BrickRows, Layout, LiesFrom, row_from, layout_of}
 use Rattle.brick_columns.proofs.KeptItems.{kept_all, kept_length, kept_map}
 use Rattle.brick_store.specs.Bricks.{Home, BrickState, IsRowOf}
 use Rattle.brick_store.specs.Whole.{starts_of, coded_row, home_in, contract_view, IsWhole}
 use Rattle.brick_store.specs.declared.brick.Brick.TheInside.{Inside}
-use Rattle.brick_store.proofs.Starts.{rows_back}
+use Rattle.brick_store.proofs.Starts.{row_lies, rows_back}
 
 -- room that grows is no less
 pub room_kept : (room least : ℕ) → room ≤ grown_room room least
@@ -49,3 +57,48 @@ rows_appended starts home old more s h i =
 -- rows whose bit is set
 pub rows_left : (starts : List ℕ) (bits : List Bool) (old : List BrickRow) → map (coded_row starts) (items_where_true bits old) ≡ items_where_true bits (map (coded_row starts) old)
 rows_left starts bits old = sym (kept_map (coded_row starts) bits old)
+
+-- the rows of a batch lie in the brick's columns
+pub all_lie : (b : Inside) (v : BrickState) (rows : List CodedRow) → contract_view b ≡ v → IsWhole b → All (IsRowOf v.home) rows → All (LiesFrom b.columns.layout b.starts.items) rows
+all_lie b v rows e w h =
+    let home : Home = home_in b in
+    let own = subst (λ (v : BrickState). All (IsRowOf v.home) rows) (sym e) h in
+    let ranges = ap (λ (l : Layout). l.ranges) w.layout in
+    rw w.starts (All-weaker (IsRowOf home) (LiesFrom b.columns.layout (starts_of b.shape.sizes b.number)) (λ row i. row_lies home b.columns.layout row w.shape.sizes ranges refl i) rows own)
+
+-- a brick with other columns, vector and bits is whole
+pub whole_with : (b : Inside) (columns : BrickRows) (epochs : Vector) (keep : BitRows) → IsWhole b → columns.layout ≡ b.columns.layout → IsVector epochs.entries (length columns.rows) → length columns.rows + columns.spare ≤ keep.room → All (IsRowOf (home_in b)) (map (coded_row b.starts.items) columns.rows) → IsWhole (record { shape = b.shape; number = b.number; starts = b.starts; columns = columns; epochs = epochs; keep = keep })
+whole_with b columns epochs keep w l v r s =
+    let rows : List CodedRow = map (coded_row b.starts.items) columns.rows in
+    record {
+      shape = w.shape;
+      number = w.number;
+      starts = w.starts;
+      layout = subst (λ (layout : Layout). layout ≡ layout_of b.shape layout.metrics) (sym l) w.layout;
+      wide = subst (λ (layout : Layout). layout.metrics < 2 ^ 32) (sym l) w.wide;
+      vector = v;
+      bits = r;
+      sound = subst (λ (layout : Layout). All (IsRowOf (record { sizes = b.shape.sizes; metrics = layout.metrics; number = b.number })) rows) (sym l) s;
+    }
+
+-- the same brick
+pub same_home : (b : Inside) (v : BrickState) (layout : Layout) → contract_view b ≡ v → layout ≡ b.columns.layout → record { sizes = b.shape.sizes; metrics = layout.metrics; number = b.number } ≡ v.home
+same_home b v layout e l =
+    (λ t. record { sizes = b.shape.sizes; metrics = (l t).metrics; number = b.number }) ∙ ap (λ (v : BrickState). v.home) e
+
+-- rows that are left are of the brick
+pub sound_left : (b : Inside) (bits : List Bool) → IsWhole b → All (IsRowOf (home_in b)) (map (coded_row b.starts.items) (items_where_true bits b.columns.rows))
+sound_left b bits w =
+    rw (rows_left b.starts.items bits b.columns.rows) (kept_all (IsRowOf (home_in b)) bits (map (coded_row b.starts.items) b.columns.rows) w.sound)
+
+-- rows that are appended are of the brick
+pub sound_appended : (b : Inside) (more : List CodedRow) → IsWhole b → All (IsRowOf (home_in b)) more → All (IsRowOf (home_in b)) (map (coded_row b.starts.items) (b.columns.rows ++ map (row_from b.starts.items) more))
+sound_appended b more w h =
+    rw (rows_appended b.starts.items (home_in b) b.columns.rows more w.starts w.shape.sizes h) (All-append (map (coded_row b.starts.items) b.columns.rows) more w.sound h)
+
+-- how many rows the vector has
+pub rows_known : (b : Inside) → IsWhole b → rows_of b.epochs.entries ≡ length b.columns.rows
+rows_known b w = vector_rows b.epochs.entries (length b.columns.rows) w.vector
+
+pub length-spared : (epoch : ℕ) (entries : List Entry) → length (spared_bits epoch entries) ≡ rows_of entries
+length-spared epoch entries = length-map-range_with_len (is_spared epoch entries) 0 (rows_of entries)

@@ -124,7 +124,6 @@ impl Brick {
         ensures spare_entries { self.old.spare_entries ≤ self.new.spare_entries + 1 }
     {
         self.epochs.mark(epoch);
-        let _entries = self.epochs.entries();
     }
 
     /// Takes an epoch out: its rows, and its marks. It takes no memory, and where the brick has no row
@@ -140,7 +139,6 @@ impl Brick {
         self.keep.reset(self.columns.len());
         self.epochs.remove_epoch(epoch, &mut self.keep);
         leave_rows(&mut self.columns, &self.keep);
-        let _entries = self.epochs.entries();
     }
 
     /// Removes the rows that a mark at or below an epoch hides, whoever looks, and these marks. Neighbouring
@@ -157,7 +155,6 @@ impl Brick {
         self.keep.reset(self.columns.len());
         purge_entries(&mut self.epochs, epoch, &mut self.keep);
         leave_rows(&mut self.columns, &self.keep);
-        let _entries = self.epochs.entries();
     }
 
     /// Adds to a partial the rows that the snapshot sees by the vector of epochs and that the query's span

@@ -41,7 +41,7 @@ pub fn purge_entries(epochs: &mut Epochs, epoch: u64, keep: &mut Bits)
     requires { keep.old.bits ≡ replicate (rows_of epochs.old.entries) true }
     ensures entries { epochs.new.entries ≡ purged_entries epoch epochs.old.entries }
     ensures keep { keep.new.bits ≡ spared_bits epoch epochs.old.entries }
-    ensures rows { rows_of epochs.new.entries ≡ set_bits keep.new.bits }
+    ensures vector { IsVector epochs.new.entries (set_bits keep.new.bits) }
     ensures room { keep.new.room ≡ keep.old.room }
     ensures spare { epochs.old.spare ≤ epochs.new.spare }
 {

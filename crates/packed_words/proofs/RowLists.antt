@@ -1,7 +1,8 @@
 -- Rows in bits: each is read where it was put.
-use Rattle.std.proofs.Common.{◌≡◌, ℕ, ◌+◌, ◌-◌, ◌*◌, ◌^◌, ◌<◌, ◌≤◌, zero, suc, Bool, true, false, List, [], ◌∷◌, ◌++◌, length, take, drop, get_or, refl, sym, ap, ◌∙◌, arith, suc-mul, take-add, add-one, mul-le-mul_right, zero-mul, sum}
-use Rattle.std.specs.List.{AllZip, items_where_true, flat_map}
-use Rattle.std.proofs.lemmas.List.{take-append-le, drop-append-le, take_at, drop_at, take_all, take-append-drop, drop-drop, length-drop, length-append, length-take, length-take-le, nil_from_length, append-nil, append_assoc, drop_more, drop_all, get_or-take, get_or-drop}
+use Rattle.std.proofs.Common.{◌≡◌, ℕ, ◌+◌, ◌-◌, ◌*◌, ◌^◌, ◌<◌, ◌≤◌, zero, suc, Bool, true, false, List, [], ◌∷◌, ◌++◌, length, take, drop, get_or, min, refl, sym, ap, ◌∙◌, arith, suc-mul, take-add, add-one, mul-le-mul_right, zero-mul, sum}
+use Rattle.std.specs.List.{AllZip, zip, items_where_true}
+use Rattle.std.proofs.lemmas.Slice.Zip.{length-zip}
+use Rattle.std.proofs.lemmas.List.{length-map, take-append-le, drop-append-le, take_at, drop_at, take_all, take-append-drop, drop-drop, length-drop, length-append, length-take, length-take-le, nil_from_length, append-nil, append_assoc, drop_more, drop_all, get_or-take, get_or-drop}
 use Rattle.std.proofs.lemmas.List.Sums.{sum_by-cons, sum_by_more_le}
 use Rattle.packed_words.specs.Numbers.{number_of, low_bits}
 use Rattle.cube_values.specs.BitRows.{has_bit}
@@ -117,6 +118,9 @@ above_at [] (n ∷ numbers) i d e h l = absurd h
 above_at (s ∷ starts) [] i d e h l = absurd h
 above_at (s ∷ starts) (n ∷ numbers) zero d e h l = h.0
 above_at (s ∷ starts) (n ∷ numbers) (suc i) d e h l = above_at starts numbers i d e h.1 (omega arith)
+
+pub difference_long : (numbers starts : List ℕ) → length (differences numbers starts) ≡ min (length numbers) (length starts)
+difference_long numbers starts = length-map (zip numbers starts) (λ p. p.0 - p.1) ∙ length-zip numbers starts
 
 pub difference_at : (numbers starts : List ℕ) (i d e : ℕ) → i < length numbers → i < length starts → get_or (differences numbers starts) i 0 ≡ get_or numbers i d - get_or starts i e
 difference_at [] starts i d e p q = absurd (omega arith)

@@ -1,4 +1,4 @@
-use Rattle.std.proofs.Common.{◌≡◌, ◌+◌, ◌*◌, ◌≤◌, length, refl, sym, ap, ◌∙◌, arith, inl, inr, suc-mul, mul-le-mul_right}
+use Rattle.std.proofs.Common.{◌≡◌, ◌+◌, refl, sym, ap, ◌∙◌, arith, inl, inr}
 use Rattle.std.specs.Int.{from_bool}
 use Rattle.std.proofs.lemmas.Bool.{cases_Bool}
 use Rattle.packed_words.specs.Words.{PackedBits}
@@ -11,18 +11,6 @@ loop-row-init c = record {
   room = refl;
 }
 
-pub copy_row-requires-clause-within : goal.copy_row-requires-clause-within
-copy_row-requires-clause-within c =
-    let l = c.loop-row in
-    let more : l.row + 1 ≤ c.args.rows = omega arith in
-    omega (arith, l.invariant.chosen.long, c.requires.long, suc-mul l.row c.args.width, mul-le-mul_right c.args.width more)
-
-pub copy_row-requires-clause-small : goal.copy_row-requires-clause-small
-copy_row-requires-clause-small c =
-    let l = c.loop-row in
-    let more : l.row + 1 ≤ c.args.rows = omega arith in
-    omega (arith, c.requires.small, suc-mul l.row c.args.width, mul-le-mul_right c.args.width more)
-
 pub loop-row-preserved : goal.loop-row-preserved
 loop-row-preserved c =
     let l = c.loop-row in
@@ -30,15 +18,15 @@ loop-row-preserved c =
     let old = c.args.words.now.bits in
     elim (cases_Bool c.get.result) [
       | inl t ↦
-        let e = c.copy_row.ensures.copied t in
-        let one = c.copy_row.ensures.count ∙ ap from_bool t in
+        let e = c.copy_row-left.ensures.copied t in
+        let one = c.copy_row-left.ensures.count ∙ ap from_bool t in
         record {
           chosen = rw (e, one) (chosen_copied c.args.width bits old l.words.bits c.args.rows l.row l.left (omega arith) c.requires.bits c.requires.long l.invariant.chosen (sym c.get.ensures ∙ t));
           room = ap (λ (w : PackedBits). w.room) e ∙ l.invariant.room;
         }
       | inr f ↦
-        let e = c.copy_row.ensures.same f in
-        let same : l.left + c.copy_row.result ≡ l.left = omega (arith, c.copy_row.ensures.count, ap from_bool f) in
+        let e = c.copy_row-left.ensures.same f in
+        let same : l.left + c.copy_row-left.result ≡ l.left = omega (arith, c.copy_row-left.ensures.count, ap from_bool f) in
         record {
           chosen = rw (e, same) (chosen_passed c.args.width bits old l.words.bits c.args.rows l.row l.left (omega arith) c.requires.bits c.requires.long l.invariant.chosen (sym c.get.ensures ∙ f));
           room = ap (λ (w : PackedBits). w.room) e ∙ l.invariant.room;

@@ -1,0 +1,21 @@
+use Rattle.std.proofs.Common.{◌≡◌, length, map, sym, ap, refl, ◌∙◌, arith}
+use Rattle.cube_values.specs.EpochsVector.{vector_with_entry}
+use Rattle.cube_values.specs.declared.entry.Entry.TheVariants.{Mark}
+use Rattle.epochs_vector.proofs.Ends.{vector_more}
+use Rattle.brick_store.specs.Bricks.{BrickState}
+use Rattle.brick_store.proofs.Changes.{whole_with, rows_known, seen_length}
+use Rattle.brick_store.proofs.brick.Brick.mark.Goals as goal
+
+pub invariant_of-self : goal.invariant_of-self
+invariant_of-self c =
+    let old = c.self.inside in
+    let rows = length old.columns.rows in
+    let vector = vector_more old.epochs.entries (Mark c.args.epoch rows) rows rows c.self.invariant.vector (refl, refl) in
+    let entries = c.mark.ensures.entries ∙ ap (λ n. vector_with_entry old.epochs.entries (Mark c.args.epoch n)) (rows_known old c.self.invariant) in
+    whole_with old old.columns c.mark.new.self old.keep c.self.invariant refl (rw entries vector) c.self.invariant.bits c.self.invariant.sound
+
+pub returns-clause-entries : goal.returns-clause-entries
+returns-clause-entries c =
+    let old = c.self.inside in
+    let count = rows_known old c.self.invariant ∙ sym (seen_length old c.args.self.now c.self.view_is) in
+    c.mark.ensures.entries ∙ (λ t. vector_with_entry (ap (λ (v : BrickState). v.entries) c.self.view_is t) (Mark c.args.epoch (count t)))
