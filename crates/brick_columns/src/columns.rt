@@ -232,9 +232,10 @@ fn widths_of(alloc: Global, ranges: &[u32]) -> Result<Vec<u64>, AllocError>
 fn width_of(range: u32) -> u64
     ensures { IsWidth range result }
 {
-    let mut width = 0;
-    'bits: while 1 << width < u64::from(range) {
-        width += 1;
+    'bits: for width in 0..32 {
+        if u64::from(range) <= 1 << width {
+            return width;
+        }
     }
-    width
+    32
 }

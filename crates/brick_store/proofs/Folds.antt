@@ -62,15 +62,10 @@ set_more bits xs i d p q = ap (λ n. items_where_true (take n bits) (take n xs))
   by_place (false ∷ bits) (x ∷ xs) (suc i) p q = by_place bits xs i (omega arith) (omega arith)
 
 -- what the fold has of the first i rows
-pub filtered_more : {A : Type 0} (test : A → Bool) (bits : List Bool) (xs : List A) (i : ℕ) (d : A) → i < length bits → i < length xs → get_or bits i false ≡ true → filter test (items_where_true (take (i + 1) bits) (take (i + 1) xs)) ≡ filter test (items_where_true (take i bits) (take i xs)) ++ filter test (get_or xs i d ∷ [])
-filtered_more test bits xs i d p q e =
-    ap (filter test) (set_more bits xs i d p q ∙ ap (λ b. items_where_true (take i bits) (take i xs) ++ cond b (get_or xs i d ∷ []) []) e)
-    ∙ filter_append test (items_where_true (take i bits) (take i xs)) (get_or xs i d ∷ [])
-
-pub filtered_same : {A : Type 0} (test : A → Bool) (bits : List Bool) (xs : List A) (i : ℕ) (d : A) → i < length bits → i < length xs → get_or bits i false ≡ false → filter test (items_where_true (take (i + 1) bits) (take (i + 1) xs)) ≡ filter test (items_where_true (take i bits) (take i xs))
-filtered_same test bits xs i d p q e =
-    ap (filter test) (set_more bits xs i d p q ∙ ap (λ b. items_where_true (take i bits) (take i xs) ++ cond b (get_or xs i d ∷ []) []) e ∙ append-nil (items_where_true (take i bits) (take i xs)))
-
 pub filtered_short : {A : Type 0} (test : A → Bool) (bits : List Bool) (xs : List A) (i : ℕ) → i ≤ length xs → length (filter test (items_where_true (take i bits) (take i xs))) ≤ i
 filtered_short test bits xs i h =
     omega (arith, filter_short test (items_where_true (take i bits) (take i xs)), set_short (take i bits) (take i xs), length-take-le i xs h)
+
+pub folded_more : {A : Type 0} (test : A → Bool) (bits : List Bool) (xs : List A) (i : ℕ) (d : A) → i < length bits → i < length xs → filter test (items_where_true (take (i + 1) bits) (take (i + 1) xs)) ≡ filter test (items_where_true (take i bits) (take i xs)) ++ filter test (cond (get_or bits i false) (get_or xs i d ∷ []) [])
+folded_more test bits xs i d p q =
+    ap (filter test) (set_more bits xs i d p q) ∙ filter_append test (items_where_true (take i bits) (take i xs)) (cond (get_or bits i false) (get_or xs i d ∷ []) [])

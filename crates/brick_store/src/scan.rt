@@ -1,6 +1,6 @@
 //! The fold of the rows that a snapshot sees into a partial answer.
 
-ghost use Rattle.std.specs.Prelude.{◌≡◌, ◌^◌, ◌<◌, ◌≤◌, ◌∷◌, [], IsTrue, length, filter, map, All, OnOk};
+ghost use Rattle.std.specs.Prelude.{◌≡◌, if◌then◌else◌, ◌^◌, ◌<◌, ◌≤◌, ◌∷◌, [], IsTrue, length, filter, map, All, OnOk};
 ghost use Rattle.std.specs.List.{items_where_true};
 ghost use Rattle.cube_values.specs.Queries.{IsSoundQuery};
 ghost use Rattle.cube_values.specs.Spans.{span_has};
@@ -43,11 +43,55 @@ pub fn fold_rows(
     let mut coords = vec![in alloc; 0; starts.len()]?;
     let mut metrics = vec![in alloc; 0; columns.width()]?;
     'rows: for row in 0..columns.len() {
-        if bits.get(row) {
-            read_coords(columns, starts, row, coords.as_mut_slice());
-            read_metrics(columns, row, metrics.as_mut_slice());
-            add_row(query, all, coords.as_slice(), metrics.as_slice(), into)?;
-        }
+        fold_row(
+            columns,
+            starts,
+            row,
+            bits.get(row),
+            query,
+            all,
+            coords.as_mut_slice(),
+            metrics.as_mut_slice(),
+            into,
+        )?;
+    }
+    Ok(())
+}
+
+// Adds a row that is seen and that the query's span has. The lists are lent for its coordinates and metrics.
+fn fold_row(
+    columns: &Columns,
+    starts: &[u32],
+    row: u64,
+    seen: bool,
+    query: &BoundQuery,
+    all: bool,
+    coords: &mut [u32],
+    metrics: &mut [i64],
+    into: &mut Partial,
+) -> Result<(), AllocError>
+    requires row { row < length columns.now.rows }
+    requires starts { length starts.now ≡ length columns.now.layout.ranges }
+    requires dims { length starts.now ≤ MOST_COLUMNS }
+    requires metrics { columns.now.layout.metrics < 2 ^ 32 }
+    requires coords_long { length coords.old ≡ length starts.now }
+    requires metrics_long { length metrics.old ≡ columns.now.layout.metrics }
+    requires sound { IsSoundQuery query.now (length starts.now) columns.now.layout.metrics }
+    requires all { IsTrue all → IsTrue (span_has_row query.now.span
+        (coded_row starts.now (row_at columns.now.rows row))) }
+    requires small { HasSmallCoords starts.now (row_at columns.now.rows row) }
+    requires room { HasRoom query.now 1 into.old.groups }
+    ensures coords { length coords.new ≡ length coords.old }
+    ensures metrics { length metrics.new ≡ length metrics.old }
+    ensures gains { OnOk result (Gains query.now
+        (filter (span_has_row query.now.span)
+          (if seen then coded_row starts.now (row_at columns.now.rows row) ∷ [] else []))
+        into.old.groups into.new.groups) }
+{
+    if seen {
+        read_coords(columns, starts, row, coords);
+        read_metrics(columns, row, metrics);
+        add_row(query, all, coords, metrics, into)?;
     }
     Ok(())
 }
@@ -80,7 +124,8 @@ fn read_coords(columns: &Columns, starts: &[u32], row: u64, coords: &mut [u32])
     requires dims { length starts.now ≤ MOST_COLUMNS }
     requires long { length coords.old ≡ length starts.now }
     requires small { HasSmallCoords starts.now (row_at columns.now.rows row) }
-    ensures { coords.new ≡ coords_from starts.now (row_at columns.now.rows row).offsets }
+    ensures value { coords.new ≡ coords_from starts.now (row_at columns.now.rows row).offsets }
+    ensures long { length coords.new ≡ length coords.old }
 {
     'dims: for dim in 0..starts.len() {
         coords[dim] = starts[dim] + columns.offset(row, dim as u32);
@@ -92,7 +137,8 @@ fn read_metrics(columns: &Columns, row: u64, metrics: &mut [i64])
     requires row { row < length columns.now.rows }
     requires long { length metrics.old ≡ columns.now.layout.metrics }
     requires wide { columns.now.layout.metrics < 2 ^ 32 }
-    ensures { metrics.new ≡ (row_at columns.now.rows row).metrics }
+    ensures value { metrics.new ≡ (row_at columns.now.rows row).metrics }
+    ensures long { length metrics.new ≡ length metrics.old }
 {
     'metrics: for m in 0..metrics.len() {
         metrics[m] = columns.metric(row, m as u32);
