@@ -1,5 +1,5 @@
 -- The columns of a brick stay whole as they grow and as rows come and go.
-use Rattle.std.proofs.Common.{◌≡◌, ℕ, ℤ, pos, ◌+◌, ◌-◌, ◌<◌, ◌≤◌, Bool, List, [], ◌∷◌, ◌++◌, length, map, get_or, All, Vec, Global, ◌^◌, sum, le_antisymm, refl, sym, ap, subst, ◌∙◌, arith}
+use Rattle.std.proofs.Common.{◌≡◌, ℕ, ℤ, pos, ◌+◌, ◌-◌, ◌<◌, ◌≤◌, Bool, List, [], ◌∷◌, ◌++◌, length, map, get_or, All, Vec, Global, zero, suc, ◌^◌, sum, le_antisymm, refl, sym, ap, subst, ◌∙◌, arith}
 use Rattle.std.specs.List.{AllZip, zip, items_where_true}
 use Rattle.std.specs.Vec.{with_items}
 use Rattle.std.proofs.lemmas.List.{length-map, map-append, length_push, with_items_is}
@@ -12,7 +12,7 @@ use Rattle.brick_columns.specs.Lists.{column_rows, AreColumns, HaveSpare, IsGrow
 use Rattle.cube_values.specs.declared.shape.Size.{Size}
 use Rattle.cube_values.specs.Shapes.{IsSoundSize}
 use Rattle.packed_words.specs.Rows.{NumberRows, HasWidth}
-use Rattle.brick_columns.specs.Rows.{BrickRow, BrickRows, IsBrickRow, IsWidth, metric_at}
+use Rattle.brick_columns.specs.Rows.{BrickRow, BrickRows, IsBrickRow, IsWidth, row_at, metric_at}
 use Rattle.brick_columns.specs.Whole.{brick_rows, rows_in, layout_in, contract_view, IsWhole}
 use Rattle.brick_columns.proofs.KeptItems.{kept_all, kept_length, kept_map, kept_zip}
 use Rattle.brick_columns.proofs.RowLists.{map_map, zip_push, all_across, rows_length, rows_grown, rows_kept, rows_pushed, columns_grown, columns_kept, columns_pushed, columns_empty, columns_roomier, length_pushed, column_of_rows}
@@ -207,6 +207,12 @@ offset_rows c h =
     let ms = column_rows c.metrics.items c.rows in
     let same = rows_length c.metrics.items c.rows c.room h.metrics ∙ sym h.long in
     map_map brick_row (λ (row : BrickRow). row.offsets) (zip c.offsets.rows ms) ∙ firsts-zip c.offsets.rows ms same
+
+-- the offsets of a row by its place
+pub offsets_of_row : (rows : List BrickRow) (i : ℕ) → get_or (map (λ (row : BrickRow). row.offsets) rows) i [] ≡ (row_at rows i).offsets
+offsets_of_row [] i = refl
+offsets_of_row (row ∷ rows) zero = refl
+offsets_of_row (row ∷ rows) (suc i) = offsets_of_row rows i
 
 pub metrics_column : (c : Inside) (m : ℕ) (column : Vec ℤ Global) → IsWhole c → m < length c.metrics.items → map (metric_at m) (rows_in c) ≡ (get_or c.metrics.items m column).items
 metrics_column c m column h l =

@@ -222,7 +222,7 @@ fn widths_of(alloc: Global, ranges: &[u32]) -> Result<Vec<u64>, AllocError>
     ensures { IfOk result (λ widths. AllZip IsWidth ranges.now widths.items) }
 {
     let mut widths = Vec::with_capacity(alloc, ranges.len())?;
-    'ranges: for range in ranges {
+    for range in ranges {
         widths.push_reserved(width_of(*range));
     }
     Ok(widths)

@@ -1,3 +1,5 @@
 pub mod Changes
+pub mod Coordinates
+pub mod Covered
 pub mod Folds
 pub mod Starts

@@ -1,5 +1,5 @@
 -- The coordinates of a brick from its first ones.
-use Rattle.std.proofs.Common.{◌≡◌, ℕ, ◌+◌, ◌-◌, ◌*◌, ◌/◌, ◌%◌, ◌<◌, ◌≤◌, List, [], ◌∷◌, All, length, map, replicate, get_or, refl, ap, ◌∙◌, arith, sym}
+use Rattle.std.proofs.Common.{◌≡◌, ℕ, ◌+◌, ◌-◌, ◌*◌, ◌/◌, ◌%◌, ◌<◌, ◌≤◌, List, [], ◌∷◌, All, length, map, replicate, get_or, zero, suc, refl, ap, ◌∙◌, arith, sym}
 use Rattle.std.specs.List.{AllZip, zip}
 use Rattle.std.proofs.lemmas.List.{get_or-replicate}
 use Rattle.std.proofs.lemmas.List.Elements.{All-head, All-tail, All-nil, All-cons}
@@ -69,3 +69,15 @@ pub rows_back : (home : Home) (rows : List CodedRow) → All IsSoundSize home.si
 rows_back home [] h i = refl
 rows_back home (row ∷ rows) h i =
     λ t. row_back home row h (All-head (IsRowOf home) row rows i) t ∷ rows_back home rows h (All-tail (IsRowOf home) row rows i) t
+
+-- how many starts there are, and that each range has a coordinate
+pub starts_long : (sizes : List Size) (number : ℕ) → length (starts_of sizes number) ≡ length sizes
+starts_long [] number = refl
+starts_long (s ∷ sizes) number = ap suc (starts_long sizes (number % bricks_of sizes))
+
+pub length_there : (sizes : List Size) (number dim : ℕ) → All IsSoundSize sizes → number < bricks_of sizes → dim < length sizes → 0 < length_of (size_at sizes dim) (range_in sizes number dim)
+length_there [] number dim h b l = absurd (omega arith)
+length_there (s ∷ sizes) number zero h b l = (zeros_fit (s ∷ sizes) number h b).0
+length_there (s ∷ sizes) number (suc dim) h b l =
+    let rest = All-tail IsSoundSize s sizes h in
+    length_there sizes (number % bricks_of sizes) dim rest (mod_below number (bricks_of sizes) (bricks_pos sizes rest)) (omega arith)

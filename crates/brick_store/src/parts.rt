@@ -30,7 +30,7 @@ pub fn starts_of(alloc: Global, shape: &Shape, number: u64) -> Result<Vec<u32>, 
 {
     let dims = shape.sizes.len();
     let mut starts = Vec::with_capacity(alloc, dims)?;
-    'dims: for dim in 0..dims {
+    for dim in 0..dims {
         starts.push_reserved(coord_of(shape, number, dim as u32, 0));
     }
     Ok(starts)

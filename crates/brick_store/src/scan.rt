@@ -6,7 +6,7 @@ ghost use Rattle.cube_values.specs.Queries.{IsSoundQuery};
 ghost use Rattle.cube_values.specs.Spans.{span_has};
 ghost use Rattle.cube_values.specs.declared.shape.TheConstants.{MOST_COLUMNS};
 ghost use Rattle.agg_fold.specs.Standing.{Gains, HasRoom};
-ghost use Rattle.brick_columns.specs.Rows.{row_at};
+ghost use Rattle.brick_columns.specs.Rows.{IsBrickRow, row_at};
 ghost use Rattle.brick_store.specs.Rows.{span_has_row};
 ghost use Rattle.brick_store.specs.Whole.{HasSmallCoords, coded_row, coords_from};
 
@@ -80,6 +80,7 @@ fn fold_row(
     requires all { IsTrue all → IsTrue (span_has_row query.now.span
         (coded_row starts.now (row_at columns.now.rows row))) }
     requires small { HasSmallCoords starts.now (row_at columns.now.rows row) }
+    requires fits { IsBrickRow columns.now.layout (row_at columns.now.rows row) }
     requires room { HasRoom query.now 1 into.old.groups }
     ensures coords { length coords.new ≡ length coords.old }
     ensures metrics { length metrics.new ≡ length metrics.old }
@@ -124,6 +125,7 @@ fn read_coords(columns: &Columns, starts: &[u32], row: u64, coords: &mut [u32])
     requires dims { length starts.now ≤ MOST_COLUMNS }
     requires long { length coords.old ≡ length starts.now }
     requires small { HasSmallCoords starts.now (row_at columns.now.rows row) }
+    requires fits { IsBrickRow columns.now.layout (row_at columns.now.rows row) }
     ensures value { coords.new ≡ coords_from starts.now (row_at columns.now.rows row).offsets }
     ensures long { length coords.new ≡ length coords.old }
 {
@@ -137,10 +139,11 @@ fn read_metrics(columns: &Columns, row: u64, metrics: &mut [i64])
     requires row { row < length columns.now.rows }
     requires long { length metrics.old ≡ columns.now.layout.metrics }
     requires wide { columns.now.layout.metrics < 2 ^ 32 }
+    requires fits { IsBrickRow columns.now.layout (row_at columns.now.rows row) }
     ensures value { metrics.new ≡ (row_at columns.now.rows row).metrics }
     ensures long { length metrics.new ≡ length metrics.old }
 {
-    'metrics: for m in 0..metrics.len() {
+    for m in 0..metrics.len() {
         metrics[m] = columns.metric(row, m as u32);
     }
 }
