@@ -1,14 +1,15 @@
 -- A brick stays whole as rows are appended and taken out.
-use Rattle.std.proofs.Common.{◌≡◌, ℕ, ◌+◌, ◌<◌, ◌≤◌, Bool, true, false, List, [], ◌∷◌, ◌++◌, All, length, map, refl, sym, ap, subst, ◌∙◌, arith, nat_le, max, min, ◌*◌, ◌-◌, ◌^◌, cond, if◌then◌else◌, inl, inr}
+use Rattle.std.proofs.Common.{◌≡◌, ℕ, ◌+◌, ◌<◌, ◌≤◌, Bool, true, false, List, [], ◌∷◌, ◌++◌, All, length, map, refl, sym, ap, subst, ◌∙◌, arith, nat_le, max, min, ◌*◌, ◌-◌, ◌^◌, cond, if◌then◌else◌, Vec, Global, inl, inr}
 use Rattle.std.specs.List.{items_where_true}
 use Rattle.std.proofs.lemmas.Bool.{cases_lt}
 use Rattle.std.proofs.lemmas.Bool.Decides.{nat_tests}
 use Rattle.std.proofs.lemmas.List.{length-map, map-append}
-use Rattle.std.proofs.lemmas.List.Elements.{All-append, All-weaker}
+use Rattle.std.proofs.lemmas.List.Elements.{All-append, All-nil, All-weaker}
 use Rattle.std.proofs.lemmas.List.Sums.{sum_by-cons, count_by-le-length}
 use Rattle.cube_values.specs.BitRows.{set_bits}
 use Rattle.cube_values.specs.Rooms.{grown_room}
-use Rattle.cube_values.specs.Shapes.{IsSoundSize}
+use Rattle.cube_values.specs.Shapes.{IsSoundSize, IsSoundShape, bricks_of}
+use Rattle.cube_values.specs.declared.shape.Shape.{Shape}
 use Rattle.cube_values.specs.declared.row.CodedRow.{CodedRow}
 use Rattle.cube_values.specs.BitRows.{BitRows}
 use Rattle.cube_values.specs.EpochsVector.{IsVector, rows_of, vector_with_entry}
@@ -102,3 +103,18 @@ rows_known b w = vector_rows b.epochs.entries (length b.columns.rows) w.vector
 
 pub length-spared : (epoch : ℕ) (entries : List Entry) → length (spared_bits epoch entries) ≡ rows_of entries
 length-spared epoch entries = length-map-range_with_len (is_spared epoch entries) 0 (rows_of entries)
+
+-- a brick without rows
+pub made_whole : (shape copied : Shape) (number metrics : ℕ) (starts : Vec ℕ Global) (columns : BrickRows) (epochs : Vector) (keep : BitRows) → copied ≡ shape → IsSoundShape shape → number < bricks_of shape.sizes → metrics < 2 ^ 32 → starts.items ≡ starts_of shape.sizes number → columns.layout ≡ layout_of shape metrics → columns.rows ≡ [] → columns.spare ≡ 0 → epochs.entries ≡ [] → IsWhole (record { shape = copied; number = number; starts = starts; columns = columns; epochs = epochs; keep = keep })
+made_whole shape copied number metrics starts columns epochs keep e sound n m s l r z entries =
+    let wide = ap (λ (layout : Layout). layout.metrics) l in
+    record {
+      shape = rw e sound;
+      number = rw e n;
+      starts = rw e s;
+      layout = l ∙ (λ t. layout_of (sym e t) (sym wide t));
+      wide = rw wide m;
+      vector = rw (entries, r) (record { leads = refl; apart = tt });
+      bits = omega (arith, ap length r, z);
+      sound = rw r (All-nil (IsRowOf (record { sizes = copied.sizes; metrics = columns.layout.metrics; number = number })));
+    }

@@ -14,12 +14,12 @@ ghost use Rattle.brick_columns.specs.Rows.{rows_between};
 ghost use Rattle.brick_store.specs.Bricks.{IsRowOf};
 ghost use Rattle.brick_store.specs.Rows.{rows_shown, span_has_row};
 
-use crate::parts::{copy_of, leave_rows, purge_entries, starts_of};
+use crate::parts::{copy_of, leave_rows, purge_entries, reserve_bits, starts_of};
 use crate::scan::fold_rows;
 use agg_fold::Partial;
 use brick_address::{Cover, covers};
 use brick_columns::Columns;
-use cube_values::{Bits, BoundQuery, CodedRows, Entry, Shape, Snapshot, grown_room};
+use cube_values::{Bits, BoundQuery, CodedRows, Entry, Shape, Snapshot};
 use epochs_vector::Epochs;
 use std::alloc::{AllocError, Global};
 use std::marker::Model;
@@ -64,13 +64,18 @@ impl Brick {
         ensures rows { IfOk result (λ made. made.rows ≡ []) }
         ensures entries { IfOk result (λ made. made.entries ≡ []) }
     {
+        let copied = copy_of(shape)?;
+        let starts = starts_of(alloc, shape, number)?;
+        let columns = Columns::new(alloc, shape, metrics)?;
+        let keep = Bits::new(alloc, 0)?;
+        let epochs = Epochs::new(alloc);
         Ok(Brick {
-            shape: copy_of(shape)?,
+            shape: copied,
             number,
-            starts: starts_of(alloc, shape, number)?,
-            columns: Columns::new(alloc, shape, metrics)?,
-            epochs: Epochs::new(alloc),
-            keep: Bits::new(alloc, 0)?,
+            starts,
+            columns,
+            epochs,
+            keep,
         })
     }
 
@@ -85,11 +90,10 @@ impl Brick {
         ensures spare_rows { self.old.spare_rows ≤ self.new.spare_rows }
         ensures spare_entries { self.old.spare_entries ≤ self.new.spare_entries }
     {
-        let least = self.columns.len().checked_add(rows).ok_or(AllocError)?;
-        self.keep
-            .reserve(grown_room(self.columns.room(), least))?;
+        reserve_bits(&mut self.keep, &self.columns, rows)?;
         self.columns.reserve(rows)?;
-        self.epochs.reserve(entries)
+        self.epochs.reserve(entries)?;
+        Ok(())
     }
 
     /// Appends the rows of a batch from one place up to another, which are of this brick, as rows of an

@@ -1,8 +1,9 @@
 //! What the calls of a brick do to its parts.
 
-ghost use Rattle.std.specs.Prelude.{◌≡◌, ◌+◌, ◌<◌, ◌≤◌, true, length, replicate, take, IfOk};
+ghost use Rattle.std.specs.Prelude.{◌≡◌, ◌+◌, ◌<◌, ◌≤◌, true, length, replicate, IfOk, OnOk};
 ghost use Rattle.std.specs.List.{items_where_true};
 ghost use Rattle.cube_values.specs.BitRows.{set_bits};
+ghost use Rattle.cube_values.specs.Rooms.{grown_room};
 ghost use Rattle.cube_values.specs.EpochsVector.{IsVector, rows_of};
 ghost use Rattle.cube_values.specs.Shapes.{IsSoundShape, bricks_of};
 ghost use Rattle.purge_plan.specs.Purged.{spared_bits, purged_entries};
@@ -10,7 +11,7 @@ ghost use Rattle.brick_store.specs.Whole.{starts_of};
 
 use brick_address::coord_of;
 use brick_columns::Columns;
-use cube_values::{Bits, Shape};
+use cube_values::{Bits, Shape, grown_room};
 use epochs_vector::Epochs;
 use purge_plan::plan;
 use std::alloc::{AllocError, Global};
@@ -34,6 +35,18 @@ pub fn starts_of(alloc: Global, shape: &Shape, number: u64) -> Result<Vec<u32>, 
         starts.push_reserved(coord_of(shape, number, dim as u32, 0));
     }
     Ok(starts)
+}
+
+/// Makes room for a bit for each row that is there or for which there is room once `more` rows have it.
+/// Where memory is wanted nothing changes.
+pub fn reserve_bits(keep: &mut Bits, columns: &Columns, more: u64) -> Result<(), AllocError>
+    ensures kept { keep.old.room ≤ keep.new.room }
+    ensures room { OnOk result
+        (grown_room (length columns.now.rows + columns.now.spare) (length columns.now.rows + more)
+          ≤ keep.new.room) }
+{
+    let least = columns.len().checked_add(more).ok_or(AllocError)?;
+    keep.reserve(grown_room(columns.room(), least))
 }
 
 /// Purges the vector, and leaves a bit of `keep` set where the row stays.
