@@ -37,6 +37,12 @@ module _ {A : Type 0} (test : A → Bool) where
   filter_none (x ∷ xs) h =
       ap (λ b. cond b (x ∷ filter test xs) (filter test xs)) (All-head (λ x. test x ≡ false) x xs h) ∙ filter_none xs (All-tail (λ x. test x ≡ false) x xs h)
 
+  pub filter_yes : (x : A) → test x ≡ true → filter test (x ∷ []) ≡ x ∷ []
+  filter_yes x e = ap (λ b. cond b (x ∷ []) []) e
+
+  pub filter_no : (x : A) → test x ≡ false → filter test (x ∷ []) ≡ []
+  filter_no x e = ap (λ b. cond b (x ∷ []) []) e
+
   pub filter_short : (xs : List A) → length (filter test xs) ≤ length xs
   filter_short [] = omega arith
   filter_short (x ∷ xs) = by_test (test x) where

@@ -112,10 +112,21 @@ fn add_row(
         (filter (span_has_row query.now.span) (record { coords = coords.now; metrics = metrics.now } ∷ []))
         into.old.groups into.new.groups) }
 {
-    if all || query.span.has(coords) {
+    if takes(query, all, coords) {
         into.add_row(query, coords, metrics)?;
     }
     Ok(())
+}
+
+// Whether the query's span has the coordinates, which is known where it has all.
+fn takes(query: &BoundQuery, all: bool, coords: &[u32]) -> bool
+    requires { IsTrue all → IsTrue (span_has query.now.span coords.now) }
+    ensures { result ≡ span_has query.now.span coords.now }
+{
+    if all {
+        return true;
+    }
+    query.span.has(coords)
 }
 
 // Writes the coordinates of a row.
