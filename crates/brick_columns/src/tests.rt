@@ -255,7 +255,11 @@ fn have_offsets(rt: &impl Abort, columns: &Columns, dim: u32, wanted: &[u32])
 {
     assert_eq!(rt; columns.len(), wanted.len() as u64);
     for at in 0..wanted.len() {
-        assert_eq!(rt; columns.offset(at as u64, dim), wanted[at], "row {at}, dim {dim}");
+        assert_eq!(rt;
+            columns.offset(at as u64, dim),
+            wanted[at],
+            "row {at}, dim {dim}"
+        );
     }
 }
 

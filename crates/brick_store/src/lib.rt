@@ -7,5 +7,3 @@ mod scan;
 
 pub use brick::Brick;
 
-#[cfg(test)]
-mod tests;

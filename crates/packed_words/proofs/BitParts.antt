@@ -37,11 +37,11 @@ bits_appended old new len value width a =
       each : (i : ℕ) → i < len + width → is_set new i ≡ get_or (bits_of old len ++ low_bits width value) i false
       each i h = elim (cases_lt i len) [
         | inl b ↦
-          appended_front old new len value i a b
-          ∙ sym (get_or_append_left (bits_of old len) (low_bits width value) false i (omega (arith, front)) ∙ bits_at old len i false b)
+            appended_front old new len value i a b
+            ∙ sym (get_or_append_left (bits_of old len) (low_bits width value) false i (omega (arith, front)) ∙ bits_at old len i false b)
         | inr b ↦
-          appended_rest old new len value i a b
-          ∙ sym (get_or-append_right (bits_of old len) (low_bits width value) len i false front b ∙ low_at width value (i - len) false (omega arith))
+            appended_rest old new len value i a b
+            ∙ sym (get_or-append_right (bits_of old len) (low_bits width value) len i false front b ∙ low_at width value (i - len) false (omega arith))
       ]
 
 pub packed_appended : (old new : List ℕ) (len value width room before after : ℕ) → ArePacked old len room before → length new ≡ word_count (len + width) → IsAppended old new len value → value < 2 ^ width → len + width ≤ room → after ≡ before → ArePacked new (len + width) room after
@@ -103,18 +103,18 @@ bits_copied old new len from to count d l inside below above =
       each : (i : ℕ) → i < len → is_set new i ≡ get_or (first ++ (part ++ last)) i false
       each i h = elim (cases_lt i to) [
         | inl a ↦
-          below i a
-          ∙ sym (get_or_append_left first (part ++ last) false i (omega (arith, front)) ∙ get_or-take to bits i false a ∙ bits_at old len i false h)
+            below i a
+            ∙ sym (get_or_append_left first (part ++ last) false i (omega (arith, front)) ∙ get_or-take to bits i false a ∙ bits_at old len i false h)
         | inr a ↦ elim (cases_lt i (to + count)) [
           | inl b ↦
-            let place : to + (i - to) ≡ i = omega arith in
-            sym (ap (is_set new) place)
-            ∙ inside (i - to) (omega arith)
-            ∙ sym (get_or-append_right first (part ++ last) to i false front a ∙ get_or_append_left part last false (i - to) (omega (arith, middle)) ∙ get_or-take count (drop from bits) (i - to) false (omega arith) ∙ get_or-drop from bits (i - to) false ∙ bits_at old len (from + (i - to)) false (omega arith))
+              let place : to + (i - to) ≡ i = omega arith in
+              sym (ap (is_set new) place)
+              ∙ inside (i - to) (omega arith)
+              ∙ sym (get_or-append_right first (part ++ last) to i false front a ∙ get_or_append_left part last false (i - to) (omega (arith, middle)) ∙ get_or-take count (drop from bits) (i - to) false (omega arith) ∙ get_or-drop from bits (i - to) false ∙ bits_at old len (from + (i - to)) false (omega arith))
           | inr b ↦
-            let place : to + count + (i - to - count) ≡ i = omega arith in
-            above i b
-            ∙ sym (get_or-append_right first (part ++ last) to i false front a ∙ get_or-append_right part last count (i - to) false middle (omega arith) ∙ get_or-drop (to + count) bits (i - to - count) false ∙ ap (λ k. get_or bits k false) place ∙ bits_at old len i false h)
+              let place : to + count + (i - to - count) ≡ i = omega arith in
+              above i b
+              ∙ sym (get_or-append_right first (part ++ last) to i false front a ∙ get_or-append_right part last count (i - to) false middle (omega arith) ∙ get_or-drop (to + count) bits (i - to - count) false ∙ ap (λ k. get_or bits k false) place ∙ bits_at old len i false h)
         ]
       ]
 

@@ -35,9 +35,9 @@ module _ (widths : List ℕ) (width rows room : ℕ) (packed : PackedBits) (h : 
     few = h.few;
     fits = h.fits;
     long =
-      ap (λ (p : PackedBits). length p.bits) e
-      ∙ length-append packed.bits (row_bits widths row)
-      ∙ omega (arith, h.long, h.total, row_length widths row (length_all_zip HasWidth row widths a), suc-mul rows width);
+        ap (λ (p : PackedBits). length p.bits) e
+        ∙ length-append packed.bits (row_bits widths row)
+        ∙ omega (arith, h.long, h.total, row_length widths row (length_all_zip HasWidth row widths a), suc-mul rows width);
     within = omega arith;
     memory = omega (arith, h.memory, ap (λ (p : PackedBits). p.room) e);
   }

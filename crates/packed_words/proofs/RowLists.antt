@@ -201,7 +201,7 @@ module _ (width : ℕ) (chosen old now : List Bool) (n i k : ℕ) (h : i < n) (l
   pub chosen_passed : get_or chosen i false ≡ false → Chosen width chosen old now n (i + 1) k
   chosen_passed e = record {
     whole = λ widths s.
-      ap (λ rows. rows_of_bits widths k now ++ rows) (sym (λ t. items_where_true (first_bit false e t) (next_rows widths now s t))) ∙ c.whole widths s;
+        ap (λ rows. rows_of_bits widths k now ++ rows) (sym (λ t. items_where_true (first_bit false e t) (next_rows widths now s t))) ∙ c.whole widths s;
     behind = omega (arith, c.behind);
     long = c.long;
   }
@@ -255,13 +255,13 @@ module _ (width : ℕ) (chosen old now : List Bool) (n i k : ℕ) (h : i < n) (l
   pub chosen_copied : get_or chosen i false ≡ true → Chosen width chosen old moved n (i + 1) (k + 1)
   chosen_copied e = record {
     whole = λ widths s.
-      let one : k + 1 ≡ suc k = add-one k in
-      let row : List ℕ = row_of_bits widths (drop (i * width) now) in
-      let rest : List (List ℕ) = items_where_true (drop (i + 1) chosen) (rows_of_bits widths (n - (i + 1)) (drop ((i + 1) * width) now)) in
-      (λ t. (ap (λ m. rows_of_bits widths m moved) one ∙ moved_row widths s) t ++ items_where_true (drop (i + 1) chosen) (rows_of_bits widths (n - (i + 1)) (moved_rest t)))
-      ∙ append_assoc (rows_of_bits widths k now) (row ∷ []) rest
-      ∙ ap (λ rows. rows_of_bits widths k now ++ rows) (sym (λ t. items_where_true (first_bit true e t) (next_rows widths now s t)))
-      ∙ c.whole widths s;
+        let one : k + 1 ≡ suc k = add-one k in
+        let row : List ℕ = row_of_bits widths (drop (i * width) now) in
+        let rest : List (List ℕ) = items_where_true (drop (i + 1) chosen) (rows_of_bits widths (n - (i + 1)) (drop ((i + 1) * width) now)) in
+        (λ t. (ap (λ m. rows_of_bits widths m moved) one ∙ moved_row widths s) t ++ items_where_true (drop (i + 1) chosen) (rows_of_bits widths (n - (i + 1)) (moved_rest t)))
+        ∙ append_assoc (rows_of_bits widths k now) (row ∷ []) rest
+        ∙ ap (λ rows. rows_of_bits widths k now ++ rows) (sym (λ t. items_where_true (first_bit true e t) (next_rows widths now s t)))
+        ∙ c.whole widths s;
     behind = omega (arith, c.behind);
     long = moved_long ∙ c.long;
   }

@@ -84,8 +84,8 @@ appended_whole words len value c e f =
       rest i h = elim (cases_eq (i / 64) (length words)) [
         | inl a ↦ let same : i % 64 ≡ i - len = omega arith in set_last words value i a ∙ ap (has_bit value) same
         | inr a ↦
-          set_past (words ++ value ∷ []) i (omega (arith, length-append words (value ∷ [])))
-          ∙ sym (has_above value 64 (i - len) f (omega arith))
+            set_past (words ++ value ∷ []) i (omega (arith, length-append words (value ∷ [])))
+            ∙ sym (has_above value 64 (i - len) f (omega arith))
       ]
 
 -- the last word with the bits of a number from its first free bit on
@@ -96,9 +96,9 @@ last_word words len value =
 last_front : (words : List ℕ) (len value i : ℕ) → length words ≡ word_count len → 0 < len % 64 → i < len → is_set (last_word words len value) i ≡ is_set words i
 last_front words len value i c u h = elim (cases_eq (i / 64) (len / 64)) [
   | inl a ↦
-    set_there words (len / 64) _ i (omega arith) a
-    ∙ or_left (get_or words (len / 64) 0) (value * 2 ^ (len % 64) % 2 ^ 64) (i % 64) (shl_below value (len % 64) (i % 64) (omega arith) (omega arith))
-    ∙ sym (set_at words (len / 64) i a)
+      set_there words (len / 64) _ i (omega arith) a
+      ∙ or_left (get_or words (len / 64) 0) (value * 2 ^ (len % 64) % 2 ^ 64) (i % 64) (shl_below value (len % 64) (i % 64) (omega arith) (omega arith))
+      ∙ sym (set_at words (len / 64) i a)
   | inr a ↦ set_elsewhere words (len / 64) _ i a
 ]
 
@@ -118,8 +118,8 @@ appended_last words len value width c u free f l =
       rest i h = elim (cases_eq (i / 64) (len / 64)) [
         | inl a ↦ last_rest words len value i c u free h a
         | inr a ↦
-          set_past (last_word words len value) i (omega (arith, length-set words (len / 64) (bit_or (get_or words (len / 64) 0) (value * 2 ^ (len % 64) % 2 ^ 64))))
-          ∙ sym (has_above value width (i - len) f (omega arith))
+            set_past (last_word words len value) i (omega (arith, length-set words (len / 64) (bit_or (get_or words (len / 64) 0) (value * 2 ^ (len % 64) % 2 ^ 64))))
+            ∙ sym (has_above value width (i - len) f (omega arith))
       ]
 
 pub appended_two : (words : List ℕ) (len value width : ℕ) → length words ≡ word_count len → 0 < len % 64 → ((i : ℕ) → len ≤ i → is_set words i ≡ false) → value < 2 ^ width → width ≤ 64 → IsAppended words (last_word words len value ++ value / 2 ^ (64 - len % 64) ∷ []) len value
@@ -140,17 +140,17 @@ appended_two words len value width c u free f l =
       rest : (i : ℕ) → len ≤ i → is_set both i ≡ has_bit value (i - len)
       rest i h = elim (cases_eq (i / 64) (len / 64)) [
         | inl a ↦
-          set_front first (value / 2 ^ (64 - len % 64)) i (omega (arith, long))
-          ∙ last_rest words len value i c u free h a
+            set_front first (value / 2 ^ (64 - len % 64)) i (omega (arith, long))
+            ∙ last_rest words len value i c u free h a
         | inr a ↦ elim (cases_eq (i / 64) (length first)) [
           | inl b ↦
-            let place : (64 - len % 64) + i % 64 ≡ i - len = omega (arith, long) in
-            set_last first (value / 2 ^ (64 - len % 64)) i b
-            ∙ has_shr value (64 - len % 64) (i % 64)
-            ∙ ap (has_bit value) place
+              let place : (64 - len % 64) + i % 64 ≡ i - len = omega (arith, long) in
+              set_last first (value / 2 ^ (64 - len % 64)) i b
+              ∙ has_shr value (64 - len % 64) (i % 64)
+              ∙ ap (has_bit value) place
           | inr b ↦
-            set_past both i (omega (arith, long, length-append first (value / 2 ^ (64 - len % 64) ∷ [])))
-            ∙ sym (has_above value width (i - len) f (omega (arith, long)))
+              set_past both i (omega (arith, long, length-append first (value / 2 ^ (64 - len % 64) ∷ [])))
+              ∙ sym (has_above value width (i - len) f (omega (arith, long)))
         ]
       ]
 
@@ -159,17 +159,17 @@ pub word_replaced : (words : List ℕ) (place width value word : ℕ) → place 
 word_replaced words place width value word h l inside outside = record {
   long = length-set words (place / 64) word;
   inside = λ k p.
-    let within : (place + k) % 64 ≡ place % 64 + k = omega arith in
-    set_there words (place / 64) word (place + k) (omega arith) (omega arith) ∙ ap (has_bit word) within ∙ inside k p;
+      let within : (place + k) % 64 ≡ place % 64 + k = omega arith in
+      set_there words (place / 64) word (place + k) (omega arith) (omega arith) ∙ ap (has_bit word) within ∙ inside k p;
   below = λ i p. same i (inl p);
   above = λ i p. same i (inr p);
 } where
   same : (i : ℕ) → (i < place) ⊎ (place + width ≤ i) → is_set (slice_set words (place / 64) word) i ≡ is_set words i
   same i o = elim (cases_eq (i / 64) (place / 64)) [
     | inl e ↦
-      set_there words (place / 64) word i (omega arith) e
-      ∙ outside (i % 64) (omega arith) (elim o [ inl a ↦ inl (omega arith) | inr a ↦ inr (omega arith) ])
-      ∙ sym (set_at words (place / 64) i e)
+        set_there words (place / 64) word i (omega arith) e
+        ∙ outside (i % 64) (omega arith) (elim o [ inl a ↦ inl (omega arith) | inr a ↦ inr (omega arith) ])
+        ∙ sym (set_at words (place / 64) i e)
     | inr e ↦ set_elsewhere words (place / 64) word i e
   ]
 
@@ -212,17 +212,17 @@ cut_word words len n h u e =
       front : (i : ℕ) → i < len → is_set new i ≡ is_set words i
       front i p = elim (cases_eq (i / 64) (len / 64)) [
         | inl a ↦
-          set_there old (len / 64) last i (omega (arith, long)) a
-          ∙ has_low_part (get_or old (len / 64) 0) (len % 64) (i % 64) (omega arith)
-          ∙ sym (set_at old (len / 64) i a)
-          ∙ set_taken words n i (omega arith)
+            set_there old (len / 64) last i (omega (arith, long)) a
+            ∙ has_low_part (get_or old (len / 64) 0) (len % 64) (i % 64) (omega arith)
+            ∙ sym (set_at old (len / 64) i a)
+            ∙ set_taken words n i (omega arith)
         | inr a ↦ set_elsewhere old (len / 64) last i a ∙ set_taken words n i (omega arith)
       ]
 
       rest : (i : ℕ) → len ≤ i → is_set new i ≡ false
       rest i p = elim (cases_eq (i / 64) (len / 64)) [
         | inl a ↦
-          set_there old (len / 64) last i (omega (arith, long)) a
-          ∙ has_above last (len % 64) (i % 64) (mod_below (get_or old (len / 64) 0) (2 ^ (len % 64)) (pow_pos (len % 64))) (omega arith)
+            set_there old (len / 64) last i (omega (arith, long)) a
+            ∙ has_above last (len % 64) (i % 64) (mod_below (get_or old (len / 64) 0) (2 ^ (len % 64)) (pow_pos (len % 64))) (omega arith)
         | inr a ↦ set_past new i (omega (arith, long, length-set old (len / 64) last))
       ]

@@ -193,10 +193,12 @@ fn copy_row(words: &mut PackedWords, width: u64, row: u64, to: u64, chosen: bool
     requires within { row * width + width ≤ length words.old.bits }
     requires small { row * width + width < 2 ^ 64 }
     ensures count { result ≡ from_bool chosen }
-    ensures copied { chosen ≡ true → words.new ≡ record words.old { bits =
-        take (to * width) words.old.bits
-        ++ take width (drop (row * width) words.old.bits)
-        ++ drop (to * width + width) words.old.bits } }
+    ensures copied { chosen ≡ true → words.new ≡ record words.old {
+      bits =
+          take (to * width) words.old.bits
+          ++ take width (drop (row * width) words.old.bits)
+          ++ drop (to * width + width) words.old.bits;
+    } }
     ensures same { chosen ≡ false → words.new ≡ words.old }
 {
     if chosen {

@@ -99,9 +99,11 @@ impl PackedWords {
     pub fn copy_down(&mut self, from: u64, to: u64, count: u64)
         requires down { to ≤ from }
         requires within { from + count ≤ length self.old.bits }
-        ensures { self.new ≡ record self.old { bits = take to self.old.bits
-            ++ take count (drop from self.old.bits)
-            ++ drop (to + count) self.old.bits } }
+        ensures { self.new ≡ record self.old {
+          bits = take to self.old.bits
+              ++ take count (drop from self.old.bits)
+              ++ drop (to + count) self.old.bits;
+        } }
     {
         copy_bits(self.words.as_mut_slice(), from, to, count);
     }

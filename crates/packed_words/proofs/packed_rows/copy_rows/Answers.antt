@@ -18,19 +18,19 @@ loop-row-preserved c =
     let old = c.args.words.now.bits in
     elim (cases_Bool c.get.result) [
       | inl t ↦
-        let e = c.copy_row-left.ensures.copied t in
-        let one = c.copy_row-left.ensures.count ∙ ap from_bool t in
-        record {
-          chosen = rw (e, one) (chosen_copied c.args.width bits old l.words.bits c.args.rows l.row l.left (omega arith) c.requires.bits c.requires.long l.invariant.chosen (sym c.get.ensures ∙ t));
-          room = ap (λ (w : PackedBits). w.room) e ∙ l.invariant.room;
-        }
+          let e = c.copy_row-left.ensures.copied t in
+          let one = c.copy_row-left.ensures.count ∙ ap from_bool t in
+          record {
+            chosen = rw (e, one) (chosen_copied c.args.width bits old l.words.bits c.args.rows l.row l.left (omega arith) c.requires.bits c.requires.long l.invariant.chosen (sym c.get.ensures ∙ t));
+            room = ap (λ (w : PackedBits). w.room) e ∙ l.invariant.room;
+          }
       | inr f ↦
-        let e = c.copy_row-left.ensures.same f in
-        let same : l.left + c.copy_row-left.result ≡ l.left = omega (arith, c.copy_row-left.ensures.count, ap from_bool f) in
-        record {
-          chosen = rw (e, same) (chosen_passed c.args.width bits old l.words.bits c.args.rows l.row l.left (omega arith) c.requires.bits c.requires.long l.invariant.chosen (sym c.get.ensures ∙ f));
-          room = ap (λ (w : PackedBits). w.room) e ∙ l.invariant.room;
-        }
+          let e = c.copy_row-left.ensures.same f in
+          let same : l.left + c.copy_row-left.result ≡ l.left = omega (arith, c.copy_row-left.ensures.count, ap from_bool f) in
+          record {
+            chosen = rw (e, same) (chosen_passed c.args.width bits old l.words.bits c.args.rows l.row l.left (omega arith) c.requires.bits c.requires.long l.invariant.chosen (sym c.get.ensures ∙ f));
+            room = ap (λ (w : PackedBits). w.room) e ∙ l.invariant.room;
+          }
     ]
 
 pub returns-clause-rows : goal.returns-clause-rows

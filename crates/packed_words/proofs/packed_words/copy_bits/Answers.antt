@@ -23,13 +23,13 @@ pieces-preserved c =
       inside = λ k h. elim (cases_lt k l.copied) [
         | inl a ↦ r.below (c.args.to + k) (omega arith) ∙ l.invariant.inside k a
         | inr a ↦
-          let place : c.args.to + l.copied + (k - l.copied) ≡ c.args.to + k = omega arith in
-          let there : c.args.from + l.copied + (k - l.copied) ≡ c.args.from + k = omega arith in
-          sym (ap (is_set new) place)
-          ∙ r.inside (k - l.copied) (omega arith)
-          ∙ c.read_bits-value.ensures.bits (k - l.copied) (omega arith)
-          ∙ ap (is_set l.words) there
-          ∙ l.invariant.above (c.args.from + k) (omega (arith, c.requires.down))
+            let place : c.args.to + l.copied + (k - l.copied) ≡ c.args.to + k = omega arith in
+            let there : c.args.from + l.copied + (k - l.copied) ≡ c.args.from + k = omega arith in
+            sym (ap (is_set new) place)
+            ∙ r.inside (k - l.copied) (omega arith)
+            ∙ c.read_bits-value.ensures.bits (k - l.copied) (omega arith)
+            ∙ ap (is_set l.words) there
+            ∙ l.invariant.above (c.args.from + k) (omega (arith, c.requires.down))
       ];
       below = λ i h. r.below i (omega arith) ∙ l.invariant.below i h;
       above = λ i h. r.above i (omega arith) ∙ l.invariant.above i (omega arith);

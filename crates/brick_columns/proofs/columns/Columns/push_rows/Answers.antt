@@ -20,9 +20,9 @@ rows-preserved c =
     record {
       layout = c.push_from.ensures.layout ∙ l.invariant.layout;
       rows =
-        one
-        ∙ ap (λ rows. rows ++ row_from c.args.starts.now (coded_row_at batch l.i) ∷ []) l.invariant.rows
-        ∙ append_assoc c.args.self.now.rows _ _
-        ∙ ap (λ rows. c.args.self.now.rows ++ rows) (sym more);
+          one
+          ∙ ap (λ rows. rows ++ row_from c.args.starts.now (coded_row_at batch l.i) ∷ []) l.invariant.rows
+          ∙ append_assoc c.args.self.now.rows _ _
+          ∙ ap (λ rows. c.args.self.now.rows ++ rows) (sym more);
       spare = omega (arith, c.push_from.ensures.spare, l.invariant.spare);
     }
