@@ -1,0 +1,5 @@
+pub mod Bricks
+pub mod Bytes
+pub mod Demands
+pub mod Headers
+pub mod Stands

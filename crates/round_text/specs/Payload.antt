@@ -1,0 +1,212 @@
+-- Reading of a payload: which part of it is the first that breaks a rule.
+use Rattle.std.specs.Prelude.{◌≡◌, ℕ, zero, suc, ◌+◌, ◌-◌, ℤ, Bool, false, not, ◌&&◌, ◌==◌, nat_lt, nat_le, List, [], ◌∷◌, ◌++◌, length, map, take, drop, MatchOption, Option, Some, None, is_none, Result, Ok, Err, if◌then◌else◌}
+use Rattle.std.specs.List.{list_any, zip}
+use Rattle.std.specs.Str.{bytes_eq, is_utf8}
+use Rattle.cube_values.specs.declared.entry.Entry.{Entry}
+use Rattle.cube_values.specs.declared.entry.Entry.TheVariants.{Run, Mark}
+use Rattle.cube_values.specs.declared.row.CodedRow.{CodedRow}
+use Rattle.cube_values.specs.EpochsVector.{maker, with_rows_after, is_one_with}
+use Rattle.cube_values.specs.Shapes.{bricks_of}
+use Rattle.cube_language.specs.declared.decl.TheConstants.{MOST_CUBES}
+use Rattle.cube_language.specs.declared.decl.DimDecl.{DimDecl}
+use Rattle.cube_language.specs.declared.decl.Decl.{Decl}
+use Rattle.cube_language.specs.Cubes.{sizes_of, repeated_after}
+use Rattle.brick_address.specs.Addresses.{brick_of}
+use Rattle.cube_rounds.specs.declared.round.RoundCube.{RoundCube}
+use Rattle.cube_rounds.specs.declared.round.Round.{Round}
+use Rattle.cube_rounds.specs.Bricks.{BrickPart}
+use Rattle.cube_rounds.specs.Demands.{DimNames, names_with, coord_limits, no_names, cube_names_of}
+use Rattle.cube_rounds.specs.Headers.{IsCanonical}
+use Rattle.round_text.specs.Reading.{◌>>=◌, ReadOf, passing, steps_at, each_at, byte_at, four_at, eight_at, signed_at, short_at}
+
+-- A coordinate below its limit.
+unfoldable pub coord_step : ℕ → List ℕ → List ℕ → ReadOf (List ℕ)
+coord_step limit coords bytes = do
+  coord ← passing (λ n. nat_lt n limit) four_at bytes
+  Ok (coords ++ coord.0 ∷ [], coord.1)
+
+-- A coordinate for each limit.
+unfoldable pub coords_at : List ℕ → List ℕ → ReadOf (List ℕ)
+coords_at limits bytes = each_at coord_step limits [] bytes
+
+unfoldable pub metric_step : List ℤ → List ℕ → ReadOf (List ℤ)
+metric_step metrics bytes = do
+  metric ← signed_at bytes
+  Ok (metrics ++ metric.0 ∷ [], metric.1)
+
+-- So many metrics.
+unfoldable pub metrics_at : ℕ → List ℕ → ReadOf (List ℤ)
+metrics_at width bytes = steps_at metric_step width [] bytes
+
+-- A row whose coordinates lie in the brick.
+unfoldable pub row_step : Decl → List ℕ → ℕ → List CodedRow → List ℕ → ReadOf (List CodedRow)
+row_step cube limits brick rows bytes = do
+  coords ← passing (λ coords. brick_of (sizes_of cube.dims) coords == brick) (coords_at limits) bytes
+  metrics ← metrics_at (length cube.metrics) coords.1
+  Ok (rows ++ record { coords = coords.0; metrics = metrics.0 } ∷ [], metrics.1)
+
+-- At least one row behind the number of rows.
+unfoldable pub rows_at : Decl → List ℕ → ℕ → List CodedRow → List ℕ → ReadOf (List CodedRow)
+rows_at cube limits brick rows bytes = do
+  count ← passing (nat_lt 0) eight_at bytes
+  steps_at (row_step cube limits brick) count.0 rows count.1
+
+-- The rows that an entry appends.
+abbrev pub appended_at : Decl → List ℕ → ℕ → Entry → List CodedRow → List ℕ → ReadOf (List CodedRow)
+appended_at cube limits brick (Run epoch end) rows bytes = rows_at cube limits brick rows bytes
+appended_at cube limits brick (Mark epoch at) rows bytes = Ok (rows, bytes)
+
+-- The last of the entries is one with the next.
+abbrev pub joins_last : List Entry → Entry → Bool
+joins_last [] next = false
+joins_last (last ∷ []) next = is_one_with last next
+joins_last (first ∷ second ∷ entries) next = joins_last (second ∷ entries) next
+
+-- An entry may come next: it is of an epoch of the round, and not one with the last.
+abbrev pub may_come_next : ℕ → ℕ → List Entry → Entry → Bool
+may_come_next from epoch entries next =
+    nat_lt from (maker next) && (nat_le (maker next) epoch && not (joins_last entries next))
+
+-- What the first byte of an entry and its epoch say, behind so many rows.
+abbrev pub entry_of_kind : ℕ → ℕ → ℕ → Entry
+entry_of_kind kind epoch rows = if kind == 0 then Run epoch rows else Mark epoch rows
+
+-- The kind and the epoch of an entry.
+unfoldable pub kind_at : ℕ → ℕ → List Entry → ℕ → List ℕ → ReadOf Entry
+kind_at from epoch entries rows bytes = do
+  kind ← passing (λ kind. nat_lt kind 2) byte_at bytes
+  made ← eight_at kind.1
+  if may_come_next from epoch entries (entry_of_kind kind.0 made.0 rows)
+    then Ok (entry_of_kind kind.0 made.0 rows, made.1)
+    else Err (length bytes)
+
+-- Entries, and the rows that they appended.
+pub record Vector : Type 0 where
+  pub entries : List Entry
+  pub rows : List CodedRow
+
+abbrev pub vector_of : List Entry → List CodedRow → Vector
+vector_of entries rows = record { entries = entries; rows = rows }
+
+-- An entry with its rows.
+unfoldable pub entry_step : Decl → List ℕ → ℕ → ℕ → ℕ → Vector → List ℕ → ReadOf Vector
+entry_step cube limits from epoch brick v bytes = do
+  entry ← kind_at from epoch v.entries (length v.rows) bytes
+  rows ← appended_at cube limits brick entry.0 v.rows entry.1
+  Ok (vector_of (v.entries ++ with_rows_after entry.0 (length rows.0) ∷ []) rows.0, rows.1)
+
+-- At least one entry behind the number of entries.
+unfoldable pub entries_at : Decl → List ℕ → ℕ → ℕ → ℕ → List ℕ → ReadOf Vector
+entries_at cube limits from epoch brick bytes = do
+  count ← passing (nat_lt 0) eight_at bytes
+  steps_at (entry_step cube limits from epoch brick) count.0 (vector_of [] []) count.1
+
+-- Bricks, and the least number that the next may have.
+pub record Bricks : Type 0 where
+  pub least : ℕ
+  pub bricks : List BrickPart
+
+abbrev pub bricks_from : ℕ → List BrickPart → Bricks
+bricks_from least bricks = record { least = least; bricks = bricks }
+
+-- A brick of these entries and rows.
+abbrev pub brick_with : ℕ → Vector → BrickPart
+brick_with number v = record { brick = number; entries = v.entries; rows = v.rows }
+
+-- A brick of this number.
+unfoldable pub brick_at : Decl → List ℕ → ℕ → ℕ → ℕ → List ℕ → ReadOf BrickPart
+brick_at cube limits from epoch number bytes = do
+  v ← entries_at cube limits from epoch number bytes
+  Ok (brick_with number v.0, v.1)
+
+-- A brick of the cube above those before it.
+unfoldable pub brick_step : Decl → List ℕ → ℕ → ℕ → Bricks → List ℕ → ReadOf Bricks
+brick_step cube limits from epoch b bytes = do
+  number ← passing (λ n. nat_le b.least n && nat_lt n (bricks_of (sizes_of cube.dims))) eight_at bytes
+  brick ← brick_at cube limits from epoch number.0 number.1
+  Ok (bricks_from (number.0 + 1) (b.bricks ++ brick.0 ∷ []), brick.1)
+
+-- So many bricks.
+unfoldable pub bricks_counted : Decl → List ℕ → ℕ → ℕ → ℕ → List ℕ → ReadOf (List BrickPart)
+bricks_counted cube limits from epoch count bytes = do
+  b ← steps_at (brick_step cube limits from epoch) count (bricks_from 0 []) bytes
+  Ok (b.0.bricks, b.1)
+
+-- Bricks behind their number.
+unfoldable pub bricks_at : Decl → List ℕ → ℕ → ℕ → List ℕ → ReadOf (List BrickPart)
+bricks_at cube limits from epoch bytes = do
+  count ← eight_at bytes
+  bricks_counted cube limits from epoch count.0 count.1
+
+-- A name is in UTF-8 and none of these.
+abbrev pub is_new_name : List (List ℕ) → List ℕ → Bool
+is_new_name names name = is_utf8 name && not (list_any (bytes_eq name) names)
+
+-- A name that differs from all before it.
+unfoldable pub name_step : List (List ℕ) → List (List ℕ) → List ℕ → ReadOf (List (List ℕ))
+name_step earlier names bytes = do
+  name ← passing (is_new_name (earlier ++ names)) short_at bytes
+  Ok (names ++ name.0 ∷ [], name.1)
+
+-- New names of a dimension of texts, no more of them than there is room for.
+unfoldable pub names_at : ℕ → List (List ℕ) → List ℕ → ReadOf (List (List ℕ))
+names_at cardinality earlier bytes = do
+  count ← passing (λ n. nat_le (length earlier + n) cardinality) eight_at bytes
+  steps_at (name_step earlier) count.0 [] count.1
+
+-- The new names of a dimension; one of numbers has none.
+abbrev pub dim_names_at : DimDecl × List (List ℕ) → List ℕ → ReadOf (List (List ℕ))
+dim_names_at d bytes = if d.0.text then names_at d.0.cardinality d.1 bytes else Ok ([], bytes)
+
+unfoldable pub dim_step : DimDecl × List (List ℕ) → DimNames → List ℕ → ReadOf DimNames
+dim_step d lists bytes = do
+  names ← dim_names_at d bytes
+  Ok (lists ++ names.0 ∷ [], names.1)
+
+abbrev pub round_cube : DimNames → List BrickPart → RoundCube
+round_cube names bricks = record { names = names; bricks = bricks }
+
+-- What the round has of a cube.
+unfoldable pub cube_step : ℕ → ℕ → Decl × DimNames → List RoundCube → List ℕ → ReadOf (List RoundCube)
+cube_step from epoch c cubes bytes = do
+  names ← each_at dim_step (zip c.0.dims c.1) [] bytes
+  bricks ← bricks_at c.0 (coord_limits c.0 (names_with c.1 names.0)) from epoch names.1
+  Ok (cubes ++ round_cube names.0 bricks.0 ∷ [], bricks.1)
+
+-- A function tells of each text the cubes of which it is the canonical text, or that there are none.
+abbrev pub TellsCubes : (List ℕ → Option (List Decl)) → Type 0
+TellsCubes told =
+    (text : List ℕ) → MatchOption (told text) ((cubes : List Decl) → IsCanonical text cubes → ⊥) (IsCanonical text)
+
+-- Cubes are so many, and none has the name of a cube before it.
+abbrev pub are_made : List Decl → ℕ → List Decl → Bool
+are_made before count made =
+    length made == count && is_none (repeated_after (cube_names_of before) (cube_names_of made))
+
+-- The cubes that a text tells, where they are right.
+abbrev pub made_or : List Decl → ℕ → Option (List Decl) → ℕ → List ℕ → ReadOf (List Decl)
+made_or before count None left rest = Err left
+made_or before count (Some made) left rest = if are_made before count made then Ok (made, rest) else Err left
+
+-- So many new cubes by their text; nothing where there are none.
+unfoldable pub made_at : (List ℕ → Option (List Decl)) → List Decl → ℕ → List ℕ → ReadOf (List Decl)
+made_at told before zero bytes = Ok ([], bytes)
+made_at told before (suc count) bytes = do
+  size ← eight_at bytes
+  if nat_lt (length size.1) size.0
+    then Err (length size.1)
+    else made_or before (suc count) (told (take size.0 size.1)) (length size.1) (drop size.0 size.1)
+
+-- New cubes, and what the round has of each cube.
+pub record Content : Type 0 where
+  pub made : List Decl
+  pub cubes : List RoundCube
+
+-- A payload of a round from one epoch up to another, behind these cubes and names, and nothing more.
+unfoldable pub payload_at : (List ℕ → Option (List Decl)) → List Decl → List DimNames → ℕ → ℕ → List ℕ → Result Content ℕ
+payload_at told before names from epoch bytes = do
+  count ← passing (λ n. nat_le (length before) n && nat_le n MOST_CUBES) eight_at bytes
+  made ← made_at told before (count.0 - length before) count.1
+  old ← each_at (cube_step from epoch) (zip before names) [] made.1
+  cubes ← each_at (cube_step from epoch) (zip made.0 (map no_names made.0)) old.0 old.1
+  if length cubes.1 == 0 then Ok (record { made = made.0; cubes = cubes.0 }) else Err (length cubes.1)

@@ -1,0 +1,62 @@
+-- Reading from left to right. A reader gives a value and the bytes behind it, or else how many bytes were left
+-- where the first part began that breaks a rule.
+use Rattle.std.specs.Prelude.{◌≡◌, ℕ, zero, suc, ◌+◌, ℤ, Bool, nat_lt, List, [], ◌∷◌, ◌++◌, length, take, drop, Result, Ok, Err, if◌then◌else◌}
+use Rattle.std.specs.Int.{w32, w64, from_le_bytes, cast_signed}
+use Rattle.cube_values.specs.declared.call_error.CallError.{CallError}
+use Rattle.cube_values.specs.declared.call_error.CallError.TheVariants.{Fault, NoMemory}
+
+-- One thing after another.
+infixl 10 ◌>>=◌
+abbrev pub ◌>>=◌ : {A B F : Type 0} → Result A F → (A → Result B F) → Result B F
+(Ok x) >>= f = f x
+(Err e) >>= f = Err e
+
+-- What a call answers in place of its result is what reading gives, unless memory ran out.
+abbrev pub Fails : {Y F : Type 0} → CallError F → Result Y F → Type 0
+Fails NoMemory read = Unit {0}
+Fails (Fault f) read = read ≡ Err f
+
+-- What a call answers, seen by view, is what reading gives, unless memory ran out.
+abbrev pub Gives : {X Y F : Type 0} → (X → Y) → Result X (CallError F) → Result Y F → Type 0
+Gives view (Ok x) read = read ≡ Ok (view x)
+Gives view (Err e) read = Fails e read
+
+-- What a reader of such a value gives.
+abbrev pub ReadOf : Type 0 → Type 0
+ReadOf A = Result (A × List ℕ) ℕ
+
+-- A value that passes a test; one that does not is refused where it begins.
+abbrev pub passing : {A : Type 0} → (A → Bool) → (List ℕ → ReadOf A) → List ℕ → ReadOf A
+passing test read bytes = read bytes >>= λ x. if test x.0 then Ok x else Err (length bytes)
+
+-- So many steps, each of which reads something and adds it to what was read before.
+unfoldable pub steps_at : {S : Type 0} → (S → List ℕ → ReadOf S) → ℕ → S → List ℕ → ReadOf S
+steps_at step zero s bytes = Ok (s, bytes)
+steps_at step (suc n) s bytes = step s bytes >>= λ x. steps_at step n x.0 x.1
+
+-- A step for each of some things.
+unfoldable pub each_at : {P S : Type 0} → (P → S → List ℕ → ReadOf S) → List P → S → List ℕ → ReadOf S
+each_at step [] s bytes = Ok (s, bytes)
+each_at step (p ∷ ps) s bytes = step p s bytes >>= λ x. each_at step ps x.0 x.1
+
+-- A byte.
+abbrev pub byte_at : List ℕ → ReadOf ℕ
+byte_at [] = Err 0
+byte_at (byte ∷ rest) = Ok (byte, rest)
+
+-- A number in four bytes, in eight, and one with a sign.
+unfoldable pub four_at : List ℕ → ReadOf ℕ
+four_at bytes = if nat_lt (length bytes) 4 then Err (length bytes) else Ok (from_le_bytes w32 (take 4 bytes), drop 4 bytes)
+
+unfoldable pub eight_at : List ℕ → ReadOf ℕ
+eight_at bytes = if nat_lt (length bytes) 8 then Err (length bytes) else Ok (from_le_bytes w64 (take 8 bytes), drop 8 bytes)
+
+unfoldable pub signed_at : List ℕ → ReadOf ℤ
+signed_at bytes =
+    if nat_lt (length bytes) 8 then Err (length bytes)
+    else Ok (cast_signed w64 (from_le_bytes w64 (take 8 bytes)), drop 8 bytes)
+
+-- A name behind its length.
+unfoldable pub short_at : List ℕ → ReadOf (List ℕ)
+short_at [] = Err 0
+short_at (size ∷ rest) = if nat_lt (length rest) size then Err (suc (length rest)) else Ok (take size rest, drop size rest)

@@ -1,0 +1,93 @@
+//! The cubes that are new with a round, by their text.
+
+ghost use Rattle.std.specs.Prelude.{◌≡◌, ℕ, ◌++◌, ◌==◌, List, length, nat_le, Option, MatchOption, IfOk, is_none};
+ghost use Rattle.std.specs.List.{list_any};
+ghost use Rattle.std.specs.Str.{bytes_eq};
+ghost use Rattle.cube_language.specs.declared.decl.Decl.{Decl as Declaration};
+ghost use Rattle.cube_language.specs.Cubes.{repeated_after};
+ghost use Rattle.cube_rounds.specs.Demands.{cube_names_of};
+ghost use Rattle.cube_rounds.specs.Headers.{IsCanonical};
+ghost use Rattle.round_text.specs.Reading.{Gives};
+ghost use Rattle.round_text.specs.Payload.{TellsCubes, are_made, made_or, made_at};
+
+use crate::fields::eight_of;
+use cube_schema::{Schema, a_text_declares_or_has_one_fault, print_cubes, read_cubes};
+use cube_values::CallError;
+use std::alloc::{AllocError, Global};
+
+/// The cubes of which a text is the canonical text.
+pub(crate) fn canonical_cubes(alloc: Global, text: &[u8]) -> Result<Option<Vec<Schema>>, AllocError>
+    ensures { IfOk result (λ found. MatchOption found
+        ((cubes : List Declaration) → IsCanonical text.now cubes → ⊥)
+        (λ schemas. IsCanonical text.now schemas.items)) }
+{
+    a_text_declares_or_has_one_fault();
+    match read_cubes(alloc, text) {
+        Ok(cubes) => {
+            let printed = print_cubes(alloc, cubes.as_slice())?;
+            if printed.as_slice() == text {
+                Ok(Some(cubes))
+            } else {
+                Ok(None)
+            }
+        }
+        Err(CallError::Fault(_)) => Ok(None),
+        Err(CallError::NoMemory) => Err(AllocError),
+    }
+}
+
+/// Whether one of the cubes has the name.
+fn has_name(cubes: &[Schema], name: &[u8]) -> bool
+    ensures { result ≡ list_any (bytes_eq name.now) (cube_names_of cubes.now) }
+{
+    'cubes: for cube in cubes {
+        if cube.decl().name.as_bytes() == name {
+            return true;
+        }
+    }
+    false
+}
+
+/// Whether no new cube has the name of a cube before it.
+fn are_apart(before: &[Schema], made: &[Schema]) -> bool
+    ensures { result ≡ is_none (repeated_after (cube_names_of before.now) (cube_names_of made.now)) }
+{
+    'cubes: for (i, cube) in made.iter().enumerate() {
+        let name = cube.decl().name.as_bytes();
+        if has_name(before, name) || has_name(&made[..i], name) {
+            return false;
+        }
+    }
+    true
+}
+
+/// So many new cubes by their text, whose size stands before it; nothing where there are none.
+#[tactic(auto, unfolding(crate::specs::Payload::made_at))]
+pub(crate) fn take_made<'a>(
+    bytes: &'a [u8],
+    alloc: Global,
+    before: &[Schema],
+    count: usize,
+) -> Result<(Vec<Schema>, &'a [u8]), CallError<usize>>
+    ensures { (told : List ℕ → Option (List Declaration)) → TellsCubes told
+        → Gives (λ x. (x.0.items, x.1.now)) result (made_at told before.now count bytes.now) }
+{
+    if count == 0 {
+        return Ok((Vec::new(alloc), bytes));
+    }
+    let (size, rest) = eight_of(bytes)?;
+    if (rest.len() as u64) < size {
+        return Err(CallError::Fault(rest.len()));
+    }
+    let (text, behind) = rest.split_at(size as usize);
+    match canonical_cubes(alloc, text)? {
+        Some(made) => {
+            if made.len() == count && are_apart(before, made.as_slice()) {
+                Ok((made, behind))
+            } else {
+                Err(CallError::Fault(rest.len()))
+            }
+        }
+        None => Err(CallError::Fault(rest.len())),
+    }
+}
