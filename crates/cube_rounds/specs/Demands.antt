@@ -1,9 +1,8 @@
 -- What a round has to be, besides its spelling: what a reader demands of it behind the rounds before it.
 -- Source: Cubrick (VLDB 2016) for bricks and dictionaries, AOSI (ICDE 2018) for entries; the rest is own.
-use Rattle.std.specs.Prelude.{◌≡◌, ℕ, ◌^◌, ◌<◌, ◌≤◌, ℤ, Bool, true, false, List, [], ◌∷◌, ◌++◌, length, map, All, IsUtf8, FitsSigned, Option, None, if◌then◌else◌}
+use Rattle.std.specs.Prelude.{◌≡◌, ◌≢◌, ℕ, ◌+◌, ◌^◌, ◌<◌, ◌≤◌, List, [], ◌∷◌, ◌++◌, length, map, IsUtf8, FitsSigned, None, if◌then◌else◌}
 use Rattle.std.specs.Int.{w64}
-use Rattle.std.specs.List.{zip, AllZip}
-use Rattle.std.specs.List.Sorted.{IsStrictlyIncreasing}
+use Rattle.std.specs.List.{zip, AllZip, AllByRecursion}
 use Rattle.cube_values.specs.declared.entry.Entry.{Entry}
 use Rattle.cube_values.specs.declared.row.CodedRow.{CodedRow}
 use Rattle.cube_values.specs.EpochsVector.{maker, IsVector}
@@ -17,6 +16,7 @@ use Rattle.brick_address.specs.Addresses.{brick_of}
 use Rattle.cube_rounds.specs.declared.round.RoundCube.{RoundCube}
 use Rattle.cube_rounds.specs.declared.round.Round.{Round}
 use Rattle.cube_rounds.specs.Bricks.{BrickPart}
+use Rattle.cube_rounds.specs.Bytes.{round_bytes}
 
 -- Names by dimension, for each cube by cube.
 abbrev pub DimNames : Type 0
@@ -55,14 +55,19 @@ pub record FitsBrick (cube : Decl) (limits : List ℕ) (from epoch : ℕ) (b : B
   pub number : b.brick < bricks_of (sizes_of cube.dims)
   pub some : b.entries ≢ []
   pub vector : IsVector b.entries (length b.rows)
-  pub epochs : All (IsOfEpochs from epoch) b.entries
-  pub rows : All (FitsRow cube limits b.brick) b.rows
+  pub epochs : AllByRecursion (IsOfEpochs from epoch) b.entries
+  pub rows : AllByRecursion (FitsRow cube limits b.brick) b.rows
+
+-- The numbers of bricks rise, from one that is not below the least.
+abbrev pub AreRising : ℕ → List BrickPart → Type 0
+AreRising least [] = Unit {0}
+AreRising least (b ∷ bricks) = (least ≤ b.brick) × AreRising (b.brick + 1) bricks
 
 -- New names of a dimension of texts: none stands among them or the earlier ones already, and all together
 -- are no more than the cardinality.
 pub record AreNewNames (cardinality : ℕ) (earlier names : List (List ℕ)) : Type 0 where
-  pub texts : All IsUtf8 names
-  pub short : All (λ name. length name < 2 ^ 8) names
+  pub texts : AllByRecursion IsUtf8 names
+  pub short : AllByRecursion (λ name. length name < 2 ^ 8) names
   pub apart : repeated_after earlier names ≡ None
   pub most : length (earlier ++ names) ≤ cardinality
 
@@ -73,8 +78,8 @@ FitNames d names = if d.0.text then AreNewNames d.0.cardinality d.1 names else (
 -- What a round from one epoch up to another may have of a cube with these names.
 pub record FitsCube (from epoch : ℕ) (cube : Decl) (earlier : DimNames) (part : RoundCube) : Type 0 where
   pub names : AllZip FitNames (zip cube.dims earlier) part.names
-  pub rising : IsStrictlyIncreasing (map (λ b. b.brick) part.bricks)
-  pub bricks : All (FitsBrick cube (coord_limits cube (names_with earlier part.names)) from epoch) part.bricks
+  pub rising : AreRising 0 part.bricks
+  pub bricks : AllByRecursion (FitsBrick cube (coord_limits cube (names_with earlier part.names)) from epoch) part.bricks
 
 -- A cube is made without names.
 abbrev pub no_names : Decl → DimNames
@@ -98,6 +103,14 @@ pub record FitsRound (before : List Decl) (names : List DimNames) (round : Round
   pub made : MayBeMade before round.made
   pub cubes : AllZip (λ c part. FitsCube round.from round.epoch c.0 c.1 part)
       (zip (before ++ round.made) (names ++ map no_names round.made)) round.cubes
+
+-- Bytes begin with a round that may stand behind these cubes with these names, and a gate of any value.
+pub record BeginsWithRound (digest : List ℕ → List ℕ) (before : List Decl) (names : List DimNames) (round : Round)
+    (bytes : List ℕ) : Type 0 where
+  pub fits : FitsRound before names round
+  pub gate : ℕ
+  pub rest : List ℕ
+  pub whole : bytes ≡ round_bytes digest before round ++ gate ∷ rest
 
 -- There is a list of names for each dimension of each cube.
 abbrev pub HaveDims : List Decl → List DimNames → Type 0

@@ -1,6 +1,6 @@
 -- The header of a file of a store.
 -- Source: this project's own.
-use Rattle.std.specs.Prelude.{◌≡◌, ◌≢◌, ◌⊎◌, ℕ, zero, suc, ◌<◌, ◌≤◌, ◌^◌, List, [], ◌∷◌, ◌++◌, length, take, drop, codes}
+use Rattle.std.specs.Prelude.{◌≡◌, ℕ, zero, suc, ◌<◌, ◌≤◌, ◌^◌, List, ◌∷◌, ◌++◌, length, codes}
 use Rattle.cube_language.specs.declared.decl.Decl.{Decl}
 use Rattle.cube_language.specs.Cubes.{cubes_text}
 use Rattle.cube_language.specs.CubesText.{Declares}
@@ -34,3 +34,10 @@ pub record FitsHeader (generation : ℕ) (text : List ℕ) : Type 0 where
   pub cubes : List Decl
   pub canonical : IsCanonical text cubes
   pub long : length text < 2 ^ 32
+
+-- Bytes begin with a header that is right, and a gate of any value.
+pub record BeginsWithHeader (digest : List ℕ → List ℕ) (generation : ℕ) (text bytes : List ℕ) : Type 0 where
+  pub fits : FitsHeader generation text
+  pub gate : ℕ
+  pub rest : List ℕ
+  pub whole : bytes ≡ header_bytes digest generation text ++ gate ∷ rest

@@ -1,14 +1,13 @@
 -- What a store keeps, and which two files stand for it.
 -- Source: this project's own.
-use Rattle.std.specs.Prelude.{◌≡◌, ◌≢◌, ◌⊎◌, ℕ, ◌<◌, ◌≤◌, ◌^◌, List, [], ◌∷◌, ◌++◌, length, map, take, drop}
+use Rattle.std.specs.Prelude.{◌≡◌, ◌≢◌, ◌⊎◌, ℕ, ◌<◌, ◌≤◌, ◌^◌, List, [], ◌∷◌, ◌++◌, length, map, take}
 use Rattle.std.specs.List.{zip}
 use Rattle.cube_language.specs.declared.decl.Decl.{Decl}
 use Rattle.cube_language.specs.Cubes.{cubes_text}
-use Rattle.cube_rounds.specs.declared.round.RoundCube.{RoundCube}
 use Rattle.cube_rounds.specs.declared.round.Round.{Round}
 use Rattle.cube_rounds.specs.Bytes.{round_bytes}
 use Rattle.cube_rounds.specs.Demands.{DimNames, names_with, no_names, FitsRound}
-use Rattle.cube_rounds.specs.Headers.{open_gate, magic, header_bytes, FitsHeader}
+use Rattle.cube_rounds.specs.Headers.{open_gate, magic, header_bytes, FitsHeader, BeginsWithHeader}
 
 -- What a store keeps: the cubes, those of its header first, the epoch up to which it has everything, the
 -- names, and the rounds that its rows are in.
@@ -67,30 +66,26 @@ pub record FileStands (digest : List ℕ → List ℕ) (generation : ℕ) (kept 
   pub gate : ℕ
   pub rest : List ℕ
   pub shut : gate ≢ open_gate
-  pub bytes : file ≡ header_bytes digest generation (cubes_text cubes) ++ (rounds_bytes digest cubes rounds ++ gate ∷ rest)
+  pub whole : file ≡ header_bytes digest generation (cubes_text cubes)
+      ++ (rounds_bytes digest cubes rounds ++ gate ∷ rest)
 
 -- A file is closed: too short for a header, or behind a gate that is shut, or of another kind.
 abbrev pub IsClosed : List ℕ → Type 0
 IsClosed file = (length file < 16) ⊎ (take 8 file ≢ open_gate ∷ magic)
 
--- A file begins with a right header of this generation, and a gate.
-pub record HasHeader (digest : List ℕ → List ℕ) (generation : ℕ) (file : List ℕ) : Type 0 where
+-- A file begins with a right header of a generation before this one.
+pub record IsOlder (digest : List ℕ → List ℕ) (generation : ℕ) (file : List ℕ) : Type 0 where
+  pub own : ℕ
+  pub less : own < generation
   pub text : List ℕ
-  pub fits : FitsHeader generation text
-  pub gate : ℕ
-  pub rest : List ℕ
-  pub bytes : file ≡ header_bytes digest generation text ++ gate ∷ rest
-
--- The other file does not count beside one of this generation: it is closed, or of an earlier generation.
-abbrev pub IsBehind : (List ℕ → List ℕ) → ℕ → List ℕ → Type 0
-IsBehind digest generation file = IsClosed file ⊎ ((g : ℕ) × (g < generation) × HasHeader digest g file)
+  pub header : BeginsWithHeader digest own text file
 
 -- The first of two files is the current one, and stands for what is kept.
 pub record IsCurrent (digest : List ℕ → List ℕ) (kept : Kept) (file other : List ℕ) : Type 0 where
   pub generation : ℕ
   pub stands : FileStands digest generation kept file
   pub most : generation ≤ 2 ^ 61
-  pub behind : IsBehind digest generation other
+  pub behind : IsClosed other ⊎ IsOlder digest generation other
 
 -- Two files stand for what is kept: one of them is the current one.
 abbrev pub Stands : (List ℕ → List ℕ) → Kept → List ℕ → List ℕ → Type 0

@@ -1,57 +1,60 @@
 -- Reading of a header: its version first, then its length, its digest, and what it has.
-use Rattle.std.specs.Prelude.{ℕ, ◌+◌, ◌-◌, ◌^◌, Bool, true, ◌&&◌, nat_lt, nat_le, List, ◌∷◌, ◌++◌, length, take, drop, Option, is_some, Result, Ok, Err, if◌then◌else◌}
-use Rattle.std.specs.Int.{w32, w64, from_le_bytes}
+use Rattle.std.specs.Prelude.{ℕ, ◌+◌, ◌-◌, ◌^◌, Bool, true, ◌&&◌, nat_le, List, ◌∷◌, ◌++◌, length, take, drop, Option, is_some, Result, Ok, Err, if◌then◌else◌}
 use Rattle.std.specs.Str.{bytes_eq}
 use Rattle.cube_language.specs.declared.decl.Decl.{Decl}
 use Rattle.cube_rounds.specs.Bytes.{four_bytes}
 use Rattle.cube_rounds.specs.Headers.{open_gate, magic}
 use Rattle.round_text.specs.declared.fault.FormatFault.{FormatFault}
-use Rattle.round_text.specs.declared.fault.FormatFault.TheVariants.{BadText, BadDigest}
+use Rattle.round_text.specs.declared.fault.FormatFault.TheVariants.{BadText}
 use Rattle.round_text.specs.declared.header.Header.{Header}
+use Rattle.round_text.specs.Reading.{ReadOf, four_at, eight_at}
 use Rattle.round_text.specs.Rounds.{where_digest_is}
 
 -- What a header of a version begins with.
-abbrev pub front_of_version : ℕ → List ℕ
-front_of_version version = open_gate ∷ (magic ++ four_bytes version)
+abbrev pub front_of : ℕ → List ℕ
+front_of version = open_gate ∷ (magic ++ four_bytes version)
 
--- A header of which nothing is right but its digest, or whose version is none, breaks the rules at its version's end.
+-- Whatever is wrong with a header but its digest, it is at the place behind its version.
 abbrev pub no_header : Result Header FormatFault
 no_header = Err (BadText 12)
 
--- The header with this text, where the text and the generation are right.
+-- What follows a number that was read, and no header where none was.
+abbrev pub when_read : {A : Type 0} → ReadOf A → (A × List ℕ → Result Header FormatFault) → Result Header FormatFault
+when_read (Ok x) next = next x
+when_read (Err left) next = no_header
+
+abbrev pub header_of : ℕ → ℕ → List ℕ → Header
+header_of start generation text = record { cubes = text; size = start + length text + 33; generation = generation }
+
+-- The header with this text, which begins at `start`, where the text and the generation are right.
 abbrev pub header_with : (List ℕ → Option (List Decl)) → ℕ → ℕ → Bool → List ℕ → Result Header FormatFault
 header_with told start generation right text =
-    if right && is_some (told text)
-      then Ok (record { cubes = text; size = start + length text + 33; generation = generation })
-      else no_header
+    if right && is_some (told text) then Ok (header_of start generation text) else no_header
 
--- The header whose text of this size begins at `start`.
-abbrev pub header_of_size : (List ℕ → List ℕ) → (List ℕ → Option (List Decl)) → ℕ → ℕ → Bool → List ℕ → ℕ
+-- The header of these bytes whose text has this size and begins at `start`, where these bytes are left.
+abbrev pub header_at_text : (List ℕ → List ℕ) → (List ℕ → Option (List Decl)) → List ℕ → ℕ → ℕ → ℕ → Bool → List ℕ
     → Result Header FormatFault
-header_of_size digest told start generation right bytes size =
-    if nat_le (start + size + 33) (length bytes)
-      then where_digest_is (take 32 (drop (start + size) bytes)) (digest (take (start + size - 1) (drop 1 bytes)))
-        (header_with told start generation right (take size (drop start bytes)))
+header_at_text digest told bytes start size generation right left =
+    if nat_le (size + 33) (length left)
+      then where_digest_is (take 32 (drop size left)) (digest (take (start + size - 1) (drop 1 bytes)))
+        (header_with told start generation right (take size left))
       else no_header
-
--- The header whose text begins at `start`.
-abbrev pub header_from : (List ℕ → List ℕ) → (List ℕ → Option (List Decl)) → ℕ → ℕ → Bool → List ℕ
-    → Result Header FormatFault
-header_from digest told start generation right bytes =
-    if nat_le start (length bytes)
-      then header_of_size digest told start generation right bytes (from_le_bytes w32 (take 4 (drop 12 bytes)))
-      else no_header
-
--- The generation of a header of version 2.
-abbrev pub generation_in : List ℕ → ℕ
-generation_in bytes = from_le_bytes w64 (take 8 (drop 16 bytes))
 
 abbrev pub is_right_generation : ℕ → Bool
 is_right_generation generation = nat_le 1 generation && nat_le generation (2 ^ 62)
 
+-- A header of version 2, and one of version 1.
+unfoldable pub second_header_at : (List ℕ → List ℕ) → (List ℕ → Option (List Decl)) → List ℕ → Result Header FormatFault
+second_header_at digest told bytes =
+    when_read (four_at (drop 12 bytes)) (λ size. when_read (eight_at size.1) (λ g.
+      header_at_text digest told bytes 24 size.0 g.0 (is_right_generation g.0) g.1))
+
+unfoldable pub first_header_at : (List ℕ → List ℕ) → (List ℕ → Option (List Decl)) → List ℕ → Result Header FormatFault
+first_header_at digest told bytes =
+    when_read (four_at (drop 12 bytes)) (λ size. header_at_text digest told bytes 16 size.0 0 true size.1)
+
 -- A header at the front of the bytes, or its fault.
 unfoldable pub header_at : (List ℕ → List ℕ) → (List ℕ → Option (List Decl)) → List ℕ → Result Header FormatFault
 header_at digest told bytes =
-    if bytes_eq (take 12 bytes) (front_of_version 2)
-      then header_from digest told 24 (generation_in bytes) (is_right_generation (generation_in bytes)) bytes
-      else (if bytes_eq (take 12 bytes) (front_of_version 1) then header_from digest told 16 0 true bytes else no_header)
+    if bytes_eq (take 12 bytes) (front_of 2) then second_header_at digest told bytes
+    else (if bytes_eq (take 12 bytes) (front_of 1) then first_header_at digest told bytes else no_header)

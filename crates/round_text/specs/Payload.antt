@@ -29,20 +29,20 @@ coord_step limit coords bytes = do
 unfoldable pub coords_at : List ℕ → List ℕ → ReadOf (List ℕ)
 coords_at limits bytes = each_at coord_step limits [] bytes
 
-unfoldable pub metric_step : List ℤ → List ℕ → ReadOf (List ℤ)
-metric_step metrics bytes = do
+unfoldable pub metric_step : List ℕ → List ℤ → List ℕ → ReadOf (List ℤ)
+metric_step name metrics bytes = do
   metric ← signed_at bytes
   Ok (metrics ++ metric.0 ∷ [], metric.1)
 
--- So many metrics.
-unfoldable pub metrics_at : ℕ → List ℕ → ReadOf (List ℤ)
-metrics_at width bytes = steps_at metric_step width [] bytes
+-- A metric for each name.
+unfoldable pub metrics_at : List (List ℕ) → List ℕ → ReadOf (List ℤ)
+metrics_at names bytes = each_at metric_step names [] bytes
 
 -- A row whose coordinates lie in the brick.
 unfoldable pub row_step : Decl → List ℕ → ℕ → List CodedRow → List ℕ → ReadOf (List CodedRow)
 row_step cube limits brick rows bytes = do
   coords ← passing (λ coords. brick_of (sizes_of cube.dims) coords == brick) (coords_at limits) bytes
-  metrics ← metrics_at (length cube.metrics) coords.1
+  metrics ← metrics_at cube.metrics coords.1
   Ok (rows ++ record { coords = coords.0; metrics = metrics.0 } ∷ [], metrics.1)
 
 -- At least one row behind the number of rows.

@@ -49,16 +49,23 @@ pub(crate) fn put_name(out: &mut Vec<u8>, name: &Text) -> Result<(), AllocError>
     out.extend_from_slice(name.as_bytes())
 }
 
+fn put_each_name(out: &mut Vec<u8>, names: &[Text]) -> Result<(), AllocError>
+    requires { All (λ name. length name < 2 ^ 8) names.now }
+    ensures { OnOk result (out.new.items ≡ out.old.items ++ flat_map name_bytes names.now) }
+{
+    'names: for name in names {
+        put_name(out, name)?;
+    }
+    Ok(())
+}
+
 /// Puts names behind their number.
 pub(crate) fn put_names(out: &mut Vec<u8>, names: &[Text]) -> Result<(), AllocError>
     requires { All (λ name. length name < 2 ^ 8) names.now }
     ensures { OnOk result (out.new.items ≡ out.old.items ++ counted_bytes name_bytes names.now) }
 {
     put_eight(out, names.len() as u64)?;
-    'names: for name in names {
-        put_name(out, name)?;
-    }
-    Ok(())
+    put_each_name(out, names)
 }
 
 fn put_coords(out: &mut Vec<u8>, coords: &[u32]) -> Result<(), AllocError>
@@ -155,13 +162,19 @@ fn put_brick(out: &mut Vec<u8>, brick: &RoundBrick) -> Result<(), AllocError>
     put_entries(out, brick.entries(), brick.rows())
 }
 
+fn put_each_brick(out: &mut Vec<u8>, bricks: &[RoundBrick]) -> Result<(), AllocError>
+    ensures { OnOk result (out.new.items ≡ out.old.items ++ flat_map brick_bytes bricks.now) }
+{
+    'bricks: for brick in bricks {
+        put_brick(out, brick)?;
+    }
+    Ok(())
+}
+
 /// Puts bricks behind their number.
 pub(crate) fn put_bricks(out: &mut Vec<u8>, bricks: &[RoundBrick]) -> Result<(), AllocError>
     ensures { OnOk result (out.new.items ≡ out.old.items ++ counted_bytes brick_bytes bricks.now) }
 {
     put_eight(out, bricks.len() as u64)?;
-    'bricks: for brick in bricks {
-        put_brick(out, brick)?;
-    }
-    Ok(())
+    put_each_brick(out, bricks)
 }

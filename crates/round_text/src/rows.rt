@@ -1,6 +1,6 @@
 //! The rows of an entry.
 
-ghost use Rattle.std.specs.Prelude.{◌≡◌, ◌≤◌, ◌<◌, length, OnOk};
+ghost use Rattle.std.specs.Prelude.{◌≡◌, ◌≤◌, ◌<◌, ℕ, List, length, OnOk};
 ghost use Rattle.cube_language.specs.Cubes.{sizes_of};
 ghost use Rattle.round_text.specs.Reading.{Gives, steps_at};
 ghost use Rattle.round_text.specs.Payload.{coord_step, coords_at, metric_step, metrics_at, row_step, rows_at, appended_at};
@@ -9,7 +9,7 @@ ghost use Rattle.round_text.specs.Limits.{AreLimits};
 use crate::fields::{count_of, four_of, signed_of};
 use brick_address::brick_of;
 use cube_schema::Schema;
-use cube_values::{CallError, CodedRows, Entry};
+use cube_values::{CallError, CodedRows, Entry, Text};
 use std::alloc::AllocError;
 
 /// A coordinate, put behind those before it.
@@ -52,26 +52,26 @@ fn take_coords<'a>(
 #[inline(always)]
 #[tactic(auto, unfolding(crate::specs::Payload::metric_step))]
 fn take_metric<'a>(bytes: &'a [u8], metrics: &mut Vec<i64>) -> Result<&'a [u8], CallError<usize>>
-    ensures { Gives (λ rest. (metrics.new.items, rest.now)) result
-        (metric_step metrics.old.items bytes.now) }
+    ensures { (name : List ℕ) → Gives (λ rest. (metrics.new.items, rest.now)) result
+        (metric_step name metrics.old.items bytes.now) }
 {
     let (metric, rest) = signed_of(bytes)?;
     metrics.push(metric)?;
     Ok(rest)
 }
 
-/// So many metrics, in a list that they take the place of.
+/// A metric for each name, in a list that they take the place of.
 fn take_metrics<'a>(
     bytes: &'a [u8],
-    width: usize,
+    names: &[Text],
     metrics: &mut Vec<i64>,
 ) -> Result<&'a [u8], CallError<usize>>
     ensures { Gives (λ rest. (metrics.new.items, rest.now)) result
-        (metrics_at width bytes.now) }
+        (metrics_at names.now bytes.now) }
 {
     metrics.clear();
     let mut rest = bytes;
-    'metrics: for _ in 0..width {
+    'names: for _name in names {
         rest = take_metric(rest, metrics)?;
     }
     Ok(rest)
@@ -118,7 +118,8 @@ fn take_row<'a>(
     if brick_of(schema.shape(), lists.coords.as_slice()) != brick {
         return Err(CallError::Fault(bytes.len()));
     }
-    let rest = take_metrics(rest, rows.width(), &mut lists.metrics)?;
+    let names = schema.decl().metrics.as_slice();
+    let rest = take_metrics(rest, names, &mut lists.metrics)?;
     make_room(rows)?;
     rows.push(lists.coords.as_slice(), lists.metrics.as_slice());
     Ok(rest)

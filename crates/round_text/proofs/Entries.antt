@@ -1,0 +1,62 @@
+-- Entries with their rows, as a loop over the entries puts them.
+use Rattle.std.proofs.Common.{◌≡◌, ℕ, suc, ◌+◌, ◌-◌, ◌<◌, ◌≤◌, List, [], ◌∷◌, ◌++◌, length, take, drop, get_or, refl, sym, ap, ◌∙◌, append_assoc, add-one, arith}
+use Rattle.std.specs.List.{flat_map}
+use Rattle.std.proofs.lemmas.List.{take_more, get_or-drop, append-nil, length-drop}
+use Rattle.cube_values.specs.declared.entry.Entry.{Entry}
+use Rattle.cube_values.specs.declared.entry.Entry.TheVariants.{Run, Mark}
+use Rattle.cube_values.specs.declared.row.CodedRow.{CodedRow}
+use Rattle.cube_values.specs.Batches.{coded_row_at}
+use Rattle.cube_values.specs.EpochsVector.{Leads}
+use Rattle.cube_rounds.specs.Bricks.{rows_between, entries_with_rows}
+use Rattle.cube_rounds.specs.Bytes.{row_bytes, entry_bytes, entries_bytes, eight_bytes}
+
+-- What was put, with the entries that are left, is all; the entries that are left lead from the rows that were put.
+pub record PutsEntries (before : List ℕ) (entries : List Entry) (rows : List CodedRow) (from : ℕ) (left : List Entry) (out : List ℕ) : Type 0 where
+  pub whole : out ++ entries_bytes (entries_with_rows from rows left) ≡ before ++ entries_bytes (entries_with_rows 0 rows entries)
+  pub leads : Leads from left (length rows)
+
+-- The rows up to one more.
+pub rows_more : (from i : ℕ) (rows : List CodedRow) → from ≤ i → i < length rows → rows_between from (i + 1) rows ≡ rows_between from i rows ++ coded_row_at rows i ∷ []
+rows_more from i rows le lt =
+    let d : CodedRow = record { coords = []; metrics = [] } in
+    let within : i - from < length (drop from rows) = omega (arith, length-drop from rows) in
+    let more : i + 1 - from ≡ (i - from) + 1 = omega arith in
+    let same : from + (i - from) ≡ i = omega arith in
+    ap (λ (k : ℕ). take k (drop from rows)) more
+    ∙ take_more (drop from rows) (i - from) d within
+    ∙ ap (λ (r : CodedRow). rows_between from i rows ++ r ∷ []) (get_or-drop from rows (i - from) d ∙ ap (λ (j : ℕ). get_or rows j d) same)
+
+-- Entries lead up, and never down.
+pub leads_up : (from : ℕ) (entries : List Entry) (to : ℕ) → Leads from entries to → from ≤ to
+leads_up from [] to h = omega arith
+leads_up from (Run epoch end ∷ entries) to h = let up = leads_up end entries to h.1 in omega (arith, h.0)
+leads_up from (Mark epoch at ∷ entries) to h = leads_up from entries to h.1
+
+pub starts : (out : List ℕ) (entries : List Entry) (rows : List CodedRow) → Leads 0 entries (length rows) → PutsEntries out entries rows 0 entries out
+starts out entries rows leads = record { whole = refl; leads = leads }
+
+pub run_put : (before : List ℕ) (entries : List Entry) (rows : List CodedRow) (from epoch end : ℕ) (rest : List Entry) (out new : List ℕ)
+    → new ≡ out ++ entry_bytes (Run epoch end) (rows_between from end rows)
+    → PutsEntries before entries rows from (Run epoch end ∷ rest) out → PutsEntries before entries rows end rest new
+run_put before entries rows from epoch end rest out new put h = record {
+  whole =
+    ap (λ (o : List ℕ). o ++ entries_bytes (entries_with_rows end rows rest)) put
+    ∙ append_assoc out (entry_bytes (Run epoch end) (rows_between from end rows)) (entries_bytes (entries_with_rows end rows rest))
+    ∙ h.whole;
+  leads = h.leads.1;
+}
+
+pub mark_put : (before : List ℕ) (entries : List Entry) (rows : List CodedRow) (from epoch at : ℕ) (rest : List Entry) (out new : List ℕ)
+    → new ≡ out ++ 1 ∷ eight_bytes epoch
+    → PutsEntries before entries rows from (Mark epoch at ∷ rest) out → PutsEntries before entries rows from rest new
+mark_put before entries rows from epoch at rest out new put h = record {
+  whole =
+    ap (λ (o : List ℕ). o ++ entries_bytes (entries_with_rows from rows rest)) put
+    ∙ append_assoc out (1 ∷ eight_bytes epoch) (entries_bytes (entries_with_rows from rows rest))
+    ∙ h.whole;
+  leads = h.leads.1;
+}
+
+pub all_put : (before : List ℕ) (entries : List Entry) (rows : List CodedRow) (from : ℕ) (out : List ℕ)
+    → PutsEntries before entries rows from [] out → out ≡ before ++ entries_bytes (entries_with_rows 0 rows entries)
+all_put before entries rows from out h = sym (append-nil out) ∙ h.whole

@@ -1,0 +1,111 @@
+-- Readers one after the other.
+use Rattle.std.proofs.Common.{◌≡◌, ℕ, zero, suc, ◌+◌, ◌^◌, ◌<◌, ◌≤◌, Bool, true, false, cond, List, [], ◌∷◌, ◌++◌, length, Result, Ok, Err, IsTrue, refl, sym, ap, subst, ◌∙◌, append_assoc, arith}
+use Rattle.std.specs.List.{flat_map, zip, AllZip}
+use Rattle.std.proofs.lemmas.List.{length-append, append-nil}
+use Rattle.round_text.specs.Reading.{◌>>=◌, ReadOf, passing, steps_at, each_at}
+use Rattle.round_text.proofs.Fields.{IsBytes, bind_ok, passed, ok_is, Takes, Takes-then, Reads}
+
+-- A tested value.
+pub reads_passing : {A : Type 0} (spell : A → List ℕ) (Fits : A → Type 0) (read : List ℕ → ReadOf A) (test : A → Bool)
+    → Reads spell Fits read → Reads spell (λ x. Fits x × IsTrue (test x)) (passing test read)
+reads_passing spell Fits read test reads = record {
+  takes = λ bytes x rest fits e.
+    let b = bind_ok (read bytes) (λ x. cond (test x.0) (Ok x) (Err (length bytes))) (x, rest) e in
+    let t = passed (test b.0.0) (length bytes) b.0 (x, rest) b.2 in
+    let first : read bytes ≡ Ok (x, rest) = b.1 ∙ ap Ok t.1 in
+    let same : b.0.0 ≡ x = ap (λ (p : _ × List ℕ). p.0) t.1 in
+    let taken = reads.takes bytes x rest fits first in
+    (taken.0, (taken.1, subst (λ y. IsTrue (test y)) same t.0));
+  again = λ x rest h short. rw (reads.again x rest h.0 short, h.1) refl;
+}
+
+-- What is read after something else has less behind it.
+pub shorter : (a b : List ℕ) → length (a ++ b) < 2 ^ 64 → length b < 2 ^ 64
+shorter a b lt = omega (arith, length-append a b)
+
+-- One value behind another, of which they are the parts of a third.
+pub reads_both : {A B C : Type 0}
+    (s : A → List ℕ) (F : A → Type 0) (r : List ℕ → ReadOf A)
+    (t : A → B → List ℕ) (G : A → B → Type 0) (q : A → List ℕ → ReadOf B)
+    (make : A → B → C) (fst : C → A) (snd : C → B)
+    → ((c : C) → make (fst c) (snd c) ≡ c) → ((a : A) (b : B) → fst (make a b) ≡ a) → ((a : A) (b : B) → snd (make a b) ≡ b)
+    → Reads s F r → ((a : A) → F a → Reads (t a) (G a) (q a))
+    → Reads (λ c. s (fst c) ++ t (fst c) (snd c)) (λ c. F (fst c) × G (fst c) (snd c))
+        (λ bytes. r bytes >>= λ x. q x.0 x.1 >>= λ y. Ok (make x.0 y.0, y.1))
+reads_both {A} {B} {C} s F r t G q make fst snd eta one two first second = record {
+  takes = λ bytes c rest fits e.
+    let a = bind_ok (r bytes) (λ x. q x.0 x.1 >>= λ y. Ok (make x.0 y.0, y.1)) (c, rest) e in
+    let b = bind_ok (q a.0.0 a.0.1) (λ y. Ok (make a.0.0 y.0, y.1)) (c, rest) a.2 in
+    let same = ok_is ℕ (make a.0.0 b.0.0, b.0.1) (c, rest) b.2 in
+    let u = first.takes bytes a.0.0 a.0.1 fits a.1 in
+    let v = (second a.0.0 u.1).takes a.0.1 b.0.0 b.0.1 u.0.rest_fits b.1 in
+    let both = Takes-then bytes (s a.0.0) a.0.1 (t a.0.0 b.0.0) b.0.1 u.0 v.0 in
+    let made : Takes bytes (s (fst (make a.0.0 b.0.0)) ++ t (fst (make a.0.0 b.0.0)) (snd (make a.0.0 b.0.0))) b.0.1
+        × (F (fst (make a.0.0 b.0.0)) × G (fst (make a.0.0 b.0.0)) (snd (make a.0.0 b.0.0)))
+      = rw (one a.0.0 b.0.0, two a.0.0 b.0.0) (both, (u.1, v.1)) in
+    subst (λ (p : C × List ℕ). Takes bytes (s (fst p.0) ++ t (fst p.0) (snd p.0)) p.1 × (F (fst p.0) × G (fst p.0) (snd p.0))) same made;
+  again = λ c rest h short.
+    let regrouped = append_assoc (s (fst c)) (t (fst c) (snd c)) rest in
+    let lt : length (s (fst c) ++ (t (fst c) (snd c) ++ rest)) < 2 ^ 64 = rw (← regrouped) short in
+    let u = first.again (fst c) (t (fst c) (snd c) ++ rest) h.0 lt in
+    let v = (second (fst c) h.0).again (snd c) rest h.1 (shorter (s (fst c)) (t (fst c) (snd c) ++ rest) lt) in
+    rw (regrouped, u, v, eta c) refl;
+}
+
+-- ---- many values
+
+-- One value added to those before it.
+pub record ReadsStep {S A : Type 0} (put : S → A → S) (spell : A → List ℕ) (Fits : S → A → Type 0) (step : S → List ℕ → ReadOf S) : Type 0 where
+  pub takes : (s : S) (bytes : List ℕ) (after : S) (rest : List ℕ) → IsBytes bytes → step s bytes ≡ Ok (after, rest)
+      → (x : A) × (after ≡ put s x) × Takes bytes (spell x) rest × Fits s x
+  pub again : (s : S) (x : A) (rest : List ℕ) → Fits s x → length (spell x ++ rest) < 2 ^ 64 → step s (spell x ++ rest) ≡ Ok (put s x, rest)
+
+-- Values are put one after the other.
+abbrev pub all_put : {S A : Type 0} → (S → A → S) → S → List A → S
+all_put put s [] = s
+all_put put s (x ∷ xs) = all_put put (put s x) xs
+
+-- Each value fits behind those before it.
+abbrev pub EachFits : {S A : Type 0} → (S → A → S) → (S → A → Type 0) → S → List A → Type 0
+EachFits put Fits s [] = Unit {0}
+EachFits put Fits s (x ∷ xs) = Fits s x × EachFits put Fits (put s x) xs
+
+-- What so many steps take.
+pub record TakesAll {S A : Type 0} (put : S → A → S) (spell : A → List ℕ) (Fits : S → A → Type 0) (n : ℕ) (s : S) (bytes : List ℕ) (after : S) (rest : List ℕ) : Type 0 where
+  pub items : List A
+  pub are : after ≡ all_put put s items
+  pub count : length items ≡ n
+  pub taken : Takes bytes (flat_map spell items) rest
+  pub fit : EachFits put Fits s items
+
+pub steps_take : {S A : Type 0} (put : S → A → S) (spell : A → List ℕ) (Fits : S → A → Type 0) (step : S → List ℕ → ReadOf S)
+    → ReadsStep put spell Fits step → (n : ℕ) (s : S) (bytes : List ℕ) (after : S) (rest : List ℕ) → IsBytes bytes
+    → steps_at step n s bytes ≡ Ok (after, rest) → TakesAll put spell Fits n s bytes after rest
+unfolding steps_at
+steps_take {S} {A} put spell Fits step reads zero s bytes after rest fits e =
+    let same = ok_is ℕ (s, bytes) (after, rest) e in
+    subst (λ (p : S × List ℕ). TakesAll put spell Fits 0 s bytes p.0 p.1) same
+      (record { items = []; are = refl; count = refl; taken = record { parts = refl; rest_fits = fits }; fit = tt })
+steps_take {S} {A} put spell Fits step reads (suc n) s bytes after rest fits e =
+    let a = bind_ok (step s bytes) (λ x. steps_at step n x.0 x.1) (after, rest) e in
+    let first = reads.takes s bytes a.0.0 a.0.1 fits a.1 in
+    let second = steps_take put spell Fits step reads n (put s first.0) a.0.1 after rest first.2.rest_fits (rw first.1 at a.2) in
+    record {
+      items = first.0 ∷ second.items;
+      are = second.are;
+      count = ap suc second.count;
+      taken = Takes-then bytes (spell first.0) a.0.1 (flat_map spell second.items) rest first.2 second.taken;
+      fit = (first.3, second.fit);
+    }
+
+pub steps_again : {S A : Type 0} (put : S → A → S) (spell : A → List ℕ) (Fits : S → A → Type 0) (step : S → List ℕ → ReadOf S)
+    → ReadsStep put spell Fits step → (items : List A) (s : S) (rest : List ℕ) → EachFits put Fits s items
+    → length (flat_map spell items ++ rest) < 2 ^ 64
+    → steps_at step (length items) s (flat_map spell items ++ rest) ≡ Ok (all_put put s items, rest)
+unfolding steps_at
+steps_again put spell Fits step reads [] s rest fit short = refl
+steps_again put spell Fits step reads (x ∷ xs) s rest fit short =
+    let regrouped = append_assoc (spell x) (flat_map spell xs) rest in
+    let lt : length (spell x ++ (flat_map spell xs ++ rest)) < 2 ^ 64 = rw (← regrouped) short in
+    let one = reads.again s x (flat_map spell xs ++ rest) fit.0 lt in
+    rw (regrouped, one) (steps_again put spell Fits step reads xs (put s x) rest fit.1 (shorter (spell x) (flat_map spell xs ++ rest) lt))

@@ -1,0 +1,124 @@
+//! A header from its bytes.
+
+ghost use Rattle.std.specs.Prelude.{◌≡◌, ℕ, ◌+◌, ◌≤◌, List, length, take, drop, Option, true, IfOk, Ok};
+ghost use Rattle.cube_language.specs.declared.decl.Decl.{Decl as Declaration};
+ghost use Rattle.cube_rounds.specs.Bytes.{four_bytes};
+ghost use Rattle.cube_rounds.specs.Headers.{header_bytes, BeginsWithHeader};
+ghost use Rattle.round_text.specs.Reading.{Gives};
+ghost use Rattle.round_text.specs.Payload.{TellsCubes};
+ghost use Rattle.round_text.specs.Headers.{front_of, header_at_text, is_right_generation, second_header_at, first_header_at, header_at};
+ghost use Rattle.sha2.specs.Sha256.{sha256};
+
+use crate::digest::{digest_in, digest_of};
+use crate::fault::FormatFault;
+use crate::fields::{eight_of, four_of};
+use crate::header::{Bytes, Header};
+use crate::made::canonical_cubes;
+use cube_values::CallError;
+use std::alloc::Global;
+
+/// What is wrong with a header but for its digest.
+const NO_HEADER: FormatFault = FormatFault::BadText { at: 12 };
+
+/// Whether bytes begin as a header of version 1 does, its gate open.
+#[tactic(auto, unfolding(cube_rounds::specs::Bytes::four_bytes))]
+fn has_version_1(bytes: &[u8]) -> bool
+    requires { 12 ≤ length bytes.now }
+    ensures { result ≡ bytes_eq (take 12 bytes.now) (front_of 1) }
+{
+    &bytes[..12] == b"\xa5CUBRICK\x01\x00\x00\x00".as_slice()
+}
+
+/// As `has_version_1`, for version 2.
+#[tactic(auto, unfolding(cube_rounds::specs::Bytes::four_bytes))]
+fn has_version_2(bytes: &[u8]) -> bool
+    requires { 12 ≤ length bytes.now }
+    ensures { result ≡ bytes_eq (take 12 bytes.now) (front_of 2) }
+{
+    &bytes[..12] == b"\xa5CUBRICK\x02\x00\x00\x00".as_slice()
+}
+
+/// The header whose text begins at `start`, where `left` is left of the bytes.
+fn header_of_text(
+    alloc: Global,
+    bytes: &[u8],
+    left: &[u8],
+    start: usize,
+    size: u32,
+    generation: u64,
+    right: bool,
+) -> Result<Header, CallError<FormatFault>>
+    requires first { 1 ≤ start }
+    requires left { start + length left.now ≡ length bytes.now }
+    ensures { (told : List ℕ → Option (List Declaration)) → TellsCubes told
+        → Gives (λ h. h) result
+        (header_at_text sha256 told bytes.now start size generation right left.now) }
+{
+    let size = size as usize;
+    if left.len() < size + 33 {
+        return Err(CallError::Fault(NO_HEADER));
+    }
+    let (text, behind) = left.split_at(size);
+    let kept = digest_in(behind);
+    let found = digest_of(&bytes[1..start + size]);
+    if kept != found {
+        return Err(CallError::Fault(FormatFault::BadDigest { kept, found }));
+    }
+    if !right || canonical_cubes(alloc, text)?.is_none() {
+        return Err(CallError::Fault(NO_HEADER));
+    }
+    Ok(Header {
+        cubes: Bytes::from_vec(Vec::from_slice(alloc, text)?),
+        size: (start + size + 33) as u64,
+        generation,
+    })
+}
+
+/// A header of version 2.
+#[tactic(auto, unfolding(crate::specs::Headers::second_header_at))]
+fn second_header(alloc: Global, bytes: &[u8]) -> Result<Header, CallError<FormatFault>>
+    requires { 12 ≤ length bytes.now }
+    ensures { (told : List ℕ → Option (List Declaration)) → TellsCubes told
+        → Gives (λ h. h) result (second_header_at sha256 told bytes.now) }
+{
+    let Ok((size, rest)) = four_of(&bytes[12..]) else {
+        return Err(CallError::Fault(NO_HEADER));
+    };
+    let Ok((generation, left)) = eight_of(rest) else {
+        return Err(CallError::Fault(NO_HEADER));
+    };
+    let right = 1 <= generation && generation <= 1 << 62;
+    header_of_text(alloc, bytes, left, 24, size, generation, right)
+}
+
+/// A header of version 1.
+#[tactic(auto, unfolding(crate::specs::Headers::first_header_at))]
+fn first_header(alloc: Global, bytes: &[u8]) -> Result<Header, CallError<FormatFault>>
+    requires { 12 ≤ length bytes.now }
+    ensures { (told : List ℕ → Option (List Declaration)) → TellsCubes told
+        → Gives (λ h. h) result (first_header_at sha256 told bytes.now) }
+{
+    let Ok((size, left)) = four_of(&bytes[12..]) else {
+        return Err(CallError::Fault(NO_HEADER));
+    };
+    header_of_text(alloc, bytes, left, 16, size, 0, true)
+}
+
+/// The header at the front of the bytes, of version 1 or 2, behind an open gate.
+///
+/// Where none stands there, it is `BadDigest` where one lies whole with another digest, else `BadText` at 12.
+pub fn read_header(alloc: Global, bytes: &[u8]) -> Result<Header, CallError<FormatFault>>
+    ensures exact { (told : List ℕ → Option (List Declaration)) → TellsCubes told
+        → Gives (λ h. h) result (header_at sha256 told bytes.now) }
+{
+    if bytes.len() < 12 {
+        return Err(CallError::Fault(NO_HEADER));
+    }
+    if has_version_2(bytes) {
+        second_header(alloc, bytes)
+    } else if has_version_1(bytes) {
+        first_header(alloc, bytes)
+    } else {
+        Err(CallError::Fault(NO_HEADER))
+    }
+}
