@@ -1,6 +1,6 @@
 -- What a round has to be, besides its spelling: what a reader demands of it behind the rounds before it.
 -- Source: Cubrick (VLDB 2016) for bricks and dictionaries, AOSI (ICDE 2018) for entries; the rest is own.
-use Rattle.std.specs.Prelude.{◌≡◌, ◌≢◌, ℕ, ◌+◌, ◌^◌, ◌<◌, ◌≤◌, List, [], ◌∷◌, ◌++◌, length, map, IsUtf8, FitsSigned, None, if◌then◌else◌}
+use Rattle.std.specs.Prelude.{◌≡◌, ◌≢◌, ℕ, ◌+◌, ◌^◌, ◌<◌, ◌≤◌, List, [], ◌∷◌, ◌++◌, length, map, IsUtf8, FitsSigned, MatchBool, None, if◌then◌else◌}
 use Rattle.std.specs.Int.{w64}
 use Rattle.std.specs.List.{zip, AllZip, AllByRecursion}
 use Rattle.cube_values.specs.declared.entry.Entry.{Entry}
@@ -42,7 +42,7 @@ pub record IsCoordBelow (limit coord : ℕ) : Type 0 where
 -- A row of a brick of the cube.
 pub record FitsRow (cube : Decl) (limits : List ℕ) (brick : ℕ) (row : CodedRow) : Type 0 where
   pub coords : AllZip IsCoordBelow limits row.coords
-  pub brick : brick_of (sizes_of cube.dims) row.coords ≡ brick
+  pub place : brick_of (sizes_of cube.dims) row.coords ≡ brick
   pub metrics : AllZip (λ name number. FitsSigned w64 number) cube.metrics row.metrics
 
 -- An entry is of an epoch of the round.
@@ -73,7 +73,7 @@ pub record AreNewNames (cardinality : ℕ) (earlier names : List (List ℕ)) : T
 
 -- A dimension of numbers has no names.
 abbrev pub FitNames : DimDecl × List (List ℕ) → List (List ℕ) → Type 0
-FitNames d names = if d.0.text then AreNewNames d.0.cardinality d.1 names else (names ≡ [])
+FitNames d names = MatchBool d.0.text (AreNewNames d.0.cardinality d.1 names) (names ≡ [])
 
 -- What a round from one epoch up to another may have of a cube with these names.
 pub record FitsCube (from epoch : ℕ) (cube : Decl) (earlier : DimNames) (part : RoundCube) : Type 0 where
@@ -96,10 +96,15 @@ pub record MayBeMade (before made : List Decl) : Type 0 where
   pub apart : repeated_after (cube_names_of before) (cube_names_of made) ≡ None
   pub most : length (before ++ made) ≤ MOST_CUBES
 
+-- There is a list of names for each dimension of each cube.
+abbrev pub HaveDims : List Decl → List DimNames → Type 0
+HaveDims cubes names = AllZip (λ cube lists. length lists ≡ length cube.dims) cubes names
+
 -- A round that may stand behind these cubes with these names.
 pub record FitsRound (before : List Decl) (names : List DimNames) (round : Round) : Type 0 where
   pub epochs : round.from < round.epoch
   pub small : round.epoch < 2 ^ 63
+  pub dims : HaveDims before names
   pub made : MayBeMade before round.made
   pub cubes : AllZip (λ c part. FitsCube round.from round.epoch c.0 c.1 part)
       (zip (before ++ round.made) (names ++ map no_names round.made)) round.cubes
@@ -111,7 +116,3 @@ pub record BeginsWithRound (digest : List ℕ → List ℕ) (before : List Decl)
   pub gate : ℕ
   pub rest : List ℕ
   pub whole : bytes ≡ round_bytes digest before round ++ gate ∷ rest
-
--- There is a list of names for each dimension of each cube.
-abbrev pub HaveDims : List Decl → List DimNames → Type 0
-HaveDims cubes names = AllZip (λ cube lists. length lists ≡ length cube.dims) cubes names

@@ -30,7 +30,7 @@ pub record IsCanonical (text : List ℕ) (cubes : List Decl) : Type 0 where
 
 -- What a header has: a generation up to 2^62 and a canonical text of cubes.
 pub record FitsHeader (generation : ℕ) (text : List ℕ) : Type 0 where
-  pub generation : generation ≤ 2 ^ 62
+  pub small : generation ≤ 2 ^ 62
   pub cubes : List Decl
   pub canonical : IsCanonical text cubes
   pub long : length text < 2 ^ 32

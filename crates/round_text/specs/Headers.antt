@@ -1,5 +1,5 @@
 -- Reading of a header: its version first, then its length, its digest, and what it has.
-use Rattle.std.specs.Prelude.{ℕ, ◌+◌, ◌-◌, ◌^◌, Bool, true, ◌&&◌, nat_le, List, ◌∷◌, ◌++◌, length, take, drop, Option, is_some, Result, Ok, Err, if◌then◌else◌}
+use Rattle.std.specs.Prelude.{ℕ, zero, suc, ◌+◌, ◌-◌, ◌^◌, Bool, true, ◌&&◌, nat_le, List, ◌∷◌, ◌++◌, length, take, drop, Option, is_some, Result, Ok, Err, if◌then◌else◌}
 use Rattle.std.specs.Str.{bytes_eq}
 use Rattle.cube_language.specs.declared.decl.Decl.{Decl}
 use Rattle.cube_rounds.specs.Bytes.{four_bytes}
@@ -22,6 +22,11 @@ no_header = Err (BadText 12)
 abbrev pub when_read : {A : Type 0} → ReadOf A → (A × List ℕ → Result Header FormatFault) → Result Header FormatFault
 when_read (Ok x) next = next x
 when_read (Err left) next = no_header
+
+-- Where the text of a header of this generation begins.
+abbrev pub text_start : ℕ → ℕ
+text_start zero = 16
+text_start (suc n) = 24
 
 abbrev pub header_of : ℕ → ℕ → List ℕ → Header
 header_of start generation text = record { cubes = text; size = start + length text + 33; generation = generation }

@@ -14,6 +14,7 @@ use crate::fault::FormatFault;
 use crate::fields::{eight_of, four_of};
 use crate::header::{Bytes, Header};
 use crate::made::canonical_cubes;
+use cube_schema::a_text_declares_or_has_one_fault;
 use cube_values::CallError;
 use std::alloc::Global;
 
@@ -104,11 +105,10 @@ fn first_header(alloc: Global, bytes: &[u8]) -> Result<Header, CallError<FormatF
     header_of_text(alloc, bytes, left, 16, size, 0, true)
 }
 
-/// The header at the front of the bytes, of version 1 or 2, behind an open gate.
-///
-/// Where none stands there, it is `BadDigest` where one lies whole with another digest, else `BadText` at 12.
-pub fn read_header(alloc: Global, bytes: &[u8]) -> Result<Header, CallError<FormatFault>>
-    ensures exact { (told : List ℕ → Option (List Declaration)) → TellsCubes told
+/// A header of either version.
+#[tactic(auto, unfolding(crate::specs::Headers::header_at))]
+fn header_in(alloc: Global, bytes: &[u8]) -> Result<Header, CallError<FormatFault>>
+    ensures { (told : List ℕ → Option (List Declaration)) → TellsCubes told
         → Gives (λ h. h) result (header_at sha256 told bytes.now) }
 {
     if bytes.len() < 12 {
@@ -121,4 +121,22 @@ pub fn read_header(alloc: Global, bytes: &[u8]) -> Result<Header, CallError<Form
     } else {
         Err(CallError::Fault(NO_HEADER))
     }
+}
+
+/// The header at the front of the bytes, of version 1 or 2, behind an open gate.
+///
+/// Where none stands there, it is `BadDigest` where one lies whole with another digest, else `BadText` at 12.
+pub fn read_header(alloc: Global, bytes: &[u8]) -> Result<Header, CallError<FormatFault>>
+    ensures found { IfOk result (λ h.
+        BeginsWithHeader sha256 h.generation h.cubes bytes.now) }
+    ensures size { IfOk result (λ h.
+        h.size ≡ length (header_bytes sha256 h.generation h.cubes) + 1) }
+    ensures only { (generation : ℕ) (text : List ℕ)
+        → BeginsWithHeader sha256 generation text bytes.now
+        → Gives (λ h. (h.generation, h.cubes)) result (Ok (generation, text)) }
+    ensures exact { (told : List ℕ → Option (List Declaration)) → TellsCubes told
+        → Gives (λ h. h) result (header_at sha256 told bytes.now) }
+{
+    a_text_declares_or_has_one_fault();
+    header_in(alloc, bytes)
 }

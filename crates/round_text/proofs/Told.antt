@@ -1,0 +1,48 @@
+-- There is a function that tells the cubes of each text, and the digest's length.
+use Rattle.std.proofs.Common.{◌≡◌, ℕ, Bool, true, false, cond, ◌⊎◌, List, length, Option, Some, None, inl, inr, refl, sym, ap, ◌∙◌}
+use Rattle.std.specs.Prelude.{MatchOption}
+use Rattle.std.specs.Str.{bytes_eq}
+use Rattle.std.proofs.lemmas.Slice.Eq.{bytes_eq-Decides}
+use Rattle.sha2.specs.Sha256.{sha256, digest_bytes, final_hash, initial_hash_256}
+use Rattle.cube_language.specs.declared.decl.Decl.{Decl}
+use Rattle.cube_language.specs.Cubes.{cubes_text}
+use Rattle.cube_language.specs.CubesText.{Declares}
+use Rattle.cube_schema.specs.Texts.{AnyCubes, AnyFault, TextsDeclareOrHaveFault, TextsDeclareOneList, DeclaringTextsHaveNoFault}
+use Rattle.cube_rounds.specs.Headers.{IsCanonical}
+use Rattle.round_text.specs.Payload.{TellsCubes}
+
+told_by : (text : List ℕ) → AnyCubes text ⊎ AnyFault text → Option (List Decl)
+told_by text (inl any) = cond (bytes_eq text (cubes_text any.0)) (Some any.0) None
+told_by text (inr fault) = None
+
+told_right : TextsDeclareOneList → DeclaringTextsHaveNoFault → (text : List ℕ) (o : AnyCubes text ⊎ AnyFault text)
+    → MatchOption (told_by text o) ((cubes : List Decl) → IsCanonical text cubes → ⊥) (IsCanonical text)
+unfolding told_by
+told_right one_list no_fault text (inl any) =
+    elim (bytes_eq text (cubes_text any.0)) as (λ b. bytes_eq text (cubes_text any.0) ≡ b
+        → MatchOption (cond b (Some any.0) None) ((cubes : List Decl) → IsCanonical text cubes → ⊥) (IsCanonical text)) [
+      | true ↦ λ is. record { declares = any.1; canonical = (bytes_eq-Decides text (cubes_text any.0)).0 (rw is tt) }
+      | false ↦ λ is. λ cubes c.
+          let same : cubes ≡ any.0 = one_list text cubes any.0 c.declares any.1 in
+          let yes = (bytes_eq-Decides text (cubes_text any.0)).1 (c.canonical ∙ ap cubes_text same) in
+          rw is at yes
+    ] refl
+told_right one_list no_fault text (inr fault) = λ cubes c. no_fault text cubes fault.0 c.declares fault.1
+
+pub record Teller : Type 0 where
+  pub told : List ℕ → Option (List Decl)
+  pub tells : TellsCubes told
+
+pub teller : TextsDeclareOrHaveFault → TextsDeclareOneList → DeclaringTextsHaveNoFault → Teller
+teller either one_list no_fault = record {
+  told = λ text. told_by text (either text);
+  tells = λ text. told_right one_list no_fault text (either text);
+}
+
+digest_bytes-length : (h : List ℕ) → length (digest_bytes h 8) ≡ 32
+unfolding digest_bytes
+digest_bytes-length h = refl
+
+pub length-sha256 : (m : List ℕ) → length (sha256 m) ≡ 32
+unfolding sha256
+length-sha256 m = digest_bytes-length (final_hash initial_hash_256 m)
