@@ -17,7 +17,7 @@ use Rattle.round_text.specs.Reading.{Fails, Gives, ReadOf, four_at, eight_at}
 use Rattle.round_text.specs.Payload.{TellsCubes}
 use Rattle.round_text.specs.Rounds.{where_digest_is}
 use Rattle.round_text.specs.Headers.{front_of, when_read, text_start, header_of, header_with, header_at_text, is_right_generation, second_header_at, first_header_at, header_at}
-use Rattle.round_text.proofs.Fields.{IsBytes, IsBytes-drop, passed, ok_is, Takes, Reads, reads_four, reads_eight}
+use Rattle.round_text.proofs.FieldLaws.{IsBytes, IsBytes-drop, passed, ok_is, Takes, Reads, reads_four, reads_eight}
 
 passes : {A F : Type 0} (b : Bool) (r : Result A F) (d : F) (y : A) → cond b r (Err d) ≡ Ok y → (b ≡ true) × (r ≡ Ok y)
 passes true r d y e = (refl, e)

@@ -1,7 +1,8 @@
 pub mod Loops
-pub mod Fields
+pub mod FieldLaws
 pub mod Sequences
-pub mod Entries
+pub mod EntryWrites
 pub mod HeaderLaws
 pub mod Told
 pub mod Shorts
+pub mod RowLaws

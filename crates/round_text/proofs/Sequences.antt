@@ -2,8 +2,8 @@
 use Rattle.std.proofs.Common.{◌≡◌, ℕ, zero, suc, ◌+◌, ◌^◌, ◌<◌, ◌≤◌, Bool, true, false, cond, List, [], ◌∷◌, ◌++◌, length, Result, Ok, Err, IsTrue, refl, sym, ap, subst, ◌∙◌, append_assoc, arith}
 use Rattle.std.specs.List.{flat_map, zip, AllZip}
 use Rattle.std.proofs.lemmas.List.{length-append, append-nil}
-use Rattle.round_text.specs.Reading.{◌>>=◌, ReadOf, passing, steps_at, each_at}
-use Rattle.round_text.proofs.Fields.{IsBytes, bind_ok, passed, ok_is, Takes, Takes-then, Reads}
+use Rattle.round_text.specs.Reading.{◌>>=◌, ReadOf, passing, putting, list_with, steps_at, each_at}
+use Rattle.round_text.proofs.FieldLaws.{IsBytes, bind_ok, passed, ok_is, Takes, Takes-then, Reads}
 
 -- A tested value.
 pub reads_passing : {A : Type 0} (spell : A → List ℕ) (Fits : A → Type 0) (read : List ℕ → ReadOf A) (test : A → Bool)
@@ -109,3 +109,67 @@ steps_again put spell Fits step reads (x ∷ xs) s rest fit short =
     let lt : length (spell x ++ (flat_map spell xs ++ rest)) < 2 ^ 64 = rw (← regrouped) short in
     let one = reads.again s x (flat_map spell xs ++ rest) fit.0 lt in
     rw (regrouped, one) (steps_again put spell Fits step reads xs (put s x) rest fit.1 (shorter (spell x) (flat_map spell xs ++ rest) lt))
+
+-- A value that is read behind others.
+pub reads_putting : {S A : Type 0} (put : S → A → S) (spell : A → List ℕ) (Fits : S → A → Type 0) (read : S → List ℕ → ReadOf A)
+    → ((s : S) → Reads spell (Fits s) (read s)) → ReadsStep put spell Fits (putting put read)
+reads_putting {S} {A} put spell Fits read reads = record {
+  takes = λ s bytes after rest fits e.
+    let b = bind_ok (read s bytes) (λ x. Ok (put s x.0, x.1)) (after, rest) e in
+    let same = ok_is ℕ (put s b.0.0, b.0.1) (after, rest) b.2 in
+    let taken = (reads s).takes bytes b.0.0 b.0.1 fits b.1 in
+    let rest-is : b.0.1 ≡ rest = ap (λ (p : S × List ℕ). p.1) same in
+    (b.0.0, ap (λ (p : S × List ℕ). p.0) (sym same), subst (λ (r : List ℕ). Takes bytes (spell b.0.0) r) rest-is taken.0, taken.1);
+  again = λ s x rest h short. rw ((reads s).again x rest h short) refl;
+}
+
+-- ---- a value for each of some things
+
+pub record TakesEach {P A : Type 0} (spell : P → A → List ℕ) (Fits : P → A → Type 0) (ps : List P) (s : List A) (bytes : List ℕ) (after : List A) (rest : List ℕ) : Type 0 where
+  pub items : List A
+  pub are : after ≡ s ++ items
+  pub taken : Takes bytes (flat_map (λ q. spell q.0 q.1) (zip ps items)) rest
+  pub fit : AllZip Fits ps items
+
+pub each_take : {P A : Type 0} (spell : P → A → List ℕ) (Fits : P → A → Type 0) (step : P → List A → List ℕ → ReadOf (List A))
+    → ((p : P) → ReadsStep list_with (spell p) (λ s. Fits p) (step p)) → (ps : List P) (s : List A) (bytes : List ℕ) (after : List A) (rest : List ℕ) → IsBytes bytes
+    → each_at step ps s bytes ≡ Ok (after, rest) → TakesEach spell Fits ps s bytes after rest
+unfolding each_at
+each_take {P} {A} spell Fits step reads [] s bytes after rest fits e =
+    let same = ok_is ℕ (s, bytes) (after, rest) e in
+    subst (λ (p : List A × List ℕ). TakesEach spell Fits [] s bytes p.0 p.1) same
+      (record { items = []; are = sym (append-nil s); taken = record { parts = refl; rest_fits = fits }; fit = tt })
+each_take {P} {A} spell Fits step reads (p ∷ ps) s bytes after rest fits e =
+    let a = bind_ok (step p s bytes) (λ x. each_at step ps x.0 x.1) (after, rest) e in
+    let first = (reads p).takes s bytes a.0.0 a.0.1 fits a.1 in
+    let second = each_take spell Fits step reads ps (list_with s first.0) a.0.1 after rest first.2.rest_fits (rw first.1 at a.2) in
+    record {
+      items = first.0 ∷ second.items;
+      are = second.are ∙ append_assoc s (first.0 ∷ []) second.items;
+      taken = Takes-then bytes (spell p first.0) a.0.1 (flat_map (λ q. spell q.0 q.1) (zip ps second.items)) rest first.2 second.taken;
+      fit = (first.3, second.fit);
+    }
+
+pub each_again : {P A : Type 0} (spell : P → A → List ℕ) (Fits : P → A → Type 0) (step : P → List A → List ℕ → ReadOf (List A))
+    → ((p : P) → ReadsStep list_with (spell p) (λ s. Fits p) (step p)) → (ps : List P) (items s : List A) (rest : List ℕ) → AllZip Fits ps items
+    → length (flat_map (λ q. spell q.0 q.1) (zip ps items) ++ rest) < 2 ^ 64
+    → each_at step ps s (flat_map (λ q. spell q.0 q.1) (zip ps items) ++ rest) ≡ Ok (s ++ items, rest)
+unfolding each_at
+each_again spell Fits step reads [] [] s rest fit short = ap (λ t. Ok (t, rest)) (sym (append-nil s))
+each_again spell Fits step reads [] (x ∷ items) s rest fit short = absurd fit
+each_again spell Fits step reads (p ∷ ps) [] s rest fit short = absurd fit
+each_again spell Fits step reads (p ∷ ps) (x ∷ items) s rest fit short =
+    let more = flat_map (λ q. spell q.0 q.1) (zip ps items) in
+    let regrouped = append_assoc (spell p x) more rest in
+    let lt : length (spell p x ++ (more ++ rest)) < 2 ^ 64 = rw (← regrouped) short in
+    let one = (reads p).again s x (more ++ rest) fit.0 lt in
+    rw (regrouped, one) (each_again spell Fits step reads ps items (list_with s x) rest fit.1 (shorter (spell p x) (more ++ rest) lt)
+      ∙ ap (λ t. Ok (t, rest)) (append_assoc s (x ∷ []) items))
+
+-- A reader of the values that fit in other words.
+pub reads_as : {A : Type 0} (spell : A → List ℕ) (Fits Others : A → Type 0) (read : List ℕ → ReadOf A)
+    → ((x : A) → Fits x → Others x) → ((x : A) → Others x → Fits x) → Reads spell Fits read → Reads spell Others read
+reads_as spell Fits Others read there back reads = record {
+  takes = λ bytes x rest fits e. let t = reads.takes bytes x rest fits e in (t.0, there x t.1);
+  again = λ x rest h short. reads.again x rest (back x h) short;
+}

@@ -17,35 +17,40 @@ use Rattle.cube_rounds.specs.declared.round.Round.{Round}
 use Rattle.cube_rounds.specs.Bricks.{BrickPart}
 use Rattle.cube_rounds.specs.Demands.{DimNames, names_with, coord_limits, no_names, cube_names_of}
 use Rattle.cube_rounds.specs.Headers.{IsCanonical}
-use Rattle.round_text.specs.Reading.{◌>>=◌, ReadOf, passing, steps_at, each_at, byte_at, four_at, eight_at, signed_at, short_at}
+use Rattle.round_text.specs.Reading.{◌>>=◌, ReadOf, passing, putting, list_with, steps_at, each_at, byte_at, four_at, eight_at, signed_at, short_at}
 
 -- A coordinate below its limit.
-unfoldable pub coord_step : ℕ → List ℕ → List ℕ → ReadOf (List ℕ)
-coord_step limit coords bytes = do
-  coord ← passing (λ n. nat_lt n limit) four_at bytes
-  Ok (coords ++ coord.0 ∷ [], coord.1)
+abbrev pub coord_at : ℕ → List ℕ → ReadOf ℕ
+coord_at limit bytes = passing (λ n. nat_lt n limit) four_at bytes
+
+abbrev pub coord_step : ℕ → List ℕ → List ℕ → ReadOf (List ℕ)
+coord_step limit coords bytes = putting list_with (λ before. coord_at limit) coords bytes
 
 -- A coordinate for each limit.
 unfoldable pub coords_at : List ℕ → List ℕ → ReadOf (List ℕ)
 coords_at limits bytes = each_at coord_step limits [] bytes
 
-unfoldable pub metric_step : List ℕ → List ℤ → List ℕ → ReadOf (List ℤ)
-metric_step name metrics bytes = do
-  metric ← signed_at bytes
-  Ok (metrics ++ metric.0 ∷ [], metric.1)
+abbrev pub metric_step : List ℕ → List ℤ → List ℕ → ReadOf (List ℤ)
+metric_step name metrics bytes = putting list_with (λ before. signed_at) metrics bytes
 
 -- A metric for each name.
 unfoldable pub metrics_at : List (List ℕ) → List ℕ → ReadOf (List ℤ)
 metrics_at names bytes = each_at metric_step names [] bytes
 
+abbrev pub coded_row : List ℕ → List ℤ → CodedRow
+coded_row coords metrics = record { coords = coords; metrics = metrics }
+
 -- A row whose coordinates lie in the brick.
-unfoldable pub row_step : Decl → List ℕ → ℕ → List CodedRow → List ℕ → ReadOf (List CodedRow)
-row_step cube limits brick rows bytes = do
+unfoldable pub row_at : Decl → List ℕ → ℕ → List ℕ → ReadOf CodedRow
+row_at cube limits brick bytes = do
   coords ← passing (λ coords. brick_of (sizes_of cube.dims) coords == brick) (coords_at limits) bytes
   metrics ← metrics_at cube.metrics coords.1
-  Ok (rows ++ record { coords = coords.0; metrics = metrics.0 } ∷ [], metrics.1)
+  Ok (coded_row coords.0 metrics.0, metrics.1)
 
--- At least one row behind the number of rows.
+abbrev pub row_step : Decl → List ℕ → ℕ → List CodedRow → List ℕ → ReadOf (List CodedRow)
+row_step cube limits brick rows bytes = putting list_with (λ before. row_at cube limits brick) rows bytes
+
+-- At least one row behind the number of rows, put behind those before them.
 unfoldable pub rows_at : Decl → List ℕ → ℕ → List CodedRow → List ℕ → ReadOf (List CodedRow)
 rows_at cube limits brick rows bytes = do
   count ← passing (nat_lt 0) eight_at bytes
@@ -109,22 +114,24 @@ pub record Bricks : Type 0 where
 abbrev pub bricks_from : ℕ → List BrickPart → Bricks
 bricks_from least bricks = record { least = least; bricks = bricks }
 
+-- Bricks with one more.
+abbrev pub bricks_with : Bricks → BrickPart → Bricks
+bricks_with b brick = bricks_from (brick.brick + 1) (b.bricks ++ brick ∷ [])
+
 -- A brick of these entries and rows.
 abbrev pub brick_with : ℕ → Vector → BrickPart
 brick_with number v = record { brick = number; entries = v.entries; rows = v.rows }
 
--- A brick of this number.
+-- A brick of the cube whose number is not below the least.
 unfoldable pub brick_at : Decl → List ℕ → ℕ → ℕ → ℕ → List ℕ → ReadOf BrickPart
-brick_at cube limits from epoch number bytes = do
-  v ← entries_at cube limits from epoch number bytes
-  Ok (brick_with number v.0, v.1)
+brick_at cube limits from epoch least bytes = do
+  number ← passing (λ n. nat_le least n && nat_lt n (bricks_of (sizes_of cube.dims))) eight_at bytes
+  v ← entries_at cube limits from epoch number.0 number.1
+  Ok (brick_with number.0 v.0, v.1)
 
--- A brick of the cube above those before it.
-unfoldable pub brick_step : Decl → List ℕ → ℕ → ℕ → Bricks → List ℕ → ReadOf Bricks
-brick_step cube limits from epoch b bytes = do
-  number ← passing (λ n. nat_le b.least n && nat_lt n (bricks_of (sizes_of cube.dims))) eight_at bytes
-  brick ← brick_at cube limits from epoch number.0 number.1
-  Ok (bricks_from (number.0 + 1) (b.bricks ++ brick.0 ∷ []), brick.1)
+abbrev pub brick_step : Decl → List ℕ → ℕ → ℕ → Bricks → List ℕ → ReadOf Bricks
+brick_step cube limits from epoch b bytes =
+    putting bricks_with (λ before. brick_at cube limits from epoch before.least) b bytes
 
 -- So many bricks.
 unfoldable pub bricks_counted : Decl → List ℕ → ℕ → ℕ → ℕ → List ℕ → ReadOf (List BrickPart)
@@ -143,10 +150,11 @@ abbrev pub is_new_name : List (List ℕ) → List ℕ → Bool
 is_new_name names name = is_utf8 name && not (list_any (bytes_eq name) names)
 
 -- A name that differs from all before it.
-unfoldable pub name_step : List (List ℕ) → List (List ℕ) → List ℕ → ReadOf (List (List ℕ))
-name_step earlier names bytes = do
-  name ← passing (is_new_name (earlier ++ names)) short_at bytes
-  Ok (names ++ name.0 ∷ [], name.1)
+abbrev pub name_at : List (List ℕ) → List ℕ → ReadOf (List ℕ)
+name_at names bytes = passing (is_new_name names) short_at bytes
+
+abbrev pub name_step : List (List ℕ) → List (List ℕ) → List ℕ → ReadOf (List (List ℕ))
+name_step earlier names bytes = putting list_with (λ before. name_at (earlier ++ before)) names bytes
 
 -- New names of a dimension of texts, no more of them than there is room for.
 unfoldable pub names_at : ℕ → List (List ℕ) → List ℕ → ReadOf (List (List ℕ))
@@ -158,20 +166,22 @@ names_at cardinality earlier bytes = do
 abbrev pub dim_names_at : DimDecl × List (List ℕ) → List ℕ → ReadOf (List (List ℕ))
 dim_names_at d bytes = if d.0.text then names_at d.0.cardinality d.1 bytes else Ok ([], bytes)
 
-unfoldable pub dim_step : DimDecl × List (List ℕ) → DimNames → List ℕ → ReadOf DimNames
-dim_step d lists bytes = do
-  names ← dim_names_at d bytes
-  Ok (lists ++ names.0 ∷ [], names.1)
+abbrev pub dim_step : DimDecl × List (List ℕ) → DimNames → List ℕ → ReadOf DimNames
+dim_step d lists bytes = putting list_with (λ before. dim_names_at d) lists bytes
 
+-- Names and bricks of a cube.
 abbrev pub round_cube : DimNames → List BrickPart → RoundCube
 round_cube names bricks = record { names = names; bricks = bricks }
 
--- What the round has of a cube.
-unfoldable pub cube_step : ℕ → ℕ → Decl × DimNames → List RoundCube → List ℕ → ReadOf (List RoundCube)
-cube_step from epoch c cubes bytes = do
+-- What the round has of a cube with its names.
+unfoldable pub cube_at : ℕ → ℕ → Decl × DimNames → List ℕ → ReadOf RoundCube
+cube_at from epoch c bytes = do
   names ← each_at dim_step (zip c.0.dims c.1) [] bytes
   bricks ← bricks_at c.0 (coord_limits c.0 (names_with c.1 names.0)) from epoch names.1
-  Ok (cubes ++ round_cube names.0 bricks.0 ∷ [], bricks.1)
+  Ok (round_cube names.0 bricks.0, bricks.1)
+
+abbrev pub cube_step : ℕ → ℕ → Decl × DimNames → List RoundCube → List ℕ → ReadOf (List RoundCube)
+cube_step from epoch c cubes bytes = putting list_with (λ before. cube_at from epoch c) cubes bytes
 
 -- A function tells of each text the cubes of which it is the canonical text, or that there are none.
 abbrev pub TellsCubes : (List ℕ → Option (List Decl)) → Type 0
@@ -202,6 +212,9 @@ pub record Content : Type 0 where
   pub made : List Decl
   pub cubes : List RoundCube
 
+abbrev pub content_of : List Decl → List RoundCube → Content
+content_of made cubes = record { made = made; cubes = cubes }
+
 -- A payload of a round from one epoch up to another, behind these cubes and names, and nothing more.
 unfoldable pub payload_at : (List ℕ → Option (List Decl)) → List Decl → List DimNames → ℕ → ℕ → List ℕ → Result Content ℕ
 payload_at told before names from epoch bytes = do
@@ -209,4 +222,4 @@ payload_at told before names from epoch bytes = do
   made ← made_at told before (count.0 - length before) count.1
   old ← each_at (cube_step from epoch) (zip before names) [] made.1
   cubes ← each_at (cube_step from epoch) (zip made.0 (map no_names made.0)) old.0 old.1
-  if length cubes.1 == 0 then Ok (record { made = made.0; cubes = cubes.0 }) else Err (length cubes.1)
+  if length cubes.1 == 0 then Ok (content_of made.0 cubes.0) else Err (length cubes.1)

@@ -29,6 +29,14 @@ ReadOf A = Result (A × List ℕ) ℕ
 abbrev pub passing : {A : Type 0} → (A → Bool) → (List ℕ → ReadOf A) → List ℕ → ReadOf A
 passing test read bytes = read bytes >>= λ x. if test x.0 then Ok x else Err (length bytes)
 
+-- A value that is read behind others is put behind them.
+abbrev pub putting : {S A : Type 0} → (S → A → S) → (S → List ℕ → ReadOf A) → S → List ℕ → ReadOf S
+putting put read s bytes = read s bytes >>= λ x. Ok (put s x.0, x.1)
+
+-- A list with one more at its end.
+abbrev pub list_with : {A : Type 0} → List A → A → List A
+list_with items item = items ++ item ∷ []
+
 -- So many steps, each of which reads something and adds it to what was read before.
 unfoldable pub steps_at : {S : Type 0} → (S → List ℕ → ReadOf S) → ℕ → S → List ℕ → ReadOf S
 steps_at step zero s bytes = Ok (s, bytes)

@@ -44,7 +44,7 @@ fn limits_of(
 }
 
 /// What a round has of a cube with these names, put behind what it has of the cubes before it.
-#[tactic(auto, unfolding(crate::specs::Payload::cube_step))]
+#[tactic(auto, unfolding(crate::specs::Payload::cube_at))]
 fn take_cube<'a>(
     bytes: &'a [u8],
     alloc: Global,

@@ -146,30 +146,31 @@ fn take_entries<'a>(
     take_counted(rest, count, schema, limits, epochs, brick, lists, entries, rows)
 }
 
-/// A brick by its number.
+/// A brick whose number is not below the least.
 #[tactic(auto, unfolding(crate::specs::Payload::brick_at))]
-fn brick_of_number<'a>(
+fn brick_of<'a>(
     bytes: &'a [u8],
     alloc: Global,
     schema: &Schema,
     limits: &[u32],
     epochs: RoundEpochs,
-    number: u64,
+    least: u64,
     lists: &mut RowLists,
 ) -> Result<(RoundBrick, &'a [u8]), CallError<usize>>
     requires { AreLimits limits.now (sizes_of schema.now.dims) }
     ensures { Gives (λ x. (x.0, x.1.now)) result
-        (brick_at schema.now limits.now epochs.from epochs.epoch number bytes.now) }
+        (brick_at schema.now limits.now epochs.from epochs.epoch least bytes.now) }
 {
+    let end = bricks_of(schema.shape().sizes.as_slice());
+    let (number, rest) = number_within(bytes, least, end)?;
     let decl = schema.decl();
     let mut entries = Vec::new(alloc);
     let mut rows = CodedRows::new(alloc, decl.dims.len(), decl.metrics.len());
-    let rest = take_entries(bytes, schema, limits, epochs, number, lists, &mut entries, &mut rows)?;
+    let rest = take_entries(rest, schema, limits, epochs, number, lists, &mut entries, &mut rows)?;
     Ok((RoundBrick::new(number, Entries::from_vec(entries), rows), rest))
 }
 
 /// A brick above those before it, put behind them.
-#[tactic(auto, unfolding(crate::specs::Payload::brick_step))]
 fn take_brick<'a>(
     bytes: &'a [u8],
     alloc: Global,
@@ -185,11 +186,9 @@ fn take_brick<'a>(
         (brick_step schema.now limits.now epochs.from epochs.epoch
         (bricks_from least.old bricks.old.items) bytes.now) }
 {
-    let end = bricks_of(schema.shape().sizes.as_slice());
-    let (number, rest) = number_within(bytes, *least, end)?;
-    let (brick, rest) = brick_of_number(rest, alloc, schema, limits, epochs, number, lists)?;
+    let (brick, rest) = brick_of(bytes, alloc, schema, limits, epochs, *least, lists)?;
+    *least = brick.brick() + 1;
     bricks.push(brick)?;
-    *least = number + 1;
     Ok(rest)
 }
 

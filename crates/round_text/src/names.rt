@@ -47,7 +47,6 @@ fn add_name<'a>(
 }
 
 /// A name that differs from all before it, put behind them.
-#[tactic(auto, unfolding(crate::specs::Payload::name_step))]
 fn take_name<'a>(
     bytes: &'a [u8],
     alloc: Global,
@@ -140,7 +139,6 @@ fn dim_names<'a>(
 }
 
 /// The new names of a dimension, put behind those of the dimensions before it.
-#[tactic(auto, unfolding(crate::specs::Payload::dim_step))]
 fn take_dim<'a>(
     bytes: &'a [u8],
     alloc: Global,

@@ -14,7 +14,6 @@ use std::alloc::AllocError;
 
 /// A coordinate, put behind those before it.
 #[inline(always)]
-#[tactic(auto, unfolding(crate::specs::Payload::coord_step))]
 fn take_coord<'a>(
     bytes: &'a [u8],
     limit: u32,
@@ -50,7 +49,6 @@ fn take_coords<'a>(
 
 /// A metric, put behind those before it.
 #[inline(always)]
-#[tactic(auto, unfolding(crate::specs::Payload::metric_step))]
 fn take_metric<'a>(bytes: &'a [u8], metrics: &mut Vec<i64>) -> Result<&'a [u8], CallError<usize>>
     ensures { (name : List ℕ) → Gives (λ rest. (metrics.new.items, rest.now)) result
         (metric_step name metrics.old.items bytes.now) }
@@ -97,7 +95,7 @@ fn make_room(rows: &mut CodedRows) -> Result<(), AllocError>
 }
 
 /// A row of a brick, put behind those before it.
-#[tactic(auto, unfolding(crate::specs::Payload::row_step))]
+#[tactic(auto, unfolding(crate::specs::Payload::row_at))]
 fn take_row<'a>(
     bytes: &'a [u8],
     schema: &Schema,

@@ -1,5 +1,5 @@
 use Rattle.std.proofs.Common.{length}
-use Rattle.round_text.proofs.Entries.{PutsEntries}
+use Rattle.round_text.proofs.EntryWrites.{PutsEntries}
 use Rattle.round_text.proofs.put.put_entries.Given as goal
 
 abbrev pub invariant-entries : goal.invariant-entries

@@ -11,7 +11,7 @@ ghost use Rattle.sha2.specs.Sha256.{sha256};
 
 use crate::digest::digest_of;
 use crate::put::{put_bricks, put_eight, put_names};
-use crate::write_header::SHUT_GATE;
+use crate::header_writing::SHUT_GATE;
 use cube_language::Decl;
 use cube_rounds::{Round, RoundCube};
 use cube_schema::{Schema, check, print_cubes};

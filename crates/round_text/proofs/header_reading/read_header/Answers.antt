@@ -3,7 +3,7 @@ use Rattle.sha2.specs.Sha256.{sha256}
 use Rattle.round_text.specs.Reading.{Gives}
 use Rattle.round_text.proofs.HeaderLaws.{found_by, begins_by, size_by, only_by, header_again}
 use Rattle.round_text.proofs.Told.{teller, length-sha256}
-use Rattle.round_text.proofs.read_header.read_header.Goals as goal
+use Rattle.round_text.proofs.header_reading.read_header.Goals as goal
 
 pub returns-clause-found : goal.returns-clause-found
 returns-clause-found c =
