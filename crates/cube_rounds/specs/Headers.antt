@@ -10,6 +10,10 @@ use Rattle.cube_rounds.specs.Bytes.{four_bytes, eight_bytes, with_digest}
 abbrev pub open_gate : ℕ
 open_gate = 0xa5
 
+-- A gate that is written shut.
+abbrev pub shut_gate : ℕ
+shut_gate = 0
+
 -- What a store's file begins with, behind its gate.
 abbrev pub magic : List ℕ
 magic = codes "CUBRICK"

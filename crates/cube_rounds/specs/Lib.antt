@@ -3,3 +3,4 @@ pub mod Bytes
 pub mod Demands
 pub mod Headers
 pub mod Stands
+pub mod KeptRows

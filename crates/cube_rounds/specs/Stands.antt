@@ -55,6 +55,11 @@ rounds_bytes digest cubes [] = []
 rounds_bytes digest cubes (round ∷ rounds) =
     open_gate ∷ (round_bytes digest cubes round ++ rounds_bytes digest (cubes ++ round.made) rounds)
 
+-- A header, and the rounds behind it.
+abbrev pub file_bytes : (List ℕ → List ℕ) → ℕ → List Decl → List Round → List ℕ
+file_bytes digest generation cubes rounds =
+    header_bytes digest generation (cubes_text cubes) ++ rounds_bytes digest cubes rounds
+
 -- A file of this generation stands for what is kept: it is a header, rounds and a gate that is shut, and
 -- then anything.
 pub record FileStands (digest : List ℕ → List ℕ) (generation : ℕ) (kept : Kept) (file : List ℕ) : Type 0 where
@@ -66,8 +71,7 @@ pub record FileStands (digest : List ℕ → List ℕ) (generation : ℕ) (kept 
   pub gate : ℕ
   pub rest : List ℕ
   pub shut : gate ≢ open_gate
-  pub whole : file ≡ header_bytes digest generation (cubes_text cubes)
-      ++ (rounds_bytes digest cubes rounds ++ gate ∷ rest)
+  pub whole : file ≡ file_bytes digest generation cubes rounds ++ gate ∷ rest
 
 -- A file is closed: too short for a header, or behind a gate that is shut, or of another kind.
 abbrev pub IsClosed : List ℕ → Type 0
@@ -90,3 +94,19 @@ pub record IsCurrent (digest : List ℕ → List ℕ) (kept : Kept) (file other 
 -- Two files stand for what is kept: one of them is the current one.
 abbrev pub Stands : (List ℕ → List ℕ) → Kept → List ℕ → List ℕ → Type 0
 Stands digest kept first second = IsCurrent digest kept first second ⊎ IsCurrent digest kept second first
+
+-- A header and a gate that is shut stand for the header's cubes.
+abbrev pub HeadersStand : Type 0
+HeadersStand =
+    (digest : List ℕ → List ℕ) (generation : ℕ) (cubes : List Decl) (gate : ℕ) (rest : List ℕ)
+    → FitsHeader generation (cubes_text cubes) → gate ≢ open_gate
+    → FileStands digest generation (kept_of_cubes cubes) (file_bytes digest generation cubes [] ++ gate ∷ rest)
+
+-- A file that stands for what is kept stands for one round more with that round behind it.
+abbrev pub RoundsFollow : Type 0
+RoundsFollow =
+    (digest : List ℕ → List ℕ) (generation : ℕ) (kept : Kept) (file : List ℕ) (round : Round) (gate : ℕ) (rest : List ℕ)
+    → (s : FileStands digest generation kept file)
+    → round.from ≡ kept.epoch → FitsRound kept.cubes kept.names round → gate ≢ open_gate
+    → FileStands digest generation (kept_with kept round)
+      (file_bytes digest generation s.cubes s.rounds ++ open_gate ∷ (round_bytes digest kept.cubes round ++ gate ∷ rest))

@@ -2,7 +2,9 @@
 #![tactic(auto)]
 
 mod brick;
+mod law;
 mod round;
 
 pub use brick::{RoundBrick, RoundBrickList};
+pub use law::files_stand_round_by_round;
 pub use round::{Decls, NameCounts, Round, RoundBricks, RoundCube, RoundCubes};

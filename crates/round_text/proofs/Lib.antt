@@ -6,3 +6,5 @@ pub mod HeaderLaws
 pub mod Told
 pub mod Shorts
 pub mod RowLaws
+pub mod NameLaws
+pub mod Zips

@@ -44,11 +44,11 @@ reads_signed = record {
 
 -- ---- coordinates and metrics
 
-is_true : (b : Bool) → IsTrue b → b ≡ true
+pub is_true : (b : Bool) → IsTrue b → b ≡ true
 is_true true t = refl
 is_true false t = absurd t
 
-as_true : (b : Bool) → b ≡ true → IsTrue b
+pub as_true : (b : Bool) → b ≡ true → IsTrue b
 as_true b e = rw e tt
 
 reads_coord : (limit : ℕ) → Reads four_bytes (IsCoordBelow limit) (coord_at limit)

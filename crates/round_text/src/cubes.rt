@@ -94,7 +94,7 @@ pub(crate) fn no_names(alloc: Global, cube: &Decl) -> Result<TextLists, AllocErr
     ensures { IfOk result (λ lists. lists ≡ no_names cube.now) }
 {
     let mut lists = TextLists::new(alloc);
-    'dims: for _ in cube.dims.as_slice() {
+    'dims: for _ in 0..cube.dims.len() {
         lists.push(Texts::new(alloc))?;
     }
     Ok(lists)

@@ -1,7 +1,7 @@
 //! A header as bytes.
 
 ghost use Rattle.std.specs.Prelude.{◌≡◌, ◌≤◌, ◌<◌, ◌^◌, ◌++◌, [], ◌∷◌, length, IfOk};
-ghost use Rattle.cube_rounds.specs.Headers.{header_bytes, FitsHeader};
+ghost use Rattle.cube_rounds.specs.Headers.{shut_gate, header_bytes, FitsHeader};
 ghost use Rattle.sha2.specs.Sha256.{sha256};
 
 use crate::digest::digest_of;
@@ -21,7 +21,7 @@ pub fn write_header(alloc: Global, generation: u64, cubes: &[u8]) -> Result<Vec<
     requires first { 1 ≤ generation }
     requires fits { FitsHeader generation cubes.now }
     ensures { IfOk result (λ out.
-        out.items ≡ header_bytes sha256 generation cubes.now ++ SHUT_GATE ∷ []) }
+        out.items ≡ header_bytes sha256 generation cubes.now ++ shut_gate ∷ []) }
 {
     let mut out = Vec::with_capacity(alloc, cubes.len().saturating_add(57))?;
     out.push(OPEN_GATE)?;

@@ -1,34 +1,51 @@
 //! A round as bytes.
 
-ghost use Rattle.std.specs.Prelude.{◌≡◌, ℕ, ◌+◌, ◌<◌, ◌≤◌, ◌++◌, [], ◌∷◌, List, length, map, All, get_or, slice_get, Some, OnOk, IfOk};
+ghost use Rattle.std.specs.Prelude.{◌≡◌, ◌+◌, ◌<◌, ◌^◌, ◌++◌, [], ◌∷◌, List, length, All, slice_get, Some, OnOk, IfOk};
 ghost use Rattle.std.specs.List.{flat_map, zip, AllZip};
 ghost use Rattle.cube_language.specs.Cubes.{cubes_text, IsStorable};
 ghost use Rattle.cube_language.specs.CubesText.{Declares};
 ghost use Rattle.cube_rounds.specs.Bytes.{eight_bytes, names_bytes, cube_bytes, made_bytes, payload_bytes, body_bytes, round_bytes};
 ghost use Rattle.cube_rounds.specs.Demands.{DimNames, FitsRound};
+ghost use Rattle.cube_rounds.specs.Headers.{shut_gate};
 ghost use Rattle.round_text.specs.Writing.{AreShort, HasNames};
 ghost use Rattle.sha2.specs.Sha256.{sha256};
 
 use crate::digest::digest_of;
 use crate::put::{put_bricks, put_eight, put_names};
 use crate::header_writing::SHUT_GATE;
-use cube_language::Decl;
+use cube_language::{Decl, DimDecl};
 use cube_rounds::{Round, RoundCube};
 use cube_schema::{Schema, check, print_cubes};
-use cube_values::{CallError, Texts};
+use cube_values::{CallError, Text, Texts};
 use std::alloc::{AllocError, Global};
+
+/// Puts the new names of a dimension.
+fn put_dim(out: &mut Vec<u8>, dim: &DimDecl, names: &[Text]) -> Result<(), AllocError>
+    requires { All (λ name. length name < 2 ^ 8) names.now }
+    ensures { OnOk result (out.new.items ≡ out.old.items ++ names_bytes dim.now names.now) }
+{
+    if dim.text { put_names(out, names) } else { Ok(()) }
+}
+
+/// Puts the new names of each dimension.
+fn put_dims(out: &mut Vec<u8>, dims: &[DimDecl], lists: &[Texts]) -> Result<(), AllocError>
+    requires dims { length lists.now ≡ length dims.now }
+    requires short { AreShort lists.now }
+    ensures { OnOk result (out.new.items
+        ≡ out.old.items ++ flat_map (λ d. names_bytes d.0 d.1) (zip dims.now lists.now)) }
+{
+    'dims: for (i, dim) in dims.iter().enumerate() {
+        put_dim(out, dim, lists[i].as_slice())?;
+    }
+    Ok(())
+}
 
 /// Puts what a round has of a cube.
 fn put_cube(out: &mut Vec<u8>, cube: &Decl, part: &RoundCube) -> Result<(), AllocError>
     requires { HasNames cube.now part.now }
     ensures { OnOk result (out.new.items ≡ out.old.items ++ cube_bytes cube.now part.now) }
 {
-    let names = part.names.as_slice();
-    'dims: for (i, dim) in cube.dims.as_slice().iter().enumerate() {
-        if dim.text {
-            put_names(out, names[i].as_slice())?;
-        }
-    }
+    put_dims(out, cube.dims.as_slice(), part.names.as_slice())?;
     put_bricks(out, part.bricks.as_slice())
 }
 
@@ -145,7 +162,7 @@ fn payload_of(alloc: Global, round: &Round, cubes: &[Schema]) -> Result<Vec<u8>,
 pub fn write_round(alloc: Global, round: &Round, cubes: &[Schema]) -> Result<Vec<u8>, AllocError>
     requires { (names : List DimNames) × FitsRound cubes.now names round.now }
     ensures { IfOk result (λ out.
-        out.items ≡ round_bytes sha256 cubes.now round.now ++ SHUT_GATE ∷ []) }
+        out.items ≡ round_bytes sha256 cubes.now round.now ++ shut_gate ∷ []) }
 {
     let payload = payload_of(alloc, round, cubes)?;
     let mut out = Vec::with_capacity(alloc, payload.len().saturating_add(57))?;

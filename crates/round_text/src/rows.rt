@@ -69,7 +69,7 @@ fn take_metrics<'a>(
 {
     metrics.clear();
     let mut rest = bytes;
-    'names: for _name in names {
+    'names: for _ in 0..names.len() {
         rest = take_metric(rest, metrics)?;
     }
     Ok(rest)

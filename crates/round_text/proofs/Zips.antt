@@ -1,0 +1,30 @@
+-- Two lists side by side, as a loop goes over them.
+use Rattle.std.proofs.Common.{◌≡◌, ℕ, suc, ◌+◌, ◌<◌, ◌≤◌, List, [], ◌∷◌, ◌++◌, length, take, drop, get_or, refl, sym, ap, ◌∙◌, append_assoc, arith}
+use Rattle.std.specs.List.{flat_map, zip, AllZip}
+use Rattle.std.proofs.lemmas.List.{take_more, append-nil, take_all}
+use Rattle.std.proofs.lemmas.List.Concat.{flat_map-cons}
+use Rattle.std.proofs.lemmas.Grind.{flat_map-append}
+use Rattle.std.proofs.lemmas.Slice.Zip.{get_or-zip, length-zip}
+
+-- One pair more was put.
+pub pair_put : {A B : Type 0} (f : A × B → List ℕ) (ks : List A) (vs : List B) (i : ℕ) (d : A) (e : B) (before out new : List ℕ)
+    → i < length ks → length vs ≡ length ks
+    → out ≡ before ++ flat_map f (take i (zip ks vs)) → new ≡ out ++ f (get_or ks i d, get_or vs i e)
+    → new ≡ before ++ flat_map f (take (i + 1) (zip ks vs))
+pair_put f ks vs i d e before out new lt same so_far put =
+    let there : i < length (zip ks vs) = omega (arith, length-zip ks vs) in
+    let pair : get_or (zip ks vs) i (d, e) ≡ (get_or ks i d, get_or vs i e) = get_or-zip ks vs i (d, e) lt (omega arith) in
+    let one : flat_map f (take (i + 1) (zip ks vs)) ≡ flat_map f (take i (zip ks vs)) ++ f (get_or ks i d, get_or vs i e) =
+      ap (flat_map f) (take_more (zip ks vs) i (d, e) there)
+      ∙ flat_map-append f (take i (zip ks vs)) (get_or (zip ks vs) i (d, e) ∷ [])
+      ∙ ap (λ (b : List ℕ). flat_map f (take i (zip ks vs)) ++ b) (append-nil (f (get_or (zip ks vs) i (d, e))) ∙ ap f pair) in
+    put ∙ ap (λ (b : List ℕ). b ++ f (get_or ks i d, get_or vs i e)) so_far
+    ∙ append_assoc before (flat_map f (take i (zip ks vs))) (f (get_or ks i d, get_or vs i e))
+    ∙ ap (λ (b : List ℕ). before ++ b) (sym one)
+
+-- All pairs were put.
+pub pairs_put : {A B : Type 0} (f : A × B → List ℕ) (ks : List A) (vs : List B) (i : ℕ) (before out : List ℕ)
+    → length ks ≤ i → length vs ≡ length ks
+    → out ≡ before ++ flat_map f (take i (zip ks vs)) → out ≡ before ++ flat_map f (zip ks vs)
+pairs_put f ks vs i before out le same so_far =
+    so_far ∙ ap (λ (z : _). before ++ flat_map f z) (take_all (zip ks vs) i (omega (arith, length-zip ks vs)))
