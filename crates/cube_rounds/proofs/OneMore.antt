@@ -27,8 +27,8 @@ bytes_more : (digest : List ℕ → List ℕ) (kept : Kept) (rounds : List Round
 bytes_more digest kept [] round = ap (λ (b : List ℕ). open_gate ∷ b) (append-nil (round_bytes digest kept.cubes round))
 bytes_more digest kept (first ∷ rounds) round =
     ap (λ (b : List ℕ). open_gate ∷ b) (
-      ap (λ (b : List ℕ). round_bytes digest kept.cubes first ++ b) (bytes_more digest (kept_with kept first) rounds round)
-      ∙ sym (append_assoc (round_bytes digest kept.cubes first) (rounds_bytes digest (kept_with kept first).cubes rounds) (open_gate ∷ round_bytes digest (kept_with_all (kept_with kept first) rounds).cubes round)))
+    ap (λ (b : List ℕ). round_bytes digest kept.cubes first ++ b) (bytes_more digest (kept_with kept first) rounds round)
+    ∙ sym (append_assoc (round_bytes digest kept.cubes first) (rounds_bytes digest (kept_with kept first).cubes rounds) (open_gate ∷ round_bytes digest (kept_with_all (kept_with kept first) rounds).cubes round)))
 
 pub rounds_follow : RoundsFollow
 rounds_follow digest generation kept file round gate rest s from fits shut =
@@ -37,7 +37,7 @@ rounds_follow digest generation kept file round gate rest s from fits shut =
     let head = header_bytes digest generation (cubes_text s.cubes) in
     let bytes = round_bytes digest kept.cubes round in
     let more : rounds_bytes digest s.cubes (s.rounds ++ round ∷ []) ≡ rounds_bytes digest s.cubes s.rounds ++ (open_gate ∷ bytes) =
-      bytes_more digest begun s.rounds round ∙ ap (λ (k : Kept). rounds_bytes digest s.cubes s.rounds ++ (open_gate ∷ round_bytes digest k.cubes round)) (sym same) in
+    bytes_more digest begun s.rounds round ∙ ap (λ (k : Kept). rounds_bytes digest s.cubes s.rounds ++ (open_gate ∷ round_bytes digest k.cubes round)) (sym same) in
     record {
       cubes = s.cubes;
       header = s.header;
@@ -48,7 +48,7 @@ rounds_follow digest generation kept file round gate rest s from fits shut =
       rest = rest;
       shut = shut;
       whole =
-        append_assoc head (rounds_bytes digest s.cubes s.rounds) (open_gate ∷ (bytes ++ gate ∷ rest))
-        ∙ ap (λ (b : List ℕ). head ++ b) (sym (append_assoc (rounds_bytes digest s.cubes s.rounds) (open_gate ∷ bytes) (gate ∷ rest)) ∙ ap (λ (b : List ℕ). b ++ gate ∷ rest) (sym more))
-        ∙ sym (append_assoc head (rounds_bytes digest s.cubes (s.rounds ++ round ∷ [])) (gate ∷ rest));
+          append_assoc head (rounds_bytes digest s.cubes s.rounds) (open_gate ∷ (bytes ++ gate ∷ rest))
+          ∙ ap (λ (b : List ℕ). head ++ b) (sym (append_assoc (rounds_bytes digest s.cubes s.rounds) (open_gate ∷ bytes) (gate ∷ rest)) ∙ ap (λ (b : List ℕ). b ++ gate ∷ rest) (sym more))
+          ∙ sym (append_assoc head (rounds_bytes digest s.cubes (s.rounds ++ round ∷ [])) (gate ∷ rest));
     }

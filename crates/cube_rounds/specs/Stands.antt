@@ -109,4 +109,4 @@ RoundsFollow =
     → (s : FileStands digest generation kept file)
     → round.from ≡ kept.epoch → FitsRound kept.cubes kept.names round → gate ≢ open_gate
     → FileStands digest generation (kept_with kept round)
-      (file_bytes digest generation s.cubes s.rounds ++ open_gate ∷ (round_bytes digest kept.cubes round ++ gate ∷ rest))
+    (file_bytes digest generation s.cubes s.rounds ++ open_gate ∷ (round_bytes digest kept.cubes round ++ gate ∷ rest))

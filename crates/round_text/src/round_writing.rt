@@ -88,7 +88,7 @@ fn put_made(out: &mut Vec<u8>, alloc: Global, made: &[Decl]) -> Result<(), Alloc
 }
 
 /// Cube `i` of those before a round and those made in it.
-fn cube_at(before: &[Schema], made: &[Decl], i: usize) -> &Decl
+fn cube_at<'a>(before: &'a [Schema], made: &'a [Decl], i: usize) -> &'a Decl
     requires { i < length before.now + length made.now }
     ensures { slice_get (before.now ++ made.now) i ≡ Some result.now }
 {
