@@ -79,7 +79,8 @@ FitNames d names = MatchBool d.0.text (AreNewNames d.0.cardinality d.1 names) (n
 pub record FitsCube (from epoch : ℕ) (cube : Decl) (earlier : DimNames) (part : RoundCube) : Type 0 where
   pub names : AllZip FitNames (zip cube.dims earlier) part.names
   pub rising : AreRising 0 part.bricks
-  pub bricks : AllByRecursion (FitsBrick cube (coord_limits cube (names_with earlier part.names)) from epoch) part.bricks
+  pub bricks : AllByRecursion
+      (FitsBrick cube (coord_limits cube (names_with earlier part.names)) from epoch) part.bricks
 
 -- A cube is made without names.
 abbrev pub no_names : Decl → DimNames

@@ -59,6 +59,18 @@ pub record Reads {A : Type 0} (spell : A → List ℕ) (Fits : A → Type 0) (re
 
 -- ---- numbers
 
+pub four_again : (n : ℕ) (rest : List ℕ) → n < 2 ^ 32 → four_at (four_bytes n ++ rest) ≡ Ok (n, rest)
+unfolding four_bytes four_at
+four_again n rest lt =
+    let long : ltb (length (to_le_bytes w32 n ++ rest)) 4 ≡ false = le-ltb _ _ (omega (arith, length-append (to_le_bytes w32 n) rest)) in
+    rw (long, take_at (to_le_bytes w32 n) rest 4 refl, drop_at (to_le_bytes w32 n) rest 4 refl, from_le_bytes-to_le_bytes_4 n lt) refl
+
+pub eight_again : (n : ℕ) (rest : List ℕ) → n < 2 ^ 64 → eight_at (eight_bytes n ++ rest) ≡ Ok (n, rest)
+unfolding eight_bytes eight_at
+eight_again n rest lt =
+    let long : ltb (length (to_le_bytes w64 n ++ rest)) 8 ≡ false = le-ltb _ _ (omega (arith, length-append (to_le_bytes w64 n) rest)) in
+    rw (long, take_at (to_le_bytes w64 n) rest 8 refl, drop_at (to_le_bytes w64 n) rest 8 refl, from_le_bytes-to_le_bytes_8 n lt) refl
+
 pub reads_four : Reads four_bytes (λ n. n < 2 ^ 32) four_at
 unfolding four_bytes four_at
 reads_four = record {
@@ -70,9 +82,7 @@ reads_four = record {
     let front : to_le_bytes w32 n ≡ take 4 bytes = le_bytes_4 (take 4 bytes) n (omega (arith, length-take 4 bytes)) (IsBytes-take 4 bytes fits) (sym n-is) in
     let small = IsBytes-take 4 bytes fits in
     (record { parts = sym (take-append-drop 4 bytes) ∙ (λ i. sym front i ++ rest-is i); rest_fits = subst IsBytes rest-is (IsBytes-drop 4 bytes fits) }, subst (λ (k : ℕ). k < 2 ^ 32) n-is (omega (arith, small 0, small 1, small 2, small 3)));
-  again = λ n rest lt short.
-    let long : ltb (length (to_le_bytes w32 n ++ rest)) 4 ≡ false = le-ltb _ _ (omega (arith, length-append (to_le_bytes w32 n) rest)) in
-    rw (long, take_at (to_le_bytes w32 n) rest 4 refl, drop_at (to_le_bytes w32 n) rest 4 refl, from_le_bytes-to_le_bytes_4 n lt) refl;
+  again = λ n rest lt short. four_again n rest lt;
 }
 
 pub reads_eight : Reads eight_bytes (λ n. n < 2 ^ 64) eight_at
@@ -86,7 +96,5 @@ reads_eight = record {
     let front : to_le_bytes w64 n ≡ take 8 bytes = le_bytes_8 (take 8 bytes) n (omega (arith, length-take 8 bytes)) (IsBytes-take 8 bytes fits) (sym n-is) in
     let small = IsBytes-take 8 bytes fits in
     (record { parts = sym (take-append-drop 8 bytes) ∙ (λ i. sym front i ++ rest-is i); rest_fits = subst IsBytes rest-is (IsBytes-drop 8 bytes fits) }, subst (λ (k : ℕ). k < 2 ^ 64) n-is (omega (arith, small 0, small 1, small 2, small 3, small 4, small 5, small 6, small 7)));
-  again = λ n rest lt short.
-    let long : ltb (length (to_le_bytes w64 n ++ rest)) 8 ≡ false = le-ltb _ _ (omega (arith, length-append (to_le_bytes w64 n) rest)) in
-    rw (long, take_at (to_le_bytes w64 n) rest 8 refl, drop_at (to_le_bytes w64 n) rest 8 refl, from_le_bytes-to_le_bytes_8 n lt) refl;
+  again = λ n rest lt short. eight_again n rest lt;
 }

@@ -1,6 +1,6 @@
 -- Which headers reading finds, and that it finds each.
 use Rattle.std.proofs.Common.{◌≡◌, ℕ, zero, suc, ◌+◌, ◌-◌, ◌^◌, ◌<◌, ◌≤◌, Bool, true, false, cond, leb, ◌&&◌, List, [], ◌∷◌, ◌++◌, length, get_or, take, drop, Option, Some, None, Result, Ok, Err, IsTrue, refl, sym, ap, subst, ◌∙◌, append_assoc, arith, inl, inr}
-use Rattle.std.specs.Prelude.{MatchOption, is_some, IfOk}
+use Rattle.std.specs.Prelude.{MatchOption, MatchResult, is_some, IfOk}
 use Rattle.std.specs.Str.{bytes_eq}
 use Rattle.std.proofs.lemmas.List.{take_at, drop_at, take-append-drop, length-append, length-take, length-drop}
 use Rattle.std.proofs.lemmas.Bool.{leb-true, le-leb}
@@ -17,7 +17,7 @@ use Rattle.round_text.specs.Reading.{Fails, Gives, ReadOf, four_at, eight_at}
 use Rattle.round_text.specs.Payload.{TellsCubes}
 use Rattle.round_text.specs.Rounds.{where_digest_is}
 use Rattle.round_text.specs.Headers.{front_of, when_read, text_start, header_of, header_with, header_at_text, is_right_generation, second_header_at, first_header_at, header_at}
-use Rattle.round_text.proofs.FieldLaws.{IsBytes, IsBytes-drop, passed, ok_is, Takes, Reads, reads_four, reads_eight}
+use Rattle.round_text.proofs.FieldLaws.{IsBytes, IsBytes-drop, passed, ok_is, Takes, Reads, reads_four, reads_eight, four_again, eight_again}
 
 passes : {A F : Type 0} (b : Bool) (r : Result A F) (d : F) (y : A) → cond b r (Err d) ≡ Ok y → (b ≡ true) × (r ≡ Ok y)
 passes true r d y e = (refl, e)
@@ -257,11 +257,11 @@ text_again digest told tells bytes head text cubes start generation gate rest wi
 
 -- The first header of version 2 that stands in the bytes is read.
 second_again : (digest : List ℕ → List ℕ) (told : List ℕ → Option (List Decl)) → TellsCubes told → (bytes text : List ℕ) (cubes : List Decl) (n gate : ℕ) (rest : List ℕ)
-    → ((m : List ℕ) → length (digest m) ≡ 32) → IsCanonical text cubes → length text < 2 ^ 32 → suc n ≤ 2 ^ 62 → length bytes < 2 ^ 64
+    → ((m : List ℕ) → length (digest m) ≡ 32) → IsCanonical text cubes → length text < 2 ^ 32 → suc n ≤ 2 ^ 62
     → bytes ≡ open_gate ∷ (head_bytes (suc n) text ++ (digest (head_bytes (suc n) text) ++ gate ∷ rest))
     → header_at digest told bytes ≡ Ok (header_of 24 (suc n) text)
 unfolding header_at second_header_at
-second_again digest told tells bytes text cubes n gate rest wide canonical long small short whole =
+second_again digest told tells bytes text cubes n gate rest wide canonical long small whole =
     let g = suc n in
     let head = head_bytes g text in
     let behind = digest head ++ gate ∷ rest in
@@ -272,8 +272,8 @@ second_again digest told tells bytes text cubes n gate rest wide canonical long 
     let front : take 12 bytes ≡ front_of 2 = ap (take 12) parts ∙ take_at (front_of 2) d12 12 (omega (arith, length-four 2)) in
     let rest12 : drop 12 bytes ≡ d12 = ap (drop 12) parts ∙ drop_at (front_of 2) d12 12 (omega (arith, length-four 2)) in
     let is_second : bytes_eq (take 12 bytes) (front_of 2) ≡ true = is_true (bytes_eq (take 12 bytes) (front_of 2)) ((bytes_eq-Decides (take 12 bytes) (front_of 2)).1 front) in
-    let size : four_at (drop 12 bytes) ≡ Ok (length text, r16) = ap four_at rest12 ∙ reads_four.again (length text) r16 long (omega (arith, ap length rest12, length-drop 12 bytes)) in
-    let generation : eight_at r16 ≡ Ok (g, left) = reads_eight.again g left (omega arith) (omega (arith, ap length rest12, length-drop 12 bytes, length-append (four_bytes (length text)) r16)) in
+    let size : four_at (drop 12 bytes) ≡ Ok (length text, r16) = ap four_at rest12 ∙ four_again (length text) r16 long in
+    let generation : eight_at r16 ≡ Ok (g, left) = eight_again g left (omega arith) in
     let right : is_right_generation g ≡ true = ap (λ b. leb 1 g && b) (le-leb g (2 ^ 62) small) ∙ ap (λ b. b && true) (le-leb 1 g (omega arith)) in
     let text-at = text_again digest told tells bytes head text cubes 24 g gate rest wide canonical (omega (arith, length-second_head (length text) g text)) whole in
     ap (λ b. cond b (second_header_at digest told bytes) (cond (bytes_eq (take 12 bytes) (front_of 1)) (first_header_at digest told bytes) (Err (BadText 12)))) is_second
@@ -292,11 +292,11 @@ not_second false no = refl
 
 -- The first header of version 1 that stands in the bytes is read.
 first_again : (digest : List ℕ → List ℕ) (told : List ℕ → Option (List Decl)) → TellsCubes told → (bytes text : List ℕ) (cubes : List Decl) (gate : ℕ) (rest : List ℕ)
-    → ((m : List ℕ) → length (digest m) ≡ 32) → IsCanonical text cubes → length text < 2 ^ 32 → length bytes < 2 ^ 64
+    → ((m : List ℕ) → length (digest m) ≡ 32) → IsCanonical text cubes → length text < 2 ^ 32
     → bytes ≡ open_gate ∷ (head_bytes 0 text ++ (digest (head_bytes 0 text) ++ gate ∷ rest))
     → header_at digest told bytes ≡ Ok (header_of 16 0 text)
 unfolding header_at first_header_at
-first_again digest told tells bytes text cubes gate rest wide canonical long short whole =
+first_again digest told tells bytes text cubes gate rest wide canonical long whole =
     let head = head_bytes 0 text in
     let behind = digest head ++ gate ∷ rest in
     let left = text ++ behind in
@@ -307,7 +307,7 @@ first_again digest told tells bytes text cubes gate rest wide canonical long sho
     let second : bytes_eq (take 12 bytes) (front_of 2) ≡ false =
       not_second (bytes_eq (take 12 bytes) (front_of 2)) (λ t. fronts_differ (sym front ∙ (bytes_eq-Decides (take 12 bytes) (front_of 2)).0 t)) in
     let first : bytes_eq (take 12 bytes) (front_of 1) ≡ true = is_true (bytes_eq (take 12 bytes) (front_of 1)) ((bytes_eq-Decides (take 12 bytes) (front_of 1)).1 front) in
-    let size : four_at (drop 12 bytes) ≡ Ok (length text, left) = ap four_at rest12 ∙ reads_four.again (length text) left long (omega (arith, ap length rest12, length-drop 12 bytes)) in
+    let size : four_at (drop 12 bytes) ≡ Ok (length text, left) = ap four_at rest12 ∙ four_again (length text) left long in
     let text-at = text_again digest told tells bytes head text cubes 16 0 gate rest wide canonical (omega (arith, length-first_head (length text) text)) whole in
     ap (λ b. cond b (second_header_at digest told bytes) (cond (bytes_eq (take 12 bytes) (front_of 1)) (first_header_at digest told bytes) (Err (BadText 12)))) second
     ∙ ap (λ b. cond b (first_header_at digest told bytes) (Err (BadText 12))) first
@@ -316,14 +316,14 @@ first_again digest told tells bytes text cubes gate rest wide canonical long sho
 
 -- A header that stands in the bytes is read.
 pub header_again : (digest : List ℕ → List ℕ) (told : List ℕ → Option (List Decl)) → TellsCubes told → ((m : List ℕ) → length (digest m) ≡ 32)
-    → (bytes : List ℕ) (generation : ℕ) (text : List ℕ) → length bytes < 2 ^ 64 → BeginsWithHeader digest generation text bytes
+    → (bytes : List ℕ) (generation : ℕ) (text : List ℕ) → BeginsWithHeader digest generation text bytes
     → header_at digest told bytes ≡ Ok (header_of (text_start generation) generation text)
 unfolding header_bytes
-header_again digest told tells wide bytes zero text short begins =
-    first_again digest told tells bytes text begins.fits.cubes begins.gate begins.rest wide begins.fits.canonical begins.fits.long short
+header_again digest told tells wide bytes zero text begins =
+    first_again digest told tells bytes text begins.fits.cubes begins.gate begins.rest wide begins.fits.canonical begins.fits.long
       (begins.whole ∙ ap (λ (b : List ℕ). open_gate ∷ b) (append_assoc (head_bytes 0 text) (digest (head_bytes 0 text)) (begins.gate ∷ begins.rest)))
-header_again digest told tells wide bytes (suc n) text short begins =
-    second_again digest told tells bytes text begins.fits.cubes n begins.gate begins.rest wide begins.fits.canonical begins.fits.long begins.fits.small short
+header_again digest told tells wide bytes (suc n) text begins =
+    second_again digest told tells bytes text begins.fits.cubes n begins.gate begins.rest wide begins.fits.canonical begins.fits.long begins.fits.small
       (begins.whole ∙ ap (λ (b : List ℕ). open_gate ∷ b) (append_assoc (head_bytes (suc n) text) (digest (head_bytes (suc n) text)) (begins.gate ∷ begins.rest)))
 
 -- How many bytes a header has, without the gate behind it.
@@ -355,11 +355,13 @@ pub size_by : (digest : List ℕ → List ℕ) → ((m : List ℕ) → length (d
 size_by digest wide bytes (Ok h) is = omega (arith, is.size, length-header digest wide h.generation h.cubes)
 size_by digest wide bytes (Err e) is = tt
 
-fails_with : (e : CallError FormatFault) (h : Header) → Fails e (right_header h) → Fails e (Ok {E = FormatFault} (h.generation, h.cubes))
-fails_with errors.NoMemory h given = tt
-fails_with (errors.Fault f) h given = absurd cc
+no_fault : (e : CallError FormatFault) (h : Header) → Fails e (right_header h) → e ≡ errors.NoMemory
+no_fault errors.NoMemory h given = refl
+no_fault (errors.Fault f) h given = absurd cc
 
 pub only_by : (r : Result Header (CallError FormatFault)) (start generation : ℕ) (text : List ℕ) → Gives (λ h. h) r (right_header (header_of start generation text))
-    → Gives (λ h. (h.generation, h.cubes)) r (Ok {E = FormatFault} (generation, text))
-only_by (Ok h) start generation text given = let same = ok_is FormatFault (header_of start generation text) h given in ap (λ (x : Header). Ok {E = FormatFault} (x.generation, x.cubes)) same
-only_by (Err e) start generation text given = fails_with e (header_of start generation text) given
+    → MatchResult r (λ h. (h.generation ≡ generation) × (h.cubes ≡ text)) (λ e. e ≡ errors.NoMemory)
+only_by (Ok h) start generation text given =
+    let same = ok_is FormatFault (header_of start generation text) h given in
+    (ap (λ (x : Header). x.generation) (sym same), ap (λ (x : Header). x.cubes) (sym same))
+only_by (Err e) start generation text given = no_fault e (header_of start generation text) given

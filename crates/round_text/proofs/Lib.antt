@@ -1,10 +1,7 @@
-pub mod Loops
-pub mod FieldLaws
-pub mod Sequences
 pub mod EntryWrites
+pub mod FieldLaws
 pub mod HeaderLaws
-pub mod Told
+pub mod MadeNames
 pub mod Shorts
-pub mod RowLaws
-pub mod NameLaws
+pub mod Told
 pub mod Zips

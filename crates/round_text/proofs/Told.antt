@@ -6,7 +6,8 @@ use Rattle.std.proofs.lemmas.Slice.Eq.{bytes_eq-Decides}
 use Rattle.sha2.specs.Sha256.{sha256, digest_bytes, final_hash, initial_hash_256}
 use Rattle.cube_language.specs.declared.decl.Decl.{Decl}
 use Rattle.cube_language.specs.Cubes.{cubes_text}
-use Rattle.cube_language.specs.CubesText.{Declares}
+use Rattle.cube_language.specs.CubesText.{Declares, HasCubesFault}
+use Rattle.cube_language.specs.declared.cubes_fault.CubesFault.{CubesFault}
 use Rattle.cube_schema.specs.Texts.{AnyCubes, AnyFault, TextsDeclareOrHaveFault, TextsDeclareOneList, DeclaringTextsHaveNoFault}
 use Rattle.cube_rounds.specs.Headers.{IsCanonical}
 use Rattle.round_text.specs.Payload.{TellsCubes}
@@ -28,6 +29,30 @@ told_right one_list no_fault text (inl any) =
           rw is at yes
     ] refl
 told_right one_list no_fault text (inr fault) = λ cubes c. no_fault text cubes fault.0 c.declares fault.1
+
+-- The cubes of a canonical text are told.
+pub told_is_some : TextsDeclareOneList → (told : List ℕ → Option (List Decl)) → TellsCubes told → (text : List ℕ) (cubes : List Decl) → Declares text cubes → text ≡ cubes_text cubes → told text ≡ Some cubes
+told_is_some one_list told tells text cubes declares canonical =
+    elim (told text) as (λ o. MatchOption o ((cubes : List Decl) → IsCanonical text cubes → ⊥) (IsCanonical text) → o ≡ Some cubes) [
+      | None ↦ λ m. absurd (m cubes (record { declares = declares; canonical = canonical }))
+      | Some other ↦ λ m. ap Some (one_list text other cubes m.declares declares)
+    ] (tells text)
+
+told_none : (told : List ℕ → Option (List Decl)) → TellsCubes told → (text : List ℕ) → ((cubes : List Decl) → IsCanonical text cubes → ⊥) → told text ≡ None
+told_none told tells text no =
+    elim (told text) as (λ o. MatchOption o ((cubes : List Decl) → IsCanonical text cubes → ⊥) (IsCanonical text) → o ≡ None) [
+      | None ↦ λ m. refl
+      | Some cubes ↦ λ m. absurd (no cubes m)
+    ] (tells text)
+
+-- A text that is another than the canonical one of its cubes has none.
+pub told_of_other : TextsDeclareOneList → (told : List ℕ → Option (List Decl)) → TellsCubes told → (text : List ℕ) (cubes : List Decl) → Declares text cubes → (text ≡ cubes_text cubes → ⊥) → told text ≡ None
+told_of_other one_list told tells text cubes declares other =
+    told_none told tells text (λ found c. other (c.canonical ∙ ap cubes_text (one_list text found cubes c.declares declares)))
+
+-- A text with a fault has none.
+pub told_of_fault : DeclaringTextsHaveNoFault → (told : List ℕ → Option (List Decl)) → TellsCubes told → (text : List ℕ) (fault : CubesFault) → HasCubesFault text fault → told text ≡ None
+told_of_fault no_fault told tells text fault has = told_none told tells text (λ cubes c. no_fault text cubes fault c.declares has)
 
 pub record Teller : Type 0 where
   pub told : List ℕ → Option (List Decl)

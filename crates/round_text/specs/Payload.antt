@@ -1,5 +1,5 @@
 -- Reading of a payload: which part of it is the first that breaks a rule.
-use Rattle.std.specs.Prelude.{◌≡◌, ℕ, zero, suc, ◌+◌, ◌-◌, ℤ, Bool, false, not, ◌&&◌, ◌==◌, nat_lt, nat_le, List, [], ◌∷◌, ◌++◌, length, map, take, drop, MatchOption, Option, Some, None, is_none, Result, Ok, Err, if◌then◌else◌}
+use Rattle.std.specs.Prelude.{◌≡◌, ℕ, ◌+◌, ◌-◌, ℤ, Bool, false, not, ◌&&◌, ◌==◌, nat_lt, nat_le, List, [], ◌∷◌, ◌++◌, length, map, take, drop, MatchOption, Option, Some, None, is_none, Result, Ok, Err, if◌then◌else◌}
 use Rattle.std.specs.List.{list_any, zip}
 use Rattle.std.specs.Str.{bytes_eq, is_utf8}
 use Rattle.cube_values.specs.declared.entry.Entry.{Entry}
@@ -198,14 +198,17 @@ abbrev pub made_or : List Decl → ℕ → Option (List Decl) → ℕ → List �
 made_or before count None left rest = Err left
 made_or before count (Some made) left rest = if are_made before count made then Ok (made, rest) else Err left
 
+-- The new cubes by their text behind its size, which breaks a rule at its first byte.
+abbrev pub made_of_size : (List ℕ → Option (List Decl)) → List Decl → ℕ → ℕ × List ℕ → ReadOf (List Decl)
+made_of_size told before count size =
+    if nat_lt (length size.1) size.0
+      then Err (length size.1)
+      else made_or before count (told (take size.0 size.1)) (length size.1) (drop size.0 size.1)
+
 -- So many new cubes by their text; nothing where there are none.
 unfoldable pub made_at : (List ℕ → Option (List Decl)) → List Decl → ℕ → List ℕ → ReadOf (List Decl)
-made_at told before zero bytes = Ok ([], bytes)
-made_at told before (suc count) bytes = do
-  size ← eight_at bytes
-  if nat_lt (length size.1) size.0
-    then Err (length size.1)
-    else made_or before (suc count) (told (take size.0 size.1)) (length size.1) (drop size.0 size.1)
+made_at told before count bytes =
+    if count == 0 then Ok ([], bytes) else (eight_at bytes >>= made_of_size told before count)
 
 -- New cubes, and what the round has of each cube.
 pub record Content : Type 0 where

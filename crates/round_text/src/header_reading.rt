@@ -1,6 +1,7 @@
 //! A header from its bytes.
 
-ghost use Rattle.std.specs.Prelude.{◌≡◌, ℕ, ◌+◌, ◌≤◌, List, length, take, drop, Option, true, IfOk, Ok};
+ghost use Rattle.std.specs.Prelude.{◌≡◌, ℕ, ◌+◌, ◌≤◌, List, length, take, drop, Option, true, bytes_eq, IfOk, MatchResult};
+ghost use Rattle.cube_values.specs.declared.call_error.CallError.TheVariants.{NoMemory};
 ghost use Rattle.cube_language.specs.declared.decl.Decl.{Decl as Declaration};
 ghost use Rattle.cube_rounds.specs.Bytes.{four_bytes};
 ghost use Rattle.cube_rounds.specs.Headers.{header_bytes, BeginsWithHeader};
@@ -133,7 +134,8 @@ pub fn read_header(alloc: Global, bytes: &[u8]) -> Result<Header, CallError<Form
         h.size ≡ length (header_bytes sha256 h.generation h.cubes) + 1) }
     ensures only { (generation : ℕ) (text : List ℕ)
         → BeginsWithHeader sha256 generation text bytes.now
-        → Gives (λ h. (h.generation, h.cubes)) result (Ok (generation, text)) }
+        → MatchResult result (λ h. (h.generation ≡ generation) × (h.cubes ≡ text))
+        (λ e. e ≡ NoMemory) }
     ensures exact { (told : List ℕ → Option (List Declaration)) → TellsCubes told
         → Gives (λ h. h) result (header_at sha256 told bytes.now) }
 {

@@ -16,3 +16,6 @@ pub use header::{Bytes, Header};
 pub use header_reading::read_header;
 pub use header_writing::write_header;
 pub use round_writing::write_round;
+
+#[cfg(test)]
+mod tests;

@@ -1,12 +1,12 @@
 //! The cubes that are new with a round, by their text.
 
-ghost use Rattle.std.specs.Prelude.{◌≡◌, ℕ, ◌++◌, ◌==◌, List, length, nat_le, Option, MatchOption, IfOk, is_none};
+ghost use Rattle.std.specs.Prelude.{◌≡◌, ℕ, ◌++◌, ◌==◌, List, length, nat_le, Option, IfOk, is_none};
 ghost use Rattle.std.specs.List.{list_any};
+ghost use Rattle.std.specs.Option.{option_map};
 ghost use Rattle.std.specs.Str.{bytes_eq};
 ghost use Rattle.cube_language.specs.declared.decl.Decl.{Decl as Declaration};
 ghost use Rattle.cube_language.specs.Cubes.{repeated_after};
 ghost use Rattle.cube_rounds.specs.Demands.{cube_names_of};
-ghost use Rattle.cube_rounds.specs.Headers.{IsCanonical};
 ghost use Rattle.round_text.specs.Reading.{Gives};
 ghost use Rattle.round_text.specs.Payload.{TellsCubes, are_made, made_or, made_at};
 
@@ -17,9 +17,8 @@ use std::alloc::{AllocError, Global};
 
 /// The cubes of which a text is the canonical text.
 pub(crate) fn canonical_cubes(alloc: Global, text: &[u8]) -> Result<Option<Vec<Schema>>, AllocError>
-    ensures { IfOk result (λ found. MatchOption found
-        ((cubes : List Declaration) → IsCanonical text.now cubes → ⊥)
-        (λ schemas. IsCanonical text.now schemas.items)) }
+    ensures { (told : List ℕ → Option (List Declaration)) → TellsCubes told
+        → IfOk result (λ found. told text.now ≡ option_map (λ schemas. schemas.items) found) }
 {
     a_text_declares_or_has_one_fault();
     match read_cubes(alloc, text) {

@@ -24,4 +24,4 @@ returns-clause-only c = λ generation text begins.
     let law = c.a_text_declares_or_has_one_fault.ensures in
     let t = teller law.either law.one_list law.no_fault in
     only_by c.header_in.result _ generation text
-      (subst (λ r. Gives (λ h. h) c.header_in.result r) (header_again sha256 t.told t.tells length-sha256 c.args.bytes.now generation text ? begins) (c.header_in.ensures t.told t.tells))
+      (subst (λ r. Gives (λ h. h) c.header_in.result r) (header_again sha256 t.told t.tells length-sha256 c.args.bytes.now generation text begins) (c.header_in.ensures t.told t.tells))

@@ -46,11 +46,11 @@ pub record IsNewName (names : List (List ℕ)) (name : List ℕ) : Type 0 where
   pub short : length name < 2 ^ 8
   pub new : list_any (bytes_eq name) names ≡ false
 
-both_true : (a b : Bool) → (a && b) ≡ true → (a ≡ true) × (b ≡ true)
+pub both_true : (a b : Bool) → (a && b) ≡ true → (a ≡ true) × (b ≡ true)
 both_true true b e = (refl, e)
 both_true false b e = absurd cc
 
-not_true : (b : Bool) → not b ≡ true → b ≡ false
+pub not_true : (b : Bool) → not b ≡ true → b ≡ false
 not_true true e = absurd cc
 not_true false e = refl
 

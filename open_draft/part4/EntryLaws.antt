@@ -41,7 +41,7 @@ pub record TakesRows (cube : Decl) (limits : List ℕ) (brick : ℕ) (rows : Lis
   pub fit : AllByRecursion (FitsRow cube limits brick) new
   pub some : 0 < length new
 
-counts : Reads eight_bytes (λ n. (n < 2 ^ 64) × IsTrue (nat_lt 0 n)) (passing (nat_lt 0) eight_at)
+pub counts : Reads eight_bytes (λ n. (n < 2 ^ 64) × IsTrue (nat_lt 0 n)) (passing (nat_lt 0) eight_at)
 counts = reads_passing eight_bytes (λ n. n < 2 ^ 64) eight_at (nat_lt 0) reads_eight
 
 rows_take : (cube : Decl) (limits : List ℕ) (brick : ℕ) (rows : List CodedRow) (bytes : List ℕ) (after : List CodedRow) (rest : List ℕ) → IsBytes bytes
@@ -167,7 +167,7 @@ kind_takes from epoch entries rows bytes entry rest fits e =
       apart = subst (λ (x : Entry). joins_last entries x ≡ false) entry-is right.1;
     }
 
-abbrev entry_rows : Entry → List CodedRow → EntryRows
+abbrev pub entry_rows : Entry → List CodedRow → EntryRows
 entry_rows entry rows = record { entry = entry; rows = rows }
 
 -- What a step takes: an entry, which it puts behind the others with its rows.
