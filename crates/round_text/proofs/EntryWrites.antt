@@ -1,6 +1,7 @@
 -- Entries with their rows, as a loop over the entries puts them.
 use Rattle.std.proofs.Common.{◌≡◌, ℕ, suc, ◌+◌, ◌-◌, ◌<◌, ◌≤◌, List, [], ◌∷◌, ◌++◌, length, take, drop, get_or, refl, sym, ap, ◌∙◌, append_assoc, add-one, arith}
 use Rattle.std.specs.List.{flat_map}
+use Rattle.std.proofs.lemmas.Grind.{flat_map-append}
 use Rattle.std.proofs.lemmas.List.{take_more, get_or-drop, append-nil, length-drop}
 use Rattle.cube_values.specs.declared.entry.Entry.{Entry}
 use Rattle.cube_values.specs.declared.entry.Entry.TheVariants.{Run, Mark}
@@ -60,3 +61,16 @@ mark_put before entries rows from epoch at rest out new put h = record {
 pub all_put : (before : List ℕ) (entries : List Entry) (rows : List CodedRow) (from : ℕ) (out : List ℕ)
     → PutsEntries before entries rows from [] out → out ≡ before ++ entries_bytes (entries_with_rows 0 rows entries)
 all_put before entries rows from out h = sym (append-nil out) ∙ h.whole
+
+-- One row more was put.
+pub row_put : (before out new : List ℕ) (from i : ℕ) (rows : List CodedRow) → from ≤ i → i < length rows
+    → out ≡ before ++ flat_map row_bytes (rows_between from i rows) → new ≡ out ++ row_bytes (coded_row_at rows i)
+    → new ≡ before ++ flat_map row_bytes (rows_between from (i + 1) rows)
+row_put before out new from i rows le lt so_far put =
+    let more : flat_map row_bytes (rows_between from (i + 1) rows) ≡ flat_map row_bytes (rows_between from i rows) ++ row_bytes (coded_row_at rows i) =
+      ap (flat_map row_bytes) (rows_more from i rows le lt)
+      ∙ flat_map-append row_bytes (rows_between from i rows) (coded_row_at rows i ∷ [])
+      ∙ ap (λ (b : List ℕ). flat_map row_bytes (rows_between from i rows) ++ b) (append-nil (row_bytes (coded_row_at rows i))) in
+    put ∙ ap (λ (o : List ℕ). o ++ row_bytes (coded_row_at rows i)) so_far
+    ∙ append_assoc before (flat_map row_bytes (rows_between from i rows)) (row_bytes (coded_row_at rows i))
+    ∙ ap (λ (b : List ℕ). before ++ b) (sym more)

@@ -2,7 +2,7 @@
 use Rattle.std.proofs.Common.{◌≡◌, ℕ, zero, suc, ◌+◌, ◌^◌, ◌<◌, ◌≤◌, Bool, true, false, cond, ltb, List, [], ◌∷◌, ◌++◌, length, get_or, take, drop, Result, Ok, Err, IsTrue, refl, sym, ap, subst, ◌∙◌, append_assoc, arith, inl, inr}
 use Rattle.std.specs.Int.{w32, w64, from_le_bytes, to_le_bytes}
 use Rattle.std.proofs.lemmas.Bool.{cases_lt, ltb-false, le-ltb}
-use Rattle.std.proofs.lemmas.List.{take_at, drop_at, take-append-drop, length-append, length-take, get_or-drop, get_or-take, get_or_past}
+use Rattle.std.proofs.lemmas.List.{take_at, drop_at, take-append-drop, length-append, length-take, length-drop, get_or-drop, get_or-take, get_or_past}
 use Rattle.std.proofs.lemmas.Nat.{le_bytes_4, le_bytes_8, from_le_bytes-to_le_bytes_4, from_le_bytes-to_le_bytes_8}
 use Rattle.cube_rounds.specs.Bytes.{four_bytes, eight_bytes}
 use Rattle.round_text.specs.Reading.{◌>>=◌, ReadOf, passing, four_at, eight_at}
@@ -59,17 +59,40 @@ pub record Reads {A : Type 0} (spell : A → List ℕ) (Fits : A → Type 0) (re
 
 -- ---- numbers
 
+four_read : (b rest : List ℕ) (n : ℕ) → length b ≡ 4 → from_le_bytes w32 b ≡ n → four_at (b ++ rest) ≡ Ok (n, rest)
+unfolding four_at
+four_read b rest n len is =
+    let long : ltb (length (b ++ rest)) 4 ≡ false = le-ltb _ _ (omega (arith, length-append b rest)) in
+    rw (long, take_at b rest 4 len, drop_at b rest 4 len, is) refl
+
+eight_read : (b rest : List ℕ) (n : ℕ) → length b ≡ 8 → from_le_bytes w64 b ≡ n → eight_at (b ++ rest) ≡ Ok (n, rest)
+unfolding eight_at
+eight_read b rest n len is =
+    let long : ltb (length (b ++ rest)) 8 ≡ false = le-ltb _ _ (omega (arith, length-append b rest)) in
+    rw (long, take_at b rest 8 len, drop_at b rest 8 len, is) refl
+
 pub four_again : (n : ℕ) (rest : List ℕ) → n < 2 ^ 32 → four_at (four_bytes n ++ rest) ≡ Ok (n, rest)
-unfolding four_bytes four_at
-four_again n rest lt =
-    let long : ltb (length (to_le_bytes w32 n ++ rest)) 4 ≡ false = le-ltb _ _ (omega (arith, length-append (to_le_bytes w32 n) rest)) in
-    rw (long, take_at (to_le_bytes w32 n) rest 4 refl, drop_at (to_le_bytes w32 n) rest 4 refl, from_le_bytes-to_le_bytes_4 n lt) refl
+unfolding four_bytes
+four_again n rest lt = four_read (to_le_bytes w32 n) rest n refl (from_le_bytes-to_le_bytes_4 n lt)
 
 pub eight_again : (n : ℕ) (rest : List ℕ) → n < 2 ^ 64 → eight_at (eight_bytes n ++ rest) ≡ Ok (n, rest)
-unfolding eight_bytes eight_at
-eight_again n rest lt =
-    let long : ltb (length (to_le_bytes w64 n ++ rest)) 8 ≡ false = le-ltb _ _ (omega (arith, length-append (to_le_bytes w64 n) rest)) in
-    rw (long, take_at (to_le_bytes w64 n) rest 8 refl, drop_at (to_le_bytes w64 n) rest 8 refl, from_le_bytes-to_le_bytes_8 n lt) refl
+unfolding eight_bytes
+eight_again n rest lt = eight_read (to_le_bytes w64 n) rest n refl (from_le_bytes-to_le_bytes_8 n lt)
+
+-- How much is left behind a number.
+pub four_left : (bytes : List ℕ) (n : ℕ) (rest : List ℕ) → four_at bytes ≡ Ok (n, rest) → length rest + 4 ≡ length bytes
+unfolding four_at
+four_left bytes n rest e =
+    let g = not_failed (ltb (length bytes) 4) (length bytes) (from_le_bytes w32 (take 4 bytes), drop 4 bytes) (n, rest) e in
+    let long : 4 ≤ length bytes = ltb-false _ _ g.0 in
+    omega (arith, long, ap (λ (p : ℕ × List ℕ). length p.1) g.1, length-drop 4 bytes)
+
+pub eight_left : (bytes : List ℕ) (n : ℕ) (rest : List ℕ) → eight_at bytes ≡ Ok (n, rest) → length rest + 8 ≡ length bytes
+unfolding eight_at
+eight_left bytes n rest e =
+    let g = not_failed (ltb (length bytes) 8) (length bytes) (from_le_bytes w64 (take 8 bytes), drop 8 bytes) (n, rest) e in
+    let long : 8 ≤ length bytes = ltb-false _ _ g.0 in
+    omega (arith, long, ap (λ (p : ℕ × List ℕ). length p.1) g.1, length-drop 8 bytes)
 
 pub reads_four : Reads four_bytes (λ n. n < 2 ^ 32) four_at
 unfolding four_bytes four_at

@@ -27,7 +27,7 @@ passes false r d y e = absurd cc
 digest_was : {A : Type 0} (kept found : List ℕ) (read : Result A FormatFault) (y : A) → where_digest_is kept found read ≡ Ok y → (kept ≡ found) × (read ≡ Ok y)
 digest_was kept found read y e =
     elim (bytes_eq kept found) as (λ b. bytes_eq kept found ≡ b → cond b read (Err (BadDigest kept found)) ≡ Ok y → (kept ≡ found) × (read ≡ Ok y)) [
-      | true ↦ λ is r. ((bytes_eq-Decides kept found).0 (rw is tt), r)
+      | true ↦ λ is r. ((bytes_eq-Decides kept found).0 is, r)
       | false ↦ λ is r. absurd cc
     ] refl e
 
@@ -122,7 +122,7 @@ unfolding eight_bytes
 length-eight n = refl
 
 -- What a header of version 2 has before its digest, and what one of version 1 has.
-abbrev second_head : ℕ → ℕ → List ℕ → List ℕ
+abbrev pub second_head : ℕ → ℕ → List ℕ → List ℕ
 second_head size generation text = magic ++ (four_bytes 2 ++ (four_bytes size ++ (eight_bytes generation ++ text)))
 
 abbrev first_head : ℕ → List ℕ → List ℕ
@@ -213,10 +213,10 @@ header_found digest told tells bytes h fits e =
     elim (bytes_eq (take 12 bytes) (front_of 2)) as (λ b. bytes_eq (take 12 bytes) (front_of 2) ≡ b
         → cond b (second_header_at digest told bytes) (cond (bytes_eq (take 12 bytes) (front_of 1)) (first_header_at digest told bytes) (Err (BadText 12))) ≡ Ok h
         → IsHeader digest bytes h) [
-      | true ↦ λ is r. second_found digest told tells bytes h fits ((bytes_eq-Decides (take 12 bytes) (front_of 2)).0 (rw is tt)) r
+      | true ↦ λ is r. second_found digest told tells bytes h fits ((bytes_eq-Decides (take 12 bytes) (front_of 2)).0 is) r
       | false ↦ λ is r.
           let p = passes (bytes_eq (take 12 bytes) (front_of 1)) (first_header_at digest told bytes) (BadText 12) h r in
-          first_found digest told tells bytes h fits ((bytes_eq-Decides (take 12 bytes) (front_of 1)).0 (rw p.0 tt)) p.1
+          first_found digest told tells bytes h fits ((bytes_eq-Decides (take 12 bytes) (front_of 1)).0 p.0) p.1
     ] refl e
 
 told_text : (told : List ℕ → Option (List Decl)) → TellsCubes told → (text : List ℕ) (cubes : List Decl) → IsCanonical text cubes → is_some (told text) ≡ true
@@ -227,8 +227,7 @@ told_text told tells text cubes canonical =
     ] (tells text)
 
 is_true : (b : Bool) → IsTrue b → b ≡ true
-is_true true t = refl
-is_true false t = absurd t
+is_true b t = t
 
 same_digest : {A : Type 0} (kept found : List ℕ) (read : Result A FormatFault) → kept ≡ found → where_digest_is kept found read ≡ read
 same_digest kept found read e =
@@ -287,8 +286,8 @@ unfolding four_bytes
 fronts_differ e = let one : ◌≡◌ {A = ℕ} 1 2 = ap (λ (l : List ℕ). get_or l 8 0) e in omega arith
 
 not_second : (b : Bool) → (IsTrue b → ⊥) → b ≡ false
-not_second true no = absurd (no tt)
-not_second false no = refl
+not_second true other = absurd (other refl)
+not_second false other = refl
 
 -- The first header of version 1 that stands in the bytes is read.
 first_again : (digest : List ℕ → List ℕ) (told : List ℕ → Option (List Decl)) → TellsCubes told → (bytes text : List ℕ) (cubes : List Decl) (gate : ℕ) (rest : List ℕ)
@@ -365,3 +364,13 @@ only_by (Ok h) start generation text given =
     let same = ok_is FormatFault (header_of start generation text) h given in
     (ap (λ (x : Header). x.generation) (sym same), ap (λ (x : Header). x.cubes) (sym same))
 only_by (Err e) start generation text given = no_fault e (header_of start generation text) given
+
+-- What was put one after the other is a header of version 2.
+pub header_written : (digest : List ℕ → List ℕ) (generation : ℕ) (text out : List ℕ) (gate : ℕ) → 1 ≤ generation
+    → out ≡ open_gate ∷ (second_head (length text) generation text ++ (digest (second_head (length text) generation text) ++ gate ∷ []))
+    → out ≡ header_bytes digest generation text ++ gate ∷ []
+unfolding header_bytes
+header_written digest generation text out gate some put =
+    let head = head-is_second generation text some in
+    put ∙ (λ i. open_gate ∷ (head i ++ (digest (head i) ++ gate ∷ [])))
+    ∙ ap (λ (b : List ℕ). open_gate ∷ b) (sym (append_assoc (head_bytes generation text) (digest (head_bytes generation text)) (gate ∷ [])))

@@ -6,6 +6,7 @@ use Rattle.std.specs.Str.{bytes_eq}
 use Rattle.std.proofs.Math.Seq.{split_at}
 use Rattle.std.proofs.lemmas.Bool.{cases_Bool}
 use Rattle.std.proofs.lemmas.List.{take_more, map-append}
+use Rattle.std.proofs.lemmas.List.Folds.{list_any-append}
 use Rattle.cube_language.specs.declared.decl.Decl.{Decl}
 use Rattle.cube_language.specs.Cubes.{repeated_after}
 use Rattle.cube_rounds.specs.Demands.{cube_names_of}
@@ -38,15 +39,39 @@ after_new before (first ∷ names) name apart new =
 names_more : (made : List Decl) (i : ℕ) (d : Decl) → i < length made → cube_names_of (take (i + 1) made) ≡ cube_names_of (take i made) ++ (get_or made i d).name ∷ []
 names_more made i d lt = ap cube_names_of (take_more made i d lt) ∙ map-append (λ (cube : Decl). cube.name) (take i made) (get_or made i d ∷ [])
 
-either_none : (a b : Bool) → a ≡ false → b ≡ false → (b || a) ≡ false
-either_none a b p q = rw (q, p) refl
-
 -- The next cube has a name of its own.
 pub next_apart : (before made : List Decl) (i : ℕ) (cube : Decl) → i < length made → cube ≡ get_or made i cube
-    → list_any (bytes_eq cube.name) (cube_names_of before) ≡ false → list_any (bytes_eq cube.name) (cube_names_of (take i made)) ≡ false
+    → (list_any (bytes_eq cube.name) (cube_names_of (take i made)) || list_any (bytes_eq cube.name) (cube_names_of before)) ≡ false
     → repeated_after (cube_names_of before) (cube_names_of (take i made)) ≡ None → repeated_after (cube_names_of before) (cube_names_of (take (i + 1) made)) ≡ None
-next_apart before made i cube lt is one two so_far =
-    rw (names_more made i cube lt, ← is) (after_new (cube_names_of before) (cube_names_of (take i made)) cube.name so_far (either_none _ _ one two))
+next_apart before made i cube lt is new so_far =
+    let one : cube_names_of (take (i + 1) made) ≡ cube_names_of (take i made) ++ cube.name ∷ [] =
+      names_more made i cube lt ∙ ap (λ (c : Decl). cube_names_of (take i made) ++ c.name ∷ []) (sym is) in
+    ap (repeated_after (cube_names_of before)) one ∙ after_new (cube_names_of before) (cube_names_of (take i made)) cube.name so_far new
+
+or_false : (a b : Bool) → a ≡ false → b ≡ false → (a || (b || false)) ≡ false
+or_false a b p q = rw (p, q) refl
+
+or_true : (a b c : Bool) → b ≡ true → (a || (b || c)) ≡ true
+or_true true b c p = refl
+or_true false b c p = rw p refl
+
+-- No cube so far has the name.
+pub none_more : (cubes : List Decl) (i : ℕ) (cube : Decl) (name : List ℕ) → i < length cubes → cube ≡ get_or cubes i cube → bytes_eq name cube.name ≡ false
+    → list_any (bytes_eq name) (cube_names_of (take i cubes)) ≡ false → list_any (bytes_eq name) (cube_names_of (take (i + 1) cubes)) ≡ false
+none_more cubes i cube name lt is other so_far =
+    ap (list_any (bytes_eq name)) (names_more cubes i cube lt ∙ ap (λ (c : Decl). cube_names_of (take i cubes) ++ c.name ∷ []) (sym is))
+    ∙ list_any-append (bytes_eq name) (cube_names_of (take i cubes)) (cube.name ∷ [])
+    ∙ or_false _ _ so_far other
+
+-- A cube has the name.
+pub some_named : (cubes : List Decl) (i : ℕ) (cube : Decl) (name : List ℕ) → i < length cubes → cube ≡ get_or cubes i cube → bytes_eq name cube.name ≡ true
+    → true ≡ list_any (bytes_eq name) (cube_names_of cubes)
+some_named cubes i cube name lt is same =
+    let whole : cubes ≡ take i cubes ++ cube ∷ drop (suc i) cubes = split_at cubes i cube lt ∙ ap (λ (c : Decl). take i cubes ++ c ∷ drop (suc i) cubes) (sym is) in
+    sym (ap (λ (cs : List Decl). list_any (bytes_eq name) (cube_names_of cs)) whole
+      ∙ ap (list_any (bytes_eq name)) (map-append (λ (cube : Decl). cube.name) (take i cubes) (cube ∷ drop (suc i) cubes))
+      ∙ list_any-append (bytes_eq name) (cube_names_of (take i cubes)) (cube.name ∷ cube_names_of (drop (suc i) cubes))
+      ∙ or_true (list_any (bytes_eq name) (cube_names_of (take i cubes))) (bytes_eq name cube.name) (list_any (bytes_eq name) (cube_names_of (drop (suc i) cubes))) same)
 
 -- The next cube has a name that stands before already.
 pub next_repeats : (before made : List Decl) (i : ℕ) (cube : Decl) → i < length made → cube ≡ get_or made i cube

@@ -12,6 +12,11 @@ use Rattle.cube_schema.specs.Texts.{AnyCubes, AnyFault, TextsDeclareOrHaveFault,
 use Rattle.cube_rounds.specs.Headers.{IsCanonical}
 use Rattle.round_text.specs.Payload.{TellsCubes}
 
+-- A test has one answer.
+pub never : (b : Bool) → b ≡ false → b ≡ true → ⊥
+never true e f = absurd cc
+never false e f = absurd cc
+
 told_by : (text : List ℕ) → AnyCubes text ⊎ AnyFault text → Option (List Decl)
 told_by text (inl any) = cond (bytes_eq text (cubes_text any.0)) (Some any.0) None
 told_by text (inr fault) = None
@@ -22,11 +27,10 @@ unfolding told_by
 told_right one_list no_fault text (inl any) =
     elim (bytes_eq text (cubes_text any.0)) as (λ b. bytes_eq text (cubes_text any.0) ≡ b
         → MatchOption (cond b (Some any.0) None) ((cubes : List Decl) → IsCanonical text cubes → ⊥) (IsCanonical text)) [
-      | true ↦ λ is. record { declares = any.1; canonical = (bytes_eq-Decides text (cubes_text any.0)).0 (rw is tt) }
+      | true ↦ λ is. record { declares = any.1; canonical = (bytes_eq-Decides text (cubes_text any.0)).0 is }
       | false ↦ λ is. λ cubes c.
           let same : cubes ≡ any.0 = one_list text cubes any.0 c.declares any.1 in
-          let yes = (bytes_eq-Decides text (cubes_text any.0)).1 (c.canonical ∙ ap cubes_text same) in
-          rw is at yes
+          never (bytes_eq text (cubes_text any.0)) is ((bytes_eq-Decides text (cubes_text any.0)).1 (c.canonical ∙ ap cubes_text same))
     ] refl
 told_right one_list no_fault text (inr fault) = λ cubes c. no_fault text cubes fault.0 c.declares fault.1
 
@@ -39,10 +43,10 @@ told_is_some one_list told tells text cubes declares canonical =
     ] (tells text)
 
 told_none : (told : List ℕ → Option (List Decl)) → TellsCubes told → (text : List ℕ) → ((cubes : List Decl) → IsCanonical text cubes → ⊥) → told text ≡ None
-told_none told tells text no =
+told_none told tells text other =
     elim (told text) as (λ o. MatchOption o ((cubes : List Decl) → IsCanonical text cubes → ⊥) (IsCanonical text) → o ≡ None) [
       | None ↦ λ m. refl
-      | Some cubes ↦ λ m. absurd (no cubes m)
+      | Some cubes ↦ λ m. absurd (other cubes m)
     ] (tells text)
 
 -- A text that is another than the canonical one of its cubes has none.

@@ -8,17 +8,17 @@ use Rattle.std.proofs.lemmas.Slice.Zip.{get_or-zip, length-zip}
 
 -- One pair more was put.
 pub pair_put : {A B : Type 0} (f : A × B → List ℕ) (ks : List A) (vs : List B) (i : ℕ) (d : A) (e : B) (before out new : List ℕ)
-    → i < length ks → length vs ≡ length ks
-    → out ≡ before ++ flat_map f (take i (zip ks vs)) → new ≡ out ++ f (get_or ks i d, get_or vs i e)
+    → i < length ks → length vs ≡ length ks → d ≡ get_or ks i d → e ≡ get_or vs i e
+    → out ≡ before ++ flat_map f (take i (zip ks vs)) → new ≡ out ++ f (d, e)
     → new ≡ before ++ flat_map f (take (i + 1) (zip ks vs))
-pair_put f ks vs i d e before out new lt same so_far put =
+pair_put f ks vs i d e before out new lt same d-is e-is so_far put =
     let there : i < length (zip ks vs) = omega (arith, length-zip ks vs) in
     let pair : get_or (zip ks vs) i (d, e) ≡ (get_or ks i d, get_or vs i e) = get_or-zip ks vs i (d, e) lt (omega arith) in
     let one : flat_map f (take (i + 1) (zip ks vs)) ≡ flat_map f (take i (zip ks vs)) ++ f (get_or ks i d, get_or vs i e) =
       ap (flat_map f) (take_more (zip ks vs) i (d, e) there)
       ∙ flat_map-append f (take i (zip ks vs)) (get_or (zip ks vs) i (d, e) ∷ [])
       ∙ ap (λ (b : List ℕ). flat_map f (take i (zip ks vs)) ++ b) (append-nil (f (get_or (zip ks vs) i (d, e))) ∙ ap f pair) in
-    put ∙ ap (λ (b : List ℕ). b ++ f (get_or ks i d, get_or vs i e)) so_far
+    put ∙ (λ j. out ++ f (d-is j, e-is j)) ∙ ap (λ (b : List ℕ). b ++ f (get_or ks i d, get_or vs i e)) so_far
     ∙ append_assoc before (flat_map f (take i (zip ks vs))) (f (get_or ks i d, get_or vs i e))
     ∙ ap (λ (b : List ℕ). before ++ b) (sym one)
 
@@ -27,4 +27,4 @@ pub pairs_put : {A B : Type 0} (f : A × B → List ℕ) (ks : List A) (vs : Lis
     → length ks ≤ i → length vs ≡ length ks
     → out ≡ before ++ flat_map f (take i (zip ks vs)) → out ≡ before ++ flat_map f (zip ks vs)
 pairs_put f ks vs i before out le same so_far =
-    so_far ∙ ap (λ (z : _). before ++ flat_map f z) (take_all (zip ks vs) i (omega (arith, length-zip ks vs)))
+    so_far ∙ ap (λ (z : _). before ++ flat_map f z) (take_all i (zip ks vs) (omega (arith, length-zip ks vs)))

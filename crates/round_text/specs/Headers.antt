@@ -48,11 +48,16 @@ header_at_text digest told bytes start size generation right left =
 abbrev pub is_right_generation : ℕ → Bool
 is_right_generation generation = nat_le 1 generation && nat_le generation (2 ^ 62)
 
+-- A header of version 2 with a text of this size, where these bytes are left behind the size.
+abbrev pub second_of_size : (List ℕ → List ℕ) → (List ℕ → Option (List Decl)) → List ℕ → ℕ → List ℕ
+    → Result Header FormatFault
+second_of_size digest told bytes size rest =
+    when_read (eight_at rest) (λ g. header_at_text digest told bytes 24 size g.0 (is_right_generation g.0) g.1)
+
 -- A header of version 2, and one of version 1.
 unfoldable pub second_header_at : (List ℕ → List ℕ) → (List ℕ → Option (List Decl)) → List ℕ → Result Header FormatFault
 second_header_at digest told bytes =
-    when_read (four_at (drop 12 bytes)) (λ size. when_read (eight_at size.1) (λ g.
-      header_at_text digest told bytes 24 size.0 g.0 (is_right_generation g.0) g.1))
+    when_read (four_at (drop 12 bytes)) (λ size. second_of_size digest told bytes size.0 size.1)
 
 unfoldable pub first_header_at : (List ℕ → List ℕ) → (List ℕ → Option (List Decl)) → List ℕ → Result Header FormatFault
 first_header_at digest told bytes =

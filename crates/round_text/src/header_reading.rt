@@ -7,7 +7,7 @@ ghost use Rattle.cube_rounds.specs.Bytes.{four_bytes};
 ghost use Rattle.cube_rounds.specs.Headers.{header_bytes, BeginsWithHeader};
 ghost use Rattle.round_text.specs.Reading.{Gives};
 ghost use Rattle.round_text.specs.Payload.{TellsCubes};
-ghost use Rattle.round_text.specs.Headers.{front_of, header_at_text, is_right_generation, second_header_at, first_header_at, header_at};
+ghost use Rattle.round_text.specs.Headers.{front_of, header_at_text, is_right_generation, second_of_size, second_header_at, first_header_at, header_at};
 ghost use Rattle.sha2.specs.Sha256.{sha256};
 
 use crate::digest::{digest_in, digest_of};
@@ -76,6 +76,27 @@ fn header_of_text(
     })
 }
 
+/// A header of version 2 with a text of this size.
+fn second_of_size(
+    alloc: Global,
+    bytes: &[u8],
+    size: u32,
+    rest: &[u8],
+) -> Result<Header, CallError<FormatFault>>
+    requires { length rest.now + 16 ≡ length bytes.now }
+    ensures { (told : List ℕ → Option (List Declaration)) → TellsCubes told
+        → Gives (λ h. h) result (second_of_size sha256 told bytes.now size rest.now) }
+{
+    match eight_of(rest) {
+        Ok((generation, left)) => {
+            let right = 1 <= generation && generation <= 1 << 62;
+            header_of_text(alloc, bytes, left, 24, size, generation, right)
+        }
+        Err(CallError::Fault(_)) => Err(CallError::Fault(NO_HEADER)),
+        Err(CallError::NoMemory) => Err(CallError::NoMemory),
+    }
+}
+
 /// A header of version 2.
 #[tactic(auto, unfolding(crate::specs::Headers::second_header_at))]
 fn second_header(alloc: Global, bytes: &[u8]) -> Result<Header, CallError<FormatFault>>
@@ -83,14 +104,12 @@ fn second_header(alloc: Global, bytes: &[u8]) -> Result<Header, CallError<Format
     ensures { (told : List ℕ → Option (List Declaration)) → TellsCubes told
         → Gives (λ h. h) result (second_header_at sha256 told bytes.now) }
 {
-    let Ok((size, rest)) = four_of(&bytes[12..]) else {
-        return Err(CallError::Fault(NO_HEADER));
-    };
-    let Ok((generation, left)) = eight_of(rest) else {
-        return Err(CallError::Fault(NO_HEADER));
-    };
-    let right = 1 <= generation && generation <= 1 << 62;
-    header_of_text(alloc, bytes, left, 24, size, generation, right)
+    let (_, behind) = bytes.split_at(12);
+    match four_of(behind) {
+        Ok((size, rest)) => second_of_size(alloc, bytes, size, rest),
+        Err(CallError::Fault(_)) => Err(CallError::Fault(NO_HEADER)),
+        Err(CallError::NoMemory) => Err(CallError::NoMemory),
+    }
 }
 
 /// A header of version 1.
@@ -100,10 +119,12 @@ fn first_header(alloc: Global, bytes: &[u8]) -> Result<Header, CallError<FormatF
     ensures { (told : List ℕ → Option (List Declaration)) → TellsCubes told
         → Gives (λ h. h) result (first_header_at sha256 told bytes.now) }
 {
-    let Ok((size, left)) = four_of(&bytes[12..]) else {
-        return Err(CallError::Fault(NO_HEADER));
-    };
-    header_of_text(alloc, bytes, left, 16, size, 0, true)
+    let (_, behind) = bytes.split_at(12);
+    match four_of(behind) {
+        Ok((size, left)) => header_of_text(alloc, bytes, left, 16, size, 0, true),
+        Err(CallError::Fault(_)) => Err(CallError::Fault(NO_HEADER)),
+        Err(CallError::NoMemory) => Err(CallError::NoMemory),
+    }
 }
 
 /// A header of either version.

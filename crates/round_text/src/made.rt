@@ -1,19 +1,29 @@
 //! The cubes that are new with a round, by their text.
 
-ghost use Rattle.std.specs.Prelude.{◌≡◌, ℕ, ◌++◌, ◌==◌, List, length, nat_le, Option, IfOk, is_none};
+ghost use Rattle.std.specs.Prelude.{◌≡◌, ◌↔◌, ◌||◌, ℕ, List, Option, IsTrue, IfOk, is_none};
 ghost use Rattle.std.specs.List.{list_any};
 ghost use Rattle.std.specs.Option.{option_map};
 ghost use Rattle.std.specs.Str.{bytes_eq};
 ghost use Rattle.cube_language.specs.declared.decl.Decl.{Decl as Declaration};
-ghost use Rattle.cube_language.specs.Cubes.{repeated_after};
+ghost use Rattle.cube_language.specs.Cubes.{cubes_text, repeated_after};
+ghost use Rattle.cube_schema.specs.Texts.{AreDeclared};
 ghost use Rattle.cube_rounds.specs.Demands.{cube_names_of};
 ghost use Rattle.round_text.specs.Reading.{Gives};
-ghost use Rattle.round_text.specs.Payload.{TellsCubes, are_made, made_or, made_at};
+ghost use Rattle.round_text.specs.Payload.{TellsCubes, made_at};
 
 use crate::fields::eight_of;
 use cube_schema::{Schema, a_text_declares_or_has_one_fault, print_cubes, read_cubes};
 use cube_values::CallError;
 use std::alloc::{AllocError, Global};
+
+/// Whether a text is the canonical text of these cubes.
+fn is_canonical(alloc: Global, text: &[u8], cubes: &[Schema]) -> Result<bool, AllocError>
+    requires { AreDeclared cubes.now }
+    ensures { IfOk result (λ same. IsTrue same ↔ (text.now ≡ cubes_text cubes.now)) }
+{
+    let printed = print_cubes(alloc, cubes)?;
+    Ok(text == printed.as_slice())
+}
 
 /// The cubes of which a text is the canonical text.
 pub(crate) fn canonical_cubes(alloc: Global, text: &[u8]) -> Result<Option<Vec<Schema>>, AllocError>
@@ -23,16 +33,18 @@ pub(crate) fn canonical_cubes(alloc: Global, text: &[u8]) -> Result<Option<Vec<S
     a_text_declares_or_has_one_fault();
     match read_cubes(alloc, text) {
         Ok(cubes) => {
-            let printed = print_cubes(alloc, cubes.as_slice())?;
-            if printed.as_slice() == text {
-                Ok(Some(cubes))
-            } else {
-                Ok(None)
-            }
+            let canonical = is_canonical(alloc, text, cubes.as_slice())?;
+            if canonical { Ok(Some(cubes)) } else { Ok(None) }
         }
         Err(CallError::Fault(_)) => Ok(None),
         Err(CallError::NoMemory) => Err(AllocError),
     }
+}
+
+fn bears_name(cube: &Schema, name: &[u8]) -> bool
+    ensures { result ≡ bytes_eq name.now cube.now.name }
+{
+    name == cube.decl().name.as_bytes()
 }
 
 /// Whether one of the cubes has the name.
@@ -40,11 +52,20 @@ fn has_name(cubes: &[Schema], name: &[u8]) -> bool
     ensures { result ≡ list_any (bytes_eq name.now) (cube_names_of cubes.now) }
 {
     'cubes: for cube in cubes {
-        if cube.decl().name.as_bytes() == name {
+        if bears_name(cube, name) {
             return true;
         }
     }
     false
+}
+
+/// Whether a cube has the name of one of these.
+fn is_repeated(before: &[Schema], made: &[Schema], cube: &Schema) -> bool
+    ensures { result ≡ (list_any (bytes_eq cube.now.name) (cube_names_of made.now)
+        || list_any (bytes_eq cube.now.name) (cube_names_of before.now)) }
+{
+    let name = cube.decl().name.as_bytes();
+    has_name(made, name) || has_name(before, name)
 }
 
 /// Whether no new cube has the name of a cube before it.
@@ -52,8 +73,8 @@ fn are_apart(before: &[Schema], made: &[Schema]) -> bool
     ensures { result ≡ is_none (repeated_after (cube_names_of before.now) (cube_names_of made.now)) }
 {
     'cubes: for (i, cube) in made.iter().enumerate() {
-        let name = cube.decl().name.as_bytes();
-        if has_name(before, name) || has_name(&made[..i], name) {
+        let (front, _) = made.split_at(i);
+        if is_repeated(before, front, cube) {
             return false;
         }
     }
