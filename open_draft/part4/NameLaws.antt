@@ -60,7 +60,7 @@ reads_name names =
       (λ name h.
         let b = both_true (is_utf8 name) (not (list_any (bytes_eq name) names)) (is_true (is_new_name names name) h.1) in
         record { utf8 = IsUtf8-from_is_utf8 name b.0; short = h.0; new = not_true (list_any (bytes_eq name) names) b.1 })
-      (λ name h. (h.short, rw (is_utf8-from_IsUtf8 name h.utf8, h.new) tt))
+      (λ name h. (h.short, rw (is_utf8-from_IsUtf8 name h.utf8, h.new) refl))
       (reads_passing name_bytes (λ name. length name < 2 ^ 8) short_at (is_new_name names) reads_short)
 
 name_steps : (earlier : List (List ℕ)) → ReadsStep list_with name_bytes (λ s. IsNewName (earlier ++ s)) (name_step earlier)

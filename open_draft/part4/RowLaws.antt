@@ -20,6 +20,12 @@ use Rattle.round_text.specs.Payload.{coord_at, coord_step, coords_at, metric_ste
 use Rattle.round_text.proofs.FieldLaws.{IsBytes, IsBytes-take, IsBytes-drop, not_failed, bind_ok, ok_is, Takes, Takes-then, Reads, reads_four}
 use Rattle.round_text.proofs.Sequences.{reads_passing, reads_as, reads_both, reads_putting, each_take, each_again, ReadsStep}
 
+signed_read : (b rest : List ℕ) (n : ℕ) → length b ≡ 8 → from_le_bytes w64 b ≡ n → signed_at (b ++ rest) ≡ Ok (cast_signed w64 n, rest)
+unfolding signed_at
+signed_read b rest n len is =
+    let long : ltb (length (b ++ rest)) 8 ≡ false = le-ltb _ _ (omega (arith, length-append b rest)) in
+    rw (long, take_at b rest 8 len, drop_at b rest 8 len, is) refl
+
 pub reads_signed : Reads signed_bytes (FitsSigned w64) signed_at
 unfolding signed_bytes signed_at
 reads_signed = record {
@@ -38,18 +44,16 @@ reads_signed = record {
       subst (FitsSigned w64) z-is (sfits_to_z below));
   again = λ z rest fit short.
     let n = cast_unsigned w64 z in
-    let long : ltb (length (to_le_bytes w64 n ++ rest)) 8 ≡ false = le-ltb _ _ (omega (arith, length-append (to_le_bytes w64 n) rest)) in
-    rw (long, take_at (to_le_bytes w64 n) rest 8 refl, drop_at (to_le_bytes w64 n) rest 8 refl, from_le_bytes-to_le_bytes_8 n (Fits-of_z fit), to_z-of_z w64 z fit) refl;
+    signed_read (to_le_bytes w64 n) rest n refl (from_le_bytes-to_le_bytes_8 n (Fits-of_z fit)) ∙ ap (λ (y : ℤ). Ok (y, rest)) (to_z-of_z w64 z fit);
 }
 
 -- ---- coordinates and metrics
 
 pub is_true : (b : Bool) → IsTrue b → b ≡ true
-is_true true t = refl
-is_true false t = absurd t
+is_true b t = t
 
 pub as_true : (b : Bool) → b ≡ true → IsTrue b
-as_true b e = rw e tt
+as_true b e = e
 
 reads_coord : (limit : ℕ) → Reads four_bytes (IsCoordBelow limit) (coord_at limit)
 reads_coord limit =

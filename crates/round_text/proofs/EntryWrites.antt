@@ -1,8 +1,8 @@
 -- Entries with their rows, as a loop over the entries puts them.
-use Rattle.std.proofs.Common.{◌≡◌, ℕ, suc, ◌+◌, ◌-◌, ◌<◌, ◌≤◌, List, [], ◌∷◌, ◌++◌, length, take, drop, get_or, refl, sym, ap, ◌∙◌, append_assoc, add-one, arith}
+use Rattle.std.proofs.Common.{◌≡◌, ℕ, suc, ◌+◌, ◌-◌, ◌<◌, ◌≤◌, List, [], ◌∷◌, ◌++◌, length, take, drop, get_or, refl, sym, ap, subst, ◌∙◌, append_assoc, arith}
 use Rattle.std.specs.List.{flat_map}
 use Rattle.std.proofs.lemmas.Grind.{flat_map-append}
-use Rattle.std.proofs.lemmas.List.{take_more, get_or-drop, append-nil, length-drop}
+use Rattle.std.proofs.lemmas.List.{take_more, take_all, get_or-drop, append-nil, length-drop}
 use Rattle.cube_values.specs.declared.entry.Entry.{Entry}
 use Rattle.cube_values.specs.declared.entry.Entry.TheVariants.{Run, Mark}
 use Rattle.cube_values.specs.declared.row.CodedRow.{CodedRow}
@@ -74,3 +74,13 @@ row_put before out new from i rows le lt so_far put =
     put ∙ ap (λ (o : List ℕ). o ++ row_bytes (coded_row_at rows i)) so_far
     ∙ append_assoc before (flat_map row_bytes (rows_between from i rows)) (row_bytes (coded_row_at rows i))
     ∙ ap (λ (b : List ℕ). before ++ b) (sym more)
+
+-- Entries by the first and the others.
+pub headed : (xs : List Entry) (d e : Entry) → 1 ≤ length xs → get_or xs 0 d ≡ e → xs ≡ e ∷ take (length xs - 1) (drop 1 xs)
+headed [] d e l h = absurd (omega arith)
+headed (x ∷ xs) d e l h = let q = take_all (length (x ∷ xs) - 1) xs (omega arith) in cc
+
+-- The end of a run is within the rows.
+pub run_ends : (from : ℕ) (left rest : List Entry) (epoch end rows : ℕ) → left ≡ Run epoch end ∷ rest → Leads from left rows → end ≤ rows
+run_ends from left rest epoch end rows e leads =
+    let first = subst (λ (es : List Entry). Leads from es rows) e leads in leads_up end rest rows first.1

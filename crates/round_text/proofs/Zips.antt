@@ -1,5 +1,5 @@
 -- Two lists side by side, as a loop goes over them.
-use Rattle.std.proofs.Common.{◌≡◌, ℕ, suc, ◌+◌, ◌<◌, ◌≤◌, List, [], ◌∷◌, ◌++◌, length, take, drop, get_or, refl, sym, ap, ◌∙◌, append_assoc, arith}
+use Rattle.std.proofs.Common.{◌≡◌, ℕ, zero, suc, ◌+◌, ◌<◌, ◌≤◌, List, [], ◌∷◌, ◌++◌, length, take, drop, get_or, refl, sym, ap, ◌∙◌, append_assoc, arith}
 use Rattle.std.specs.List.{flat_map, zip, AllZip}
 use Rattle.std.proofs.lemmas.List.{take_more, append-nil, take_all}
 use Rattle.std.proofs.lemmas.List.Concat.{flat_map-cons}
@@ -28,3 +28,17 @@ pub pairs_put : {A B : Type 0} (f : A × B → List ℕ) (ks : List A) (vs : Lis
     → out ≡ before ++ flat_map f (take i (zip ks vs)) → out ≡ before ++ flat_map f (zip ks vs)
 pairs_put f ks vs i before out le same so_far =
     so_far ∙ ap (λ (z : _). before ++ flat_map f z) (take_all i (zip ks vs) (omega (arith, length-zip ks vs)))
+
+pub zip_length : {A B : Type 0} (R : A → B → Type 0) (xs : List A) (ys : List B) → AllZip R xs ys → length xs ≡ length ys
+zip_length R [] [] all = refl
+zip_length R [] (y ∷ ys) all = absurd all
+zip_length R (x ∷ xs) [] all = absurd all
+zip_length R (x ∷ xs) (y ∷ ys) all = ap suc (zip_length R xs ys all.1)
+
+-- What holds of each two holds of those at a place.
+pub zip_at : {A B : Type 0} (R : A → B → Type 0) (xs : List A) (ys : List B) (i : ℕ) (d : A) (e : B) → AllZip R xs ys → i < length ys → R (get_or xs i d) (get_or ys i e)
+zip_at R [] [] i d e all lt = absurd (omega arith)
+zip_at R [] (y ∷ ys) i d e all lt = absurd all
+zip_at R (x ∷ xs) [] i d e all lt = absurd all
+zip_at R (x ∷ xs) (y ∷ ys) zero d e all lt = all.0
+zip_at R (x ∷ xs) (y ∷ ys) (suc i) d e all lt = zip_at R xs ys i d e all.1 (omega arith)

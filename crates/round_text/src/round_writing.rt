@@ -159,6 +159,7 @@ fn payload_of(alloc: Global, round: &Round, cubes: &[Schema]) -> Result<Vec<u8>,
 
 /// The bytes of a round behind these cubes, with its digest and a gate that is shut behind it. The round may
 /// stand behind the cubes and some names. It takes time by the number of bytes.
+#[tactic(auto, unfolding(cube_rounds::specs::Bytes::round_bytes))]
 pub fn write_round(alloc: Global, round: &Round, cubes: &[Schema]) -> Result<Vec<u8>, AllocError>
     requires { (names : List DimNames) × FitsRound cubes.now names round.now }
     ensures { IfOk result (λ out.
