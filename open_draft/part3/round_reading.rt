@@ -12,7 +12,7 @@ ghost use Rattle.round_text.specs.Rounds.{Prefix, prefix_at, is_right_prefix, ro
 ghost use Rattle.sha2.specs.Sha256.{sha256};
 
 use crate::cubes::{no_names_of, take_cubes};
-use crate::digest::digest_of;
+use crate::digest::{digest_in, digest_of};
 use crate::entries::RoundEpochs;
 use crate::fault::FormatFault;
 use crate::fields::eight_of;
@@ -33,7 +33,7 @@ struct Prefix {
 /// The numbers before a payload.
 #[tactic(auto, unfolding(crate::specs::Rounds::prefix_at))]
 fn prefix_of(bytes: &[u8]) -> Result<(Prefix, &[u8]), CallError<usize>>
-    ensures { Gives (λ x. (prefix_of x.0, x.1.now)) result (prefix_at bytes.now) }
+    ensures { Gives (λ x. (seen_prefix x.0, x.1.now)) result (prefix_at bytes.now) }
 {
     let (epoch, rest) = eight_of(bytes)?;
     let (from, rest) = eight_of(rest)?;
@@ -112,11 +112,34 @@ pub fn read_round(
     ensures exact { (told : List ℕ → Option (List Declaration)) → TellsCubes told
         → Gives (λ x. x) result (round_at sha256 told cubes.now names.now bytes.now) }
 {
-    let Ok((prefix, rest)) = prefix_of(bytes) else {
-        return Err(CallError::Fault(FormatFault::BadText { at: 0 }));
-    };
+    match prefix_of(bytes) {
+        Ok((prefix, rest)) => round_behind(alloc, bytes, prefix, rest, cubes, names),
+        Err(CallError::Fault(_)) => Err(CallError::Fault(FormatFault::BadText { at: 0 })),
+        Err(CallError::NoMemory) => Err(CallError::NoMemory),
+    }
+}
+
+/// A round by its first numbers, where `rest` is left of the bytes behind them.
+fn round_behind(
+    alloc: Global,
+    bytes: &[u8],
+    prefix: Prefix,
+    rest: &[u8],
+    cubes: &[Schema],
+    names: &NameLists,
+) -> Result<(Round, usize), CallError<FormatFault>>
+    requires dims { HaveDims cubes.now names.now }
+    requires rest { length rest.now + 24 ≡ length bytes.now }
+    ensures { (told : List ℕ → Option (List Declaration)) → TellsCubes told
+        → Gives (λ x. x) result
+        (round_behind sha256 told cubes.now names.now bytes.now (Ok (seen_prefix prefix, rest.now))) }
+{
     let epochs = prefix.epochs;
-    if epochs.from >= epochs.epoch || epochs.epoch >= 1 << 63 || !lies_whole(prefix.size, rest.len()) {
+    if epochs.from >= epochs.epoch || epochs.epoch >= 1 << 63 {
+        return Err(CallError::Fault(FormatFault::BadText { at: 0 }));
+    }
+    let left = rest.len() as u64;
+    if left < 33 || left - 33 < prefix.size {
         return Err(CallError::Fault(FormatFault::BadText { at: 0 }));
     }
     let size = prefix.size as usize;
@@ -127,12 +150,12 @@ pub fn read_round(
         return Err(CallError::Fault(FormatFault::BadDigest { kept, found }));
     }
     match payload_of(alloc, payload, cubes, names, epochs) {
-        Ok((made, cubes)) => Ok((
+        Ok((made, parts)) => Ok((
             Round {
                 from: epochs.from,
                 epoch: epochs.epoch,
                 made,
-                cubes,
+                cubes: parts,
             },
             size + 57,
         )),
