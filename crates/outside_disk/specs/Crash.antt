@@ -7,7 +7,9 @@ use Rattle.outside_disk.specs.DiskBytes.{read_bytes}
 abbrev pub filled_from : List ℕ → ℕ → List DiskByte → List ℕ
 filled_from fill i [] = []
 filled_from fill i (b ∷ disk) =
-    if b.settled then b.byte ∷ filled_from fill i disk else get_or fill (i % length fill) 0 ∷ filled_from fill (i + 1) disk
+    if b.settled
+    then b.byte ∷ filled_from fill i disk
+    else get_or fill (i % length fill) 0 ∷ filled_from fill (i + 1) disk
 
 -- where the fill is empty, what a read gives
 abbrev pub crash_image : List ℕ → List DiskByte → List ℕ

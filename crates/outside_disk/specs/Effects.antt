@@ -27,7 +27,8 @@ pub record AnyFrom (at n : ℕ) (old new : List ℕ) : Type 0 where
 
 -- Each image is an old one after the effect. A crash since an earlier time might have left what it might have left
 -- before, or an image of now; what it might have left before it might still. The count rises exactly with Failed.
-pub record Goes {T : Type 0} (effect : List ℕ → List ℕ → Type 0) (result : Result T Failed) (old new : View) : Type 0 where
+pub record Goes {T : Type 0} (effect : List ℕ → List ℕ → Type 0) (result : Result T Failed) (old new : View)
+    : Type 0 where
   pub later : old.moment ≤ new.moment
   pub images : (c : List ℕ) → new.image c → (d : List ℕ) × old.image d × effect d c
   pub nothing_else : (t : ℕ) (c : List ℕ) → t ≤ old.moment → new.since t c → old.since t c ⊎ new.image c

@@ -21,6 +21,7 @@ none_later : (past : List (List DiskByte)) (c : List ℕ) → WasImage past (len
 none_later [] c was = was
 none_later (disk ∷ past) c was = absurd (omega (arith, was.0))
 
-pub only_now : (disk : DiskState) (c : List ℕ) → (disk_view disk).since (disk_view disk).moment c → (disk_view disk).image c
+pub only_now :
+    (disk : DiskState) (c : List ℕ) → (disk_view disk).since (disk_view disk).moment c → (disk_view disk).image c
 only_now disk c (inl now) = now
 only_now disk c (inr was) = absurd (none_later (tape_course disk.tape).past c was)

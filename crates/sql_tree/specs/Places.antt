@@ -17,7 +17,8 @@ IsRest text tokens rest = AreIn text rest × (length rest ≤ length tokens)
 
 -- Tokens of a text begin with one that says the sign, and go on with the rest.
 abbrev pub BeginsWith : Sign → List ℕ → List Token → List Token → Type 0
-BeginsWith wanted text tokens rest = (first : Token) × (tokens ≡ first ∷ rest) × IsTrue (is_sign wanted (symbol_of text first))
+BeginsWith wanted text tokens rest =
+    (first : Token) × (tokens ≡ first ∷ rest) × IsTrue (is_sign wanted (symbol_of text first))
 
 -- The place of the first of tokens, or the text's length where none is left.
 abbrev pub first_place : List ℕ → List Token → ℕ

@@ -81,7 +81,8 @@ Skips reading text tokens result =
 -- What the first symbol means, where it means something.
 abbrev pub read_first : {A : Type 0} → (Symbol → Option A) → List Symbol → Readout A
 read_first meaning [] = Err 0
-read_first meaning (symbol ∷ symbols) = option_map_or (λ x. Ok (x, symbols)) (meaning symbol) (Err (length (symbol ∷ symbols)))
+read_first meaning (symbol ∷ symbols) =
+    option_map_or (λ x. Ok (x, symbols)) (meaning symbol) (Err (length (symbol ∷ symbols)))
 
 -- Both keywords have the same letters.
 abbrev pub same_keyword : KeywordWord → KeywordWord → Bool
@@ -226,7 +227,9 @@ unfoldable pub listed_within : {A : Type 0} → ℕ → Sign → (List Symbol �
 listed_within zero between item symbols = Err (length symbols)
 listed_within (suc most) between item symbols = do
   first ← item symbols
-  if stands_first between first.1 then (listed_within most between item (drop 1 first.1) >>= λ others. Ok (first.0 ∷ others.0, others.1)) else Ok (first.0 ∷ [], first.1)
+  if stands_first between first.1
+  then (listed_within most between item (drop 1 first.1) >>= λ others. Ok (first.0 ∷ others.0, others.1))
+  else Ok (first.0 ∷ [], first.1)
 
 -- Items with a sign between each two, one at least.
 unfoldable pub listed : {A : Type 0} → Sign → (List Symbol → Readout A) → List Symbol → Readout (List A)
@@ -352,7 +355,8 @@ read_having symbols = optional (sign.Keyword keyword.Having) [] (listed (sign.Ke
 -- The direction that the first symbol says, or none.
 unfoldable pub read_direction : List Symbol → Readout Direction
 read_direction [] = Ok (direction.Unsaid, [])
-read_direction (symbol ∷ symbols) = option_map_or (λ d. Ok (d, symbols)) (direction_in symbol) (Ok (direction.Unsaid, symbol ∷ symbols))
+read_direction (symbol ∷ symbols) =
+    option_map_or (λ d. Ok (d, symbols)) (direction_in symbol) (Ok (direction.Unsaid, symbol ∷ symbols))
 
 unfoldable pub read_key : List Symbol → Readout WrittenKey
 read_key symbols = do
@@ -402,7 +406,8 @@ read_select symbols = do
   having ← read_having asked.1
   keys ← read_order having.1
   limit ← read_limit keys.1
-  Ok (statement.Select asked.0.items asked.0.cube asked.0.conds asked.0.group having.0 (map sort_key_of keys.0) limit.0, limit.1)
+  Ok (statement.Select asked.0.items asked.0.cube asked.0.conds asked.0.group having.0 (map sort_key_of keys.0) limit.0,
+      limit.1)
 
 unfoldable pub read_watch : List Symbol → Readout Statement
 read_watch symbols = do

@@ -42,7 +42,8 @@ TokensStand = (text : List ℕ) (tokens : List Token) → AreTokens text tokens 
 -- A text may be cut where its tokens begin and end: characters end there.
 abbrev pub TokensCut : Type 0
 TokensCut =
-    (text : List ℕ) (t : Token) → IsUtf8 text → StandsIn text t → IsCharBoundary text t.start × IsCharBoundary text t.end
+    (text : List ℕ) (t : Token) → IsUtf8 text → StandsIn text t
+    → IsCharBoundary text t.start × IsCharBoundary text t.end
 
 -- The script has some statements by their places.
 abbrev pub AnyPieces : List ℕ → Type 0
@@ -64,7 +65,8 @@ ScriptsHaveOneListOfPieces =
 -- A script that has its statements has no fault.
 abbrev pub ScriptsOfPiecesHaveNoFault : Type 0
 ScriptsOfPiecesHaveNoFault =
-    (script : List ℕ) (pieces : List Piece) (fault : ScriptFault) → IsScript script pieces → HasScriptFault script fault → ⊥
+    (script : List ℕ) (pieces : List Piece) (fault : ScriptFault)
+    → IsScript script pieces → HasScriptFault script fault → ⊥
 
 -- A script has one fault at most.
 abbrev pub ScriptsHaveOneFault : Type 0

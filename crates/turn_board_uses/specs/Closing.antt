@@ -13,7 +13,8 @@ abbrev pub CanTake : Door → Push → Type 0
 CanTake door Close = door ≡ Open
 CanTake door Try = Unit {0}
 
--- Closing answers that the door was open and leaves it closed. Trying leaves it as it is, and answers whether it is open.
+-- Closing answers that the door was open and leaves it closed. Trying leaves it as it is, and answers whether it is
+-- open.
 abbrev pub Moves : Door → Push → Bool → Door → Type 0
 Moves x Close a y = (y ≡ Closed) × (a ≡ true)
 Moves Open Try a y = (y ≡ Open) × (a ≡ true)
