@@ -228,8 +228,8 @@ listed_within zero between item symbols = Err (length symbols)
 listed_within (suc most) between item symbols = do
   first ← item symbols
   if stands_first between first.1
-  then (listed_within most between item (drop 1 first.1) >>= λ others. Ok (first.0 ∷ others.0, others.1))
-  else Ok (first.0 ∷ [], first.1)
+    then (listed_within most between item (drop 1 first.1) >>= λ others. Ok (first.0 ∷ others.0, others.1))
+    else Ok (first.0 ∷ [], first.1)
 
 -- Items with a sign between each two, one at least.
 unfoldable pub listed : {A : Type 0} → Sign → (List Symbol → Readout A) → List Symbol → Readout (List A)
