@@ -13,4 +13,3 @@ pub mod Lines
 pub mod Runs
 pub mod RunLines
 pub mod NamedGroups
-pub mod WorkedRows

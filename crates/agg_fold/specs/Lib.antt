@@ -5,4 +5,3 @@ pub mod Standing
 pub mod Totals
 pub mod Lines
 pub mod Tables
-pub mod Worked

@@ -10,6 +10,3 @@ mod tallies;
 mod tally;
 
 pub use partial::Partial;
-
-#[cfg(test)]
-mod tests;

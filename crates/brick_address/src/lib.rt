@@ -6,8 +6,6 @@ mod cover;
 mod law;
 mod share;
 mod sizes;
-#[cfg(test)]
-mod tests;
 
 pub use address::{brick_of, coord_of, offset_of};
 pub use cover::{Cover, covers};

@@ -10,6 +10,3 @@ mod span;
 pub use codes::{codes_in, lists_at, narrow};
 pub use grow::append;
 pub use span::span_for;
-
-#[cfg(test)]
-mod tests;

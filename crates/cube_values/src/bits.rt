@@ -270,6 +270,3 @@ fn count_set(words: &[u64]) -> u64
 {
     words.iter().map(|word| u64::from(word.count_ones())).sum()
 }
-
-#[cfg(test)]
-mod tests;

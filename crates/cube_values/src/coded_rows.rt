@@ -151,6 +151,3 @@ fn part_of<T: Copy>(items: &[T], width: usize, i: usize) -> &[T]
     let from = i * width;
     &items[from..from + width]
 }
-
-#[cfg(test)]
-mod tests;

@@ -11,6 +11,3 @@ mod without;
 pub use epochs::Epochs;
 pub use law::removal_changes_no_other_row;
 pub use limit::Limit;
-
-#[cfg(test)]
-mod tests;

@@ -12,6 +12,3 @@ mod tables;
 pub use regions::region_has;
 pub use running::visible_rows;
 pub use tables::answer;
-
-#[cfg(test)]
-mod tests;

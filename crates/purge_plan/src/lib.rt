@@ -8,6 +8,3 @@ mod purge;
 
 pub use law::{purge_changes_nothing_seen, purge_keeps_later_epochs, purge_leaves_no_old_mark};
 pub use purge::plan;
-
-#[cfg(test)]
-mod tests;

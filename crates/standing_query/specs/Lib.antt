@@ -1,2 +1,1 @@
 pub mod Watches
-pub mod Worked

@@ -6,6 +6,3 @@ mod watch;
 
 pub use change::Change;
 pub use watch::Watch;
-
-#[cfg(test)]
-mod tests;

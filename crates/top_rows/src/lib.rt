@@ -7,6 +7,3 @@ mod first;
 mod listed;
 
 pub use first::first_rows;
-
-#[cfg(test)]
-mod tests;

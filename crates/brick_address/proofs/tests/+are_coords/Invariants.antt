@@ -1,5 +1,0 @@
-use Rattle.std.proofs.Common.{length}
-use Rattle.brick_address.proofs.tests.+are_coords.Given as goal
-
-abbrev pub decreases-are_coords : goal.decreases-are_coords
-decreases-are_coords l = length l.sizes.now

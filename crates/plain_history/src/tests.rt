@@ -1,4 +1,0 @@
-//! Whole answers over small histories, with the numbers worked out by hand.
-
-mod answers;
-mod histories;
