@@ -60,14 +60,11 @@ fn make(alloc: Global, trial: &mut Trial, call: Call, at: u32) -> Result<bool, A
     let state = plain(alloc, trial)?;
     let sessions = trial.sessions;
     match call {
-        Call::Write(session)
-            if 1 <= session && session <= sessions && is_free(&state, session) =>
-        {
+        Call::Write(session) if 1 <= session && session <= sessions && is_free(&state, session) => {
             let _snapshot = trial.register.open_write(session, at)?;
         }
         Call::Read(session)
-            if 1 <= session && session <= MOST_HOLDERS && is_free(&state, session) =>
-        {
+            if 1 <= session && session <= MOST_HOLDERS && is_free(&state, session) => {
             let _snapshot = trial.register.open_read(session, at)?;
         }
         Call::Commit(session) if is_writing(&state, session) => {
@@ -187,7 +184,10 @@ fn tables_of_calls(rt: HostRuntime) -> Result<(), Fail> {
         let mut at = 0u32;
         for (call, ec, lce, lse) in table {
             at = at.wrapping_add(1);
-            assert!(rt; make(rt.alloc(), &mut trial, *call, at)?, "{call:?} at {at}");
+            assert!(rt;
+                make(rt.alloc(), &mut trial, *call, at)?,
+                "{call:?} at {at}"
+            );
             let counters = trial.register.counters();
             assert_eq!(rt;
                 (counters.ec, counters.lce, counters.lse),

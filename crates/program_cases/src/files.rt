@@ -2,8 +2,8 @@
 
 use cube_values::CallError;
 use outside::{
-    FileFault, OutputFault, PutAnswer, ReadAnswer, Shelf, ShelfMemory, Sink, SinkMemory, SizeAnswer,
-    put_whole, read_whole,
+    FileFault, OutputFault, PutAnswer, ReadAnswer, Shelf, ShelfMemory, Sink, SinkMemory,
+    SizeAnswer, put_whole, read_whole,
 };
 use std::alloc::{AllocError, Global};
 use std::test::Fail;
