@@ -8,6 +8,3 @@ mod search;
 pub use aosi_register::{MOST_HOLDERS, MOST_SESSIONS, RoundAnswer, RoundEnd};
 pub use cube::{CubeAnswer, CubeFound};
 pub use desk::{Decls, Desk};
-
-#[cfg(test)]
-mod tests;

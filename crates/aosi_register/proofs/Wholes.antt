@@ -11,16 +11,13 @@ use Rattle.cube_journal.specs.declared.journal_entry.JournalEntry.TheVariants as
 use Rattle.cube_journal.specs.Counters.{JournalState, journal_state, held_by, lce, target, oldest_bound, counters_in}
 use Rattle.cube_journal.specs.declared.note.Note.{Note}
 use Rattle.cube_journal.specs.Entries.{note_entry}
-use Rattle.cube_journal.specs.Legal.{CountersAllow, HoldsReader}
+use Rattle.cube_journal.specs.Legal.{CountersAllow}
 use Rattle.linked_roll.specs.Members.{Member, member, item_by_ticket, items, members_without}
 use Rattle.linked_roll.proofs.Tickets.{length-taken}
 use Rattle.aosi_register.specs.State.{writer_snapshot, reader_snapshot, IsWriting, held_epoch}
-use Rattle.aosi_register.specs.Holds.{hold_of, snapshot_ticket, is_writer, is_reader, HoldFits}
+use Rattle.aosi_register.specs.Holds.{hold_of, is_writer, is_reader, HoldFits}
 use Rattle.aosi_register.specs.Fits.{Contents, ShowsState, FitsJournal, entries_owed, counters_of, BeginsSnapshot, Reads, EndsWriter, EndsReader}
-use Rattle.aosi_register.specs.declared.hold.Hold.TheVariants.{Free, Reader, Writer}
 use Rattle.aosi_register.proofs.Pending.{WritersCount-most}
-use Rattle.linked_roll.specs.declared.ticket.Ticket.{Ticket}
-use Rattle.aosi_register.proofs.Held.{none_held}
 use Rattle.aosi_register.proofs.Sessions.{writer_within, reader_within, holds_writer, holds_reader, WriterOf, writer_of, ReaderOf, reader_of}
 use Rattle.aosi_register.proofs.Openings.{Laws, length-added, fits_noted, fits_read, fits_begun}
 use Rattle.aosi_register.proofs.Ends.{fits_read_end, fits_committed, fits_aborted}
@@ -148,25 +145,6 @@ reads_by k sessions safe n fits reading =
     let held = subst (λ xs. IsSomeAnd (held_by xs n) (λ h. h.own ≡ false)) (sym fits.state.snapshots) reading in
     let reader = holds_reader k.holds k.snapshots k.pending fits.holds n held in
     record { reader = reader; within = reader_within k.holds n reader; fits = fits.holds.fit n }
-
--- What a hold says of the state.
-module _ (k : Contents) (sessions safe n : ℕ) (fits : FitsJournal k sessions safe) where
-  pub free_in_state : hold_of k.holds n ≡ Free → held_by (journal_state safe k.journal).snapshots n ≡ None
-  free_in_state is =
-      ap (λ xs. held_by xs n) (sym fits.state.snapshots)
-      ∙ none_held k.holds k.snapshots n fits.holds.held (ap snapshot_ticket is)
-
-  pub writing_in_state : (t p : Ticket) → hold_of k.holds n ≡ Writer t p → IsWriting (journal_state safe k.journal) n
-  writing_in_state t p is =
-      let w = writer_of k.holds k.snapshots k.pending fits.holds n t p is in
-      subst (λ x. IsSomeAnd x (λ h. h.own ≡ true))
-      (sym (ap (λ xs. held_by xs n) (sym fits.state.snapshots) ∙ w.held)) w.own
-
-  pub reading_in_state : (t : Ticket) → hold_of k.holds n ≡ Reader t → HoldsReader (journal_state safe k.journal) n
-  reading_in_state t is =
-      let r = reader_of k.holds k.snapshots k.pending fits.holds n t is in
-      subst (λ x. IsSomeAnd x (λ h. h.own ≡ false))
-      (sym (ap (λ xs. held_by xs n) (sym fits.state.snapshots) ∙ r.held)) r.own
 
 -- A writer that ended.
 module _ (laws : Laws) (k mid new : Contents) (sessions safe n : ℕ) (fits : FitsJournal k sessions safe) (epoch : ℕ)

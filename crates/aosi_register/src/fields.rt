@@ -180,17 +180,6 @@ impl Fields {
         }
     }
 
-    /// What a session or a holder number holds.
-    #[cfg(test)]
-    pub(crate) fn hold(&self, session: u32) -> Hold
-        ensures { result ≡ hold_of self.now.holds.items session }
-    {
-        self.holds
-            .get(session as usize)
-            .copied()
-            .unwrap_or(Hold::Free)
-    }
-
     /// Closes the round of the epoch.
     pub(crate) fn close_round(&mut self, epoch: u64, end: RoundEnd)
         ensures contents { contents self.new ≡ without_round (contents self.old) epoch end }

@@ -20,9 +20,6 @@ use linked_roll::Roll;
 use std::alloc::{AllocError, Global};
 use std::marker::Model;
 
-#[cfg(test)]
-mod tests;
-
 /// How many sessions there are at most.
 pub const MOST_SESSIONS: u32 = 16;
 

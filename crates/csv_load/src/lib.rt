@@ -12,6 +12,3 @@ pub use cube_language::{BadRow, Reason};
 pub use loader::Loader;
 pub use source::Source;
 pub use step::{Record, Step};
-
-#[cfg(test)]
-mod tests;

@@ -6,6 +6,3 @@ mod scripts;
 
 pub use files::part;
 pub use scripts::{cubes_text, part_name, script};
-
-#[cfg(test)]
-mod tests;

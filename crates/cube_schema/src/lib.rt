@@ -16,6 +16,3 @@ pub use law::{a_text_declares_or_has_one_fault, what_is_printed_declares_its_cub
 pub use print::print_cubes;
 pub use read::read_cubes;
 pub use schema::{Schema, Schemas, check, copy_cubes};
-
-#[cfg(test)]
-mod tests;

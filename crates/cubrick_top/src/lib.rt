@@ -14,6 +14,3 @@ mod statements;
 pub use fault::{BuiltPart, Fault, Finish};
 pub use law::two_files_decide_one_end;
 pub use running::{finish, run};
-
-#[cfg(test)]
-mod tests;

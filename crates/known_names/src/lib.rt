@@ -3,7 +3,5 @@
 
 mod hints;
 mod known;
-#[cfg(test)]
-mod tests;
 
 pub use known::Known;

@@ -6,8 +6,6 @@ mod items;
 mod links;
 mod roll;
 mod steps;
-#[cfg(test)]
-mod tests;
 mod ticket;
 
 pub use items::Items;

@@ -5,8 +5,6 @@ mod code;
 mod cube_dicts;
 mod dict;
 mod dicts;
-#[cfg(test)]
-mod tests;
 
 pub use code::Code;
 pub use dict::Dict;

@@ -18,6 +18,3 @@ pub use shelf_memory::ShelfMemory;
 pub use sink::Sink;
 pub use sink_memory::SinkMemory;
 pub use writing::{OutputFault, put_whole};
-
-#[cfg(test)]
-mod tests;

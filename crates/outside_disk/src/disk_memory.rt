@@ -293,6 +293,3 @@ impl Disk for DiskMemory {
         self.settle()
     }
 }
-
-#[cfg(test)]
-mod tests;

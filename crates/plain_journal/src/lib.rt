@@ -10,6 +10,3 @@ mod state;
 pub use cubes::is_legal_by_cubes;
 pub use legal::{is_legal, is_legal_by_counters};
 pub use state::{State, state_of};
-
-#[cfg(test)]
-mod tests;

@@ -21,6 +21,3 @@ mod written;
 pub use law::{a_text_spells_or_has_one_fault, what_is_printed_spells_its_statement};
 pub use parsing::parse;
 pub use printing::print;
-
-#[cfg(test)]
-mod tests;

@@ -17,6 +17,3 @@ pub use law::{
 pub use piece::{piece_text, split};
 pub use place::token_text;
 pub use token::tokens;
-
-#[cfg(test)]
-mod tests;

@@ -12,6 +12,3 @@ mod rows;
 
 pub use check::check_statement;
 pub use cube_language::Misfit;
-
-#[cfg(test)]
-mod tests;

@@ -1,4 +1,0 @@
-mod changes;
-mod journals;
-mod single;
-mod verdicts;
