@@ -8,8 +8,8 @@ ghost use Rattle.query_cases.specs.TwoRows.{StandsForFew, count_and_sum, three_a
 
 use agg_fold::Partial;
 use cube_values::{
-    BoundItem, BoundItems, BoundQuery, Coords, Field, Line, NameLists, Part, Parts, Span, Table,
-    Text, TextLists, Texts,
+    BoundItem, BoundItems, BoundQuery, Coords, Field, NameLists, Part, Parts, Span, Table, Text,
+    TextLists, Texts,
 };
 use std::alloc::{AllocError, Global};
 use std::test::Fail;
@@ -134,10 +134,6 @@ fn names(alloc: Global, texts: &[&str]) -> Result<NameLists, AllocError> {
     Ok(all)
 }
 
-fn text(alloc: Global, text: &str) -> Result<Field, AllocError> {
-    Ok(Field::Text(Text::new(alloc, text)?))
-}
-
 /// The table of rows, folded in one partial, and in three that are merged.
 fn tables(
     alloc: Global,
@@ -152,12 +148,50 @@ fn tables(
     Ok((one, three))
 }
 
-fn table(alloc: Global, lines: Vec<Vec<Field>>) -> Result<Table, AllocError> {
-    let mut table = Table::new(alloc);
-    for line in lines {
-        table.push(Line::from_vec(line))?;
+/// A field that is wanted.
+#[derive(Clone, Copy)]
+enum Wanted {
+    Text(&'static str),
+    Whole(i128),
+    /// Whether it is below 0, the whole part and the ten-thousandths.
+    Decimal(bool, u128, u16),
+    Null,
+}
+
+fn is_field(field: &Field, wanted: Wanted) -> bool {
+    match (field, wanted) {
+        (Field::Text(text), Wanted::Text(other)) => text.as_str() == other,
+        (Field::Whole(n), Wanted::Whole(other)) => *n == other,
+        (Field::Decimal { neg, whole, four }, Wanted::Decimal(is_below, units, parts)) => {
+            *neg == is_below && *whole == units && *four == parts
+        }
+        (Field::Null, Wanted::Null) => true,
+        _ => false,
     }
-    Ok(table)
+}
+
+fn are_fields(fields: &[Field], wanted: &[Wanted]) -> bool {
+    let mut pairs = fields.iter().zip(wanted);
+    fields.len() == wanted.len() && pairs.all(|(field, one)| is_field(field, *one))
+}
+
+fn is_table(table: &Table, wanted: &[&[Wanted]]) -> bool {
+    let mut pairs = table.as_slice().iter().zip(wanted);
+    table.len() == wanted.len() && pairs.all(|(line, one)| are_fields(line.as_slice(), one))
+}
+
+/// Whether this is the table of rows, both ways.
+fn gives(
+    alloc: Global,
+    query: &BoundQuery,
+    names: &NameLists,
+    rows: &[Made],
+    wanted: &[&[Wanted]],
+) -> Result<bool, AllocError>
+    requires { length rows.now < 2 ^ 40 }
+{
+    let (one, three) = tables(alloc, query, names, rows)?;
+    Ok(is_table(&one, wanted) && is_table(&three, wanted))
 }
 
 const fn row(coord: u32, metric: i64) -> Made {
@@ -170,7 +204,6 @@ const fn row(coord: u32, metric: i64) -> Made {
 #[test]
 fn whole_sums(rt: HostRuntime) -> Result<(), Fail> {
     let alloc = rt.alloc();
-    let names = names(alloc, &[])?;
     let items = [
         BoundItem::Sum(0),
         BoundItem::Avg(0),
@@ -178,88 +211,72 @@ fn whole_sums(rt: HostRuntime) -> Result<(), Fail> {
         BoundItem::Max(0),
         BoundItem::Count,
     ];
+    let names = names(alloc, &[])?;
     let query = query(alloc, &[], &items)?;
     let largest = [row(0, i64::MAX), row(1, i64::MAX), row(1, i64::MAX)];
+    let wanted = [
+        Wanted::Whole(27670116110564327421),
+        Wanted::Decimal(false, 9223372036854775807, 0),
+        Wanted::Whole(9223372036854775807),
+        Wanted::Whole(9223372036854775807),
+        Wanted::Whole(3),
+    ];
+    assert!(rt;
+        gives(alloc, &query, &names, &largest, &[&wanted])?,
+        "three times the largest"
+    );
     let least = [row(0, i64::MIN), row(0, i64::MIN)];
+    let wanted = [
+        Wanted::Whole(-18446744073709551616),
+        Wanted::Decimal(true, 9223372036854775808, 0),
+        Wanted::Whole(-9223372036854775808),
+        Wanted::Whole(-9223372036854775808),
+        Wanted::Whole(2),
+    ];
+    assert!(rt;
+        gives(alloc, &query, &names, &least, &[&wanted])?,
+        "twice the least"
+    );
     let half = [row(0, -1), row(4, 0)];
-    let (one, three) = tables(alloc, &query, &names, &largest)?;
-    let wanted = table(
-        alloc,
-        vec![in alloc;
-            vec![in alloc;
-                Field::Whole(27670116110564327421),
-                Field::Decimal {
-                    neg: false,
-                    whole: 9223372036854775807,
-                    four: 0
-                },
-                Field::Whole(9223372036854775807),
-                Field::Whole(9223372036854775807),
-                Field::Whole(3)
-            ]?,
-        ]?,
-    )?;
-    assert!(rt; one == wanted && three == wanted, "three times the largest");
-    let (one, three) = tables(alloc, &query, &names, &least)?;
-    let wanted = table(
-        alloc,
-        vec![in alloc;
-            vec![in alloc;
-                Field::Whole(-18446744073709551616),
-                Field::Decimal {
-                    neg: true,
-                    whole: 9223372036854775808,
-                    four: 0
-                },
-                Field::Whole(-9223372036854775808),
-                Field::Whole(-9223372036854775808),
-                Field::Whole(2)
-            ]?,
-        ]?,
-    )?;
-    assert!(rt; one == wanted && three == wanted, "twice the least");
-    let (one, three) = tables(alloc, &query, &names, &half)?;
-    let wanted = table(
-        alloc,
-        vec![in alloc;
-            vec![in alloc;
-                Field::Whole(-1),
-                Field::Decimal {
-                    neg: true,
-                    whole: 0,
-                    four: 5000
-                },
-                Field::Whole(-1),
-                Field::Whole(0),
-                Field::Whole(2)
-            ]?,
-        ]?,
-    )?;
-    assert!(rt; one == wanted && three == wanted, "minus a half");
+    let wanted = [
+        Wanted::Whole(-1),
+        Wanted::Decimal(true, 0, 5000),
+        Wanted::Whole(-1),
+        Wanted::Whole(0),
+        Wanted::Whole(2),
+    ];
+    assert!(rt;
+        gives(alloc, &query, &names, &half, &[&wanted])?,
+        "minus a half"
+    );
     Ok(())
+}
+
+fn count_of(alloc: Global, query: &BoundQuery, rows: &[Made]) -> Result<u64, AllocError>
+    requires { length rows.now < 2 ^ 40 }
+{
+    Ok(fold(alloc, query, rows, 0, 1)?.rows())
 }
 
 #[test]
 fn merged_partials(rt: HostRuntime) -> Result<(), Fail> {
     let alloc = rt.alloc();
-    let names = names(alloc, &["NY", "CA", "CA"])?;
     let items = [BoundItem::Group(0), BoundItem::Sum(0), BoundItem::Min(0)];
+    let names = names(alloc, &["NY", "CA", "CA"])?;
+    let query = query(alloc, &[0], &items)?;
+    let wanted: [&[Wanted]; 2] = [
+        &[Wanted::Text("CA"), Wanted::Whole(8), Wanted::Whole(3)],
+        &[Wanted::Text("NY"), Wanted::Whole(1), Wanted::Whole(1)],
+    ];
     let rows = [row(1, 3), row(1, 5), row(0, 1)];
-    let wanted = table(
-        alloc,
-        vec![in alloc;
-            vec![in alloc; text(alloc, "CA")?, Field::Whole(8), Field::Whole(3)]?,
-            vec![in alloc; text(alloc, "NY")?, Field::Whole(1), Field::Whole(1)]?,
-        ]?,
-    )?;
-    let (one, three) = tables(alloc, &query(alloc, &[0], &items)?, &names, &rows)?;
-    assert!(rt; one == wanted && three == wanted, "by text");
+    assert!(rt; gives(alloc, &query, &names, &rows, &wanted)?, "by text");
     // two coordinates with one text are one group
     let rows = [row(1, 3), row(2, 5), row(0, 1)];
-    let (one, three) = tables(alloc, &query(alloc, &[0], &items)?, &names, &rows)?;
-    assert!(rt; one == wanted && three == wanted, "one text twice");
-    let counted = fold(alloc, &query(alloc, &[0], &items)?, &rows, 0, 1)?.rows();
-    assert_eq!(rt; counted, 3);
+    assert!(rt;
+        gives(alloc, &query, &names, &rows, &wanted)?,
+        "one text twice"
+    );
+    assert_eq!(rt; count_of(alloc, &query, &rows)?, 3);
     Ok(())
 }
 
@@ -334,10 +351,9 @@ fn over_none_left(alloc: Global, query: &BoundQuery, two: &Partial) -> Result<Ta
     total.finish(query, &NameLists::new(alloc))
 }
 
-/// The only line of an answer: a count and a sum.
-fn count_and(alloc: Global, count: i128, sum: Field) -> Result<Table, AllocError> {
-    let line = vec![in alloc; Field::Whole(count), sum]?;
-    table(alloc, vec![in alloc; line]?)
+/// Whether an answer has one line alone, a count and a sum.
+fn is_count_and(table: &Table, count: i128, sum: Wanted) -> bool {
+    is_table(table, &[&[Wanted::Whole(count), sum]])
 }
 
 #[test]
@@ -345,20 +361,26 @@ fn rows_by_their_totals_come_and_go(rt: HostRuntime) -> Result<(), Fail> {
     let alloc = rt.alloc();
     let query = count_and_sum(alloc)?;
     let two = two_rows(alloc, &query)?;
-    let eight = count_and(alloc, 2, Field::Whole(8))?;
-    assert!(rt; over_two(alloc, &query, &two)? == eight);
-    let sixteen = count_and(alloc, 4, Field::Whole(16))?;
-    assert!(rt; over_four(alloc, &query, &two)? == sixteen);
-    assert!(rt; over_two_left(alloc, &query, &two)? == eight);
-    let none = count_and(alloc, 0, Field::Null)?;
-    assert!(rt; over_none_left(alloc, &query, &two)? == none);
+    assert!(rt; is_count_and(&over_two(alloc, &query, &two)?, 2, Wanted::Whole(8)));
+    assert!(rt; is_count_and(&over_four(alloc, &query, &two)?, 4, Wanted::Whole(16)));
+    assert!(rt; is_count_and(&over_two_left(alloc, &query, &two)?, 2, Wanted::Whole(8)));
+    assert!(rt; is_count_and(&over_none_left(alloc, &query, &two)?, 0, Wanted::Null));
     Ok(())
+}
+
+/// Whether a query for these items by a group gives this table over no rows.
+fn gives_of_none(
+    alloc: Global,
+    group: &[u32],
+    items: &[BoundItem],
+    wanted: &[&[Wanted]],
+) -> Result<bool, AllocError> {
+    let query = query(alloc, group, items)?;
+    gives(alloc, &query, &NameLists::new(alloc), &[], wanted)
 }
 
 #[test]
 fn no_rows(rt: HostRuntime) -> Result<(), Fail> {
-    let alloc = rt.alloc();
-    let names = names(alloc, &[])?;
     let items = [
         BoundItem::Sum(0),
         BoundItem::Min(0),
@@ -366,21 +388,15 @@ fn no_rows(rt: HostRuntime) -> Result<(), Fail> {
         BoundItem::Avg(0),
         BoundItem::Count,
     ];
-    let wanted = table(
-        alloc,
-        vec![in alloc;
-            vec![in alloc;
-                Field::Null,
-                Field::Null,
-                Field::Null,
-                Field::Null,
-                Field::Whole(0)
-            ]?,
-        ]?,
-    )?;
-    let (one, three) = tables(alloc, &query(alloc, &[], &items)?, &names, &[])?;
-    assert!(rt; one == wanted && three == wanted, "one line");
-    let (one, three) = tables(alloc, &query(alloc, &[1], &items)?, &names, &[])?;
-    assert!(rt; one.is_empty() && three.is_empty(), "no line");
+    let wanted = [
+        Wanted::Null,
+        Wanted::Null,
+        Wanted::Null,
+        Wanted::Null,
+        Wanted::Whole(0),
+    ];
+    let alloc = rt.alloc();
+    assert!(rt; gives_of_none(alloc, &[], &items, &[&wanted])?, "one line");
+    assert!(rt; gives_of_none(alloc, &[1], &items, &[])?, "no line");
     Ok(())
 }

@@ -1,8 +1,11 @@
 //! Many rows made from a seed, against a plain fold.
 
-use super::{Made, names, query, row, table, tables, text};
-use cube_values::{BoundItem, Field, Table};
+ghost use Rattle.std.specs.Prelude.{◌<◌, ◌^◌, length};
+
+use super::{Made, Wanted, are_fields, gives, names, query, row, tables};
+use cube_values::{BoundItem, BoundQuery, Line, NameLists, Table};
 use std::alloc::{AllocError, Global};
+use std::process::Abort;
 use std::test::Fail;
 
 /// A group of the plain fold, by its key.
@@ -64,41 +67,48 @@ fn plain_fold(alloc: Global, rows: &[Made], columns: usize) -> Result<Vec<Plain>
 }
 
 /// The average in ten-thousandths, cut toward zero.
-fn plain_average(group: &Plain) -> Field {
+fn plain_average(group: &Plain) -> Wanted {
     let count = i128::from(group.count);
     let cut = if count > 0 {
         group.sum.wrapping_mul(10_000).unsigned_abs() / count.unsigned_abs()
     } else {
         0
     };
-    Field::Decimal {
-        neg: group.sum < 0 && cut > 0,
-        whole: cut / 10_000,
-        four: (cut % 10_000) as u16,
-    }
+    Wanted::Decimal(
+        group.sum < 0 && cut > 0,
+        cut / 10_000,
+        (cut % 10_000) as u16,
+    )
 }
 
-fn plain_table(alloc: Global, groups: &[Plain], columns: usize) -> Result<Table, AllocError> {
-    let texts = ["v", "w", "x", "y", "z"];
-    let mut lines = Vec::new(alloc);
-    for group in groups {
-        let mut line = Vec::new(alloc);
-        for i in 0..3 {
-            if i < columns && i == 0 {
-                let place = group.key[0] as usize;
-                line.push(text(alloc, if place < 5 { texts[place] } else { "" })?)?;
-            } else if i < columns {
-                line.push(Field::Whole(i128::from(group.key[i])))?;
-            }
-        }
-        line.push(Field::Whole(i128::from(group.count)))?;
-        line.push(Field::Whole(group.sum))?;
-        line.push(Field::Whole(i128::from(group.least)))?;
-        line.push(Field::Whole(i128::from(group.greatest)))?;
-        line.push(plain_average(group))?;
-        lines.push(line)?;
+const TEXTS: [&str; 5] = ["v", "w", "x", "y", "z"];
+
+/// Whether a line has the first columns of a group's key, and its totals.
+fn is_plain_line(line: &Line, group: &Plain, columns: usize) -> bool {
+    let place = group.key[0] as usize;
+    let key = [
+        Wanted::Text(if place < 5 { TEXTS[place] } else { "" }),
+        Wanted::Whole(i128::from(group.key[1])),
+        Wanted::Whole(i128::from(group.key[2])),
+    ];
+    let totals = [
+        Wanted::Whole(i128::from(group.count)),
+        Wanted::Whole(group.sum),
+        Wanted::Whole(i128::from(group.least)),
+        Wanted::Whole(i128::from(group.greatest)),
+        plain_average(group),
+    ];
+    let fields = line.as_slice();
+    if columns > 3 || columns > fields.len() {
+        return false;
     }
-    table(alloc, lines)
+    let (first, others) = fields.split_at(columns);
+    are_fields(first, &key[..columns]) && are_fields(others, &totals)
+}
+
+fn is_plain_table(table: &Table, groups: &[Plain], columns: usize) -> bool {
+    let mut pairs = table.as_slice().iter().zip(groups);
+    table.len() == groups.len() && pairs.all(|(line, group)| is_plain_line(line, group, columns))
 }
 
 /// Rows from a seed: coordinates below 5, 4 and 3, and metrics of both signs.
@@ -122,11 +132,9 @@ fn made_rows(alloc: Global, count: usize) -> Result<Vec<Made>, AllocError> {
     Ok(rows)
 }
 
-#[test]
-fn many_rows_as_by_the_plain_fold(rt: HostRuntime) -> Result<(), Fail> {
-    let alloc = rt.alloc();
-    let names = names(alloc, &["z", "y", "x", "w", "v"])?;
-    let items = [
+/// A query by the first columns, for these and all totals.
+fn query_by(alloc: Global, columns: usize) -> Result<BoundQuery, AllocError> {
+    let all = [
         BoundItem::Group(0),
         BoundItem::Group(1),
         BoundItem::Group(2),
@@ -136,51 +144,69 @@ fn many_rows_as_by_the_plain_fold(rt: HostRuntime) -> Result<(), Fail> {
         BoundItem::Max(0),
         BoundItem::Avg(0),
     ];
+    let mut items = Vec::new(alloc);
+    for (i, item) in all.iter().enumerate() {
+        if i < columns || i >= 3 {
+            items.push(*item)?;
+        }
+    }
+    let dims = [0u32, 1, 2];
+    query(alloc, &dims[..columns.min(3)], items.as_slice())
+}
+
+/// Checks the answer by the first columns, in one partial and in three.
+fn check_columns(
+    rt: &impl Abort,
+    alloc: Global,
+    names: &NameLists,
+    rows: &[Made],
+    columns: usize,
+) -> Result<(), AllocError>
+    requires { length rows.now < 2 ^ 40 }
+{
+    let groups = plain_fold(alloc, rows, columns)?;
+    let query = query_by(alloc, columns)?;
+    let (one, three) = tables(alloc, &query, names, rows)?;
+    assert!(rt;
+        is_plain_table(&one, groups.as_slice(), columns),
+        "one partial by {columns} columns"
+    );
+    assert!(rt;
+        is_plain_table(&three, groups.as_slice(), columns),
+        "three partials by {columns} columns"
+    );
+    Ok(())
+}
+
+#[test]
+fn many_rows_as_by_the_plain_fold(rt: HostRuntime) -> Result<(), Fail> {
+    let alloc = rt.alloc();
+    let names = names(alloc, &["z", "y", "x", "w", "v"])?;
     let rows = made_rows(alloc, 5000)?;
     assert_eq!(rt; rows.len(), 5000);
     for columns in 0..4usize {
-        let mut chosen = Vec::new(alloc);
-        for (i, item) in items.iter().enumerate() {
-            if i < columns || i >= 3 {
-                chosen.push(*item)?;
-            }
-        }
-        let mut group = Vec::new(alloc);
-        for dim in 0..3u32 {
-            if (dim as usize) < columns {
-                group.push(dim)?;
-            }
-        }
-        let query = query(alloc, group.as_slice(), chosen.as_slice())?;
-        let groups = plain_fold(alloc, rows.as_slice(), columns)?;
-        let wanted = plain_table(alloc, groups.as_slice(), columns)?;
-        let (one, three) = tables(alloc, &query, &names, rows.as_slice())?;
-        assert!(rt; one == wanted, "one partial by {columns} columns");
-        assert!(rt; three == wanted, "three partials by {columns} columns");
+        check_columns(&rt, alloc, &names, rows.as_slice(), columns)?;
     }
-    let mut minus = Vec::new(alloc);
-    for i in 0..100_000usize {
-        minus.push(row(0, if i == 7 { -1 } else { 0 }))?;
+    Ok(())
+}
+
+/// Rows with a sum of -1.
+fn minus_one(alloc: Global, count: usize) -> Result<Vec<Made>, AllocError> {
+    let mut rows = Vec::new(alloc);
+    for i in 0..count {
+        rows.push(row(0, if i == 7 { -1 } else { 0 }))?;
     }
-    assert_eq!(rt; minus.len(), 100_000);
+    Ok(rows)
+}
+
+#[test]
+fn a_small_sum_over_many_rows(rt: HostRuntime) -> Result<(), Fail> {
+    let alloc = rt.alloc();
+    let rows = minus_one(alloc, 100_000)?;
+    assert_eq!(rt; rows.len(), 100_000);
     let query = query(alloc, &[], &[BoundItem::Sum(0), BoundItem::Avg(0)])?;
-    let (one, three) = tables(alloc, &query, &names, minus.as_slice())?;
-    let wanted = table(
-        alloc,
-        vec![in alloc;
-            vec![in alloc;
-                Field::Whole(-1),
-                Field::Decimal {
-                    neg: false,
-                    whole: 0,
-                    four: 0
-                }
-            ]?,
-        ]?,
-    )?;
-    assert!(rt;
-        one == wanted && three == wanted,
-        "a sum of -1 over 100,000 rows"
-    );
+    let wanted = [Wanted::Whole(-1), Wanted::Decimal(false, 0, 0)];
+    let names = NameLists::new(alloc);
+    assert!(rt; gives(alloc, &query, &names, rows.as_slice(), &[&wanted])?);
     Ok(())
 }
