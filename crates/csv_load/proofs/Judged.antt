@@ -101,3 +101,11 @@ texts_are (dim ∷ dims) (field ∷ fields) none = by_reason (dim_field_reason d
         → (dims_fault dims fields ≡ None → AreTexts dims fields) → AreTexts (dim ∷ dims) (field ∷ fields)
     by_reason None e more = (λ text. utf8_of dim field text e, more (rw e at none))
     by_reason (Some reason) e more = let no = rw e at none in absurd cc
+
+pub text_at : (dims : List DimDecl) (fields : RecordFields) (i : ℕ) (d : DimDecl) → AreTexts dims fields
+    → i < length dims → i < length fields → (get_or dims i d).text ≡ true → IsUtf8 (get_or fields i [])
+text_at [] fields i d texts a b = absurd (omega (arith, a))
+text_at (dim ∷ dims) [] i d texts a b = absurd (omega (arith, b))
+text_at (dim ∷ dims) (field ∷ fields) zero d texts a b = texts.0
+text_at (dim ∷ dims) (field ∷ fields) (suc i) d texts a b =
+    text_at dims fields i d texts.1 (omega (arith, a)) (omega (arith, b))
