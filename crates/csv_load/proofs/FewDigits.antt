@@ -1,5 +1,5 @@
 -- A few digits one after the other: the number that they spell, and how great it can be.
-use Rattle.std.proofs.Common.{◌≡◌, ℕ, zero, suc, ◌+◌, ◌-◌, ◌*◌, ◌^◌, ◌<◌, ◌≤◌, Bool, true, false, cond, not, eqb, List, [], ◌∷◌, length, get_or, take, drop, ℤ, pos, neg_ℤ, Option, Some, None, refl, sym, ap, subst, ◌∙◌, pow-suc, lt_of_lt_of_le, arith}
+use Rattle.std.proofs.Common.{◌≡◌, ℕ, suc, ◌+◌, ◌-◌, ◌*◌, ◌^◌, ◌<◌, ◌≤◌, Bool, true, false, cond, not, eqb, List, [], ◌∷◌, length, get_or, take, drop, pos, neg_ℤ, Some, None, refl, sym, ap, subst, ◌∙◌, pow-suc, lt_of_lt_of_le, arith}
 use Rattle.std.specs.Prelude.{◌&&◌}
 use Rattle.std.specs.Char.{digit_value, is_ascii_digit}
 use Rattle.std.specs.Str.{all_ascii_digits}
