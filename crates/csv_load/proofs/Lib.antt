@@ -1,5 +1,6 @@
 pub mod Digits
 pub mod Narrow
+pub mod FewDigits
 pub mod Texts
 pub mod Judged
 pub mod RecordsLeft

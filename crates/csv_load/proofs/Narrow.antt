@@ -1,5 +1,5 @@
 -- Numbers that 64 bits with a sign can hold, and the number that a field spells.
-use Rattle.std.proofs.Common.{◌≡◌, ℕ, zero, suc, ◌≤◌, ◌^◌, true, false, eqb, ℤ, pos, negsuc, neg_ℤ, List, ◌∷◌, None, inl, inr, refl, arith}
+use Rattle.std.proofs.Common.{◌≡◌, ℕ, zero, suc, ◌<◌, ◌≤◌, ◌^◌, true, false, eqb, ℤ, pos, negsuc, neg_ℤ, List, ◌∷◌, Some, None, inl, inr, refl, arith}
 use Rattle.std.specs.Prelude.{FitsSigned}
 use Rattle.std.specs.Int.{w64}
 use Rattle.std.specs.Option.{option_map_or}
@@ -26,6 +26,14 @@ wide_plain n wide = rw (le-ltb n (2 ^ 63) (omega (arith, wide))) refl
 pub wide_minus : (n : ℕ) → 2 ^ 64 ≤ n → narrow_number (neg_ℤ (pos n)) ≡ None
 wide_minus zero wide = absurd (omega (arith, wide))
 wide_minus (suc n) wide = rw (le-ltb n (2 ^ 63) (omega (arith, wide))) refl
+
+-- and what is below 2 ^ 63 does, with a minus sign or without
+pub narrow_plain : (n : ℕ) → n < 2 ^ 63 → narrow_number (pos n) ≡ Some (pos n)
+narrow_plain n narrow = rw (lt-ltb n (2 ^ 63) narrow) refl
+
+pub narrow_minus : (n : ℕ) → n < 2 ^ 63 → narrow_number (neg_ℤ (pos n)) ≡ Some (neg_ℤ (pos n))
+narrow_minus zero narrow = refl
+narrow_minus (suc n) narrow = rw (lt-ltb n (2 ^ 63) (omega (arith, narrow))) refl
 
 no_digits : (bytes : List ℕ) → is_digits bytes ≡ false → plain_number bytes ≡ None
 no_digits bytes none = rw none refl

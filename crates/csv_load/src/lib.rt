@@ -4,6 +4,7 @@
 mod field;
 mod judge;
 mod loader;
+mod number;
 mod row;
 mod source;
 mod step;

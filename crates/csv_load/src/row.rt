@@ -5,8 +5,8 @@ ghost use Rattle.csv.specs.Records.{fields_of};
 ghost use Rattle.csv_load.specs.FileRecords.{dim_value, dim_values};
 ghost use Rattle.csv_load.specs.Loads.{AreTexts};
 
-use crate::field::spelled_number;
 use crate::judge::field;
+use crate::number::spelled_number;
 use csv::ByteRecord;
 use cube_language::{DimDecl, text_of};
 use cube_values::{Numbers, Row, Text, Value, Values};

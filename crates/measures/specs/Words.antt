@@ -2,7 +2,7 @@
 use Rattle.std.specs.Prelude.{◌≡◌, ℕ, ◌<◌, ◌^◌, Bool, true, false, ◌&&◌, nat_le, List, [], ◌∷◌, Option, Some, None, bytes_eq, codes, if◌then◌else◌}
 use Rattle.std.specs.Str.Parse.{IsNumeral, digits_value, without_leading_plus}
 use Rattle.measures.specs.declared.request.HotPath.{HotPath}
-use Rattle.measures.specs.declared.request.HotPath.TheVariants.{Split, Encode, Lookup, Visible, Plan, Fold, Mail, Desk, Lock, Call, Cells, Records, LoadStep}
+use Rattle.measures.specs.declared.request.HotPath.TheVariants.{Split, Encode, Lookup, Known, Visible, Plan, Fold, Mail, Desk, Lock, Call, Cells, Records, LoadStep}
 use Rattle.measures.specs.declared.request.Request.{Request}
 
 -- The path of a name.
@@ -11,6 +11,7 @@ path_of word =
     if bytes_eq word (codes "split") then Some Split
     else if bytes_eq word (codes "encode") then Some Encode
     else if bytes_eq word (codes "lookup") then Some Lookup
+    else if bytes_eq word (codes "known") then Some Known
     else if bytes_eq word (codes "visible") then Some Visible
     else if bytes_eq word (codes "plan") then Some Plan
     else if bytes_eq word (codes "fold") then Some Fold
@@ -28,6 +29,7 @@ abbrev pub most_of : HotPath → ℕ
 most_of Split = 65_536
 most_of Encode = 10_000_000
 most_of Lookup = 10_000_000
+most_of Known = 10_000_000
 most_of Visible = 10_000_000
 most_of Plan = 10_000_000
 most_of Fold = 1_000_000_000
@@ -44,6 +46,7 @@ abbrev pub done_of : HotPath → List ℕ
 done_of Split = codes "statements split"
 done_of Encode = codes "names encoded"
 done_of Lookup = codes "names looked up"
+done_of Known = codes "known names looked up"
 done_of Visible = codes "entries asked for the visible rows"
 done_of Plan = codes "entries purged"
 done_of Fold = codes "rows folded"

@@ -5,6 +5,7 @@
 mod board;
 mod desks;
 mod groups;
+mod known;
 mod line;
 mod loads;
 mod mails;
@@ -18,6 +19,7 @@ mod work;
 use board::{measure_calls, measure_cells, measure_locks};
 use desks::Turns;
 use groups::Fold;
+use known::FindKnown;
 use line::Line;
 use loads::{LoadStep, Records};
 use mails::Deliver;
@@ -38,7 +40,7 @@ use work::{Measured, measure};
 mod tests;
 
 const USAGE: &str = "usage: measures [--time] \
-    split|encode|lookup|visible|plan|fold|mail|desk|lock|call|cells|records|load_step N";
+    split|encode|lookup|known|visible|plan|fold|mail|desk|lock|call|cells|records|load_step N";
 
 /// The words after the program's name, and none where a word is not UTF-8. The error is want of memory.
 fn words<R: Env + AllocGlobal>(rt: &R) -> io::Result<Vec<String>> {
@@ -59,6 +61,7 @@ fn ran<R: Clock + AllocGlobal + Threads + Wait + Sync>(
         HotPath::Split => measure::<Split, R>(rt, rt.alloc(), items),
         HotPath::Encode => measure::<Encode, R>(rt, rt.alloc(), items),
         HotPath::Lookup => measure::<Lookup, R>(rt, rt.alloc(), items),
+        HotPath::Known => measure::<FindKnown, R>(rt, rt.alloc(), items),
         HotPath::Visible => measure::<Visible, R>(rt, rt.alloc(), items),
         HotPath::Plan => measure::<Plan, R>(rt, rt.alloc(), items),
         HotPath::Fold => measure::<Fold, R>(rt, rt.alloc(), items),

@@ -13,7 +13,7 @@ use std::alloc::{AllocError, Global};
 const TIMES: u32 = 10;
 
 /// Names, of which one in ten is another than those before it.
-fn names(alloc: Global, items: u32) -> Result<Vec<String>, AllocError> {
+pub(crate) fn names(alloc: Global, items: u32) -> Result<Vec<String>, AllocError> {
     let mut numbers = seeded();
     let distinct = items / TIMES + 1;
     let mut names = Vec::with_capacity(alloc, items as usize)?;
@@ -31,7 +31,7 @@ pub(crate) struct Encode {
 }
 
 /// A dictionary in which all names were encoded, in order.
-fn dictionary(alloc: Global, names: &[String]) -> Result<Dict, AllocError>
+pub(crate) fn dictionary(alloc: Global, names: &[String]) -> Result<Dict, AllocError>
     ensures { IfOk result
         (λ dict. dict ≡ encoded (empty (2 ^ 32 - 1)) (map string_bytes names.now)) }
 {

@@ -12,6 +12,8 @@ pub(crate) enum HotPath {
     Encode,
     /// `Dict::find` of names that the dictionary has.
     Lookup,
+    /// `Known::find` of names that a session knows.
+    Known,
     /// `Epochs::visible_bits` of one vector.
     Visible,
     /// `purge_plan::plan` of one vector.
@@ -43,6 +45,7 @@ impl HotPath {
             "split" => Some(HotPath::Split),
             "encode" => Some(HotPath::Encode),
             "lookup" => Some(HotPath::Lookup),
+            "known" => Some(HotPath::Known),
             "visible" => Some(HotPath::Visible),
             "plan" => Some(HotPath::Plan),
             "fold" => Some(HotPath::Fold),
@@ -66,6 +69,7 @@ impl HotPath {
             HotPath::Split => 65_536,
             HotPath::Encode => 10_000_000,
             HotPath::Lookup => 10_000_000,
+            HotPath::Known => 10_000_000,
             HotPath::Visible => 10_000_000,
             HotPath::Plan => 10_000_000,
             HotPath::Fold => 1_000_000_000,
@@ -87,6 +91,7 @@ impl HotPath {
             HotPath::Split => "statements split",
             HotPath::Encode => "names encoded",
             HotPath::Lookup => "names looked up",
+            HotPath::Known => "known names looked up",
             HotPath::Visible => "entries asked for the visible rows",
             HotPath::Plan => "entries purged",
             HotPath::Fold => "rows folded",

@@ -4,6 +4,7 @@
 use crate::board::{measure_calls, measure_cells, measure_locks};
 use crate::desks::Turns;
 use crate::groups::Fold;
+use crate::known::FindKnown;
 use crate::line::Line;
 use crate::loads::{LoadStep, Records};
 use crate::mails::Deliver;
@@ -103,6 +104,7 @@ fn checksums(rt: HostRuntime) -> Result<(), Fail> {
     assert_eq!(rt; checksum::<Split>(rt.alloc())?, 1_000);
     assert_eq!(rt; checksum::<Encode>(rt.alloc())?, 101);
     assert_eq!(rt; checksum::<Lookup>(rt.alloc())?, 49_542);
+    assert_eq!(rt; checksum::<FindKnown>(rt.alloc())?, 49_542);
     assert_eq!(rt; checksum::<Visible>(rt.alloc())?, 40_000);
     assert_eq!(rt; checksum::<Plan>(rt.alloc())?, 10_401);
     assert_eq!(rt; checksum::<Fold>(rt.alloc())?, 8_001_016);

@@ -1,6 +1,6 @@
 use Rattle.std.proofs.Common.{◌∙◌, sym}
 use Rattle.csv_load.proofs.Digits.{digit_at, grows, if_none, stays_wide}
-use Rattle.csv_load.proofs.field.magnitude.Goals as goal
+use Rattle.csv_load.proofs.number.magnitude.Goals as goal
 
 pub grown-requires : goal.grown-requires
 grown-requires c = digit_at c.args.digits.now c.digits.digit-index 0 c.requires c.digits-test.true
