@@ -10,7 +10,8 @@ use sql_tree::parse;
 use std::alloc::Global;
 use std::process::Abort;
 
-const CUBES: &str = "cube visits\ndim region text 4 2\ndim gender text 4 1\nmetric likes\nmetric comments\n\
+const CUBES: &str =
+    "cube visits\ndim region text 4 2\ndim gender text 4 1\nmetric likes\nmetric comments\n\
     cube t\ndim x int 5 2\nmetric m\n\
     cube c\ndim r text 3 1\ndim x int 5 2\nmetric m\n";
 
@@ -39,7 +40,11 @@ fn lists_of(rt: &impl Abort, alloc: Global, lists: &[&[&str]]) -> TextLists {
 /// The names of the cubes: of `visits` the regions CA, NY, WA and the genders M and F, of `c` a and b.
 pub fn names_of_three(rt: &impl Abort, alloc: Global) -> NameLists {
     let mut names = Vec::new(alloc);
-    for lists in [&[&["CA", "NY", "WA"][..], &["M", "F"]][..], &[], &[&["a", "b"], &[]]] {
+    for lists in [
+        &[&["CA", "NY", "WA"][..], &["M", "F"]][..],
+        &[],
+        &[&["a", "b"], &[]],
+    ] {
         names.push(lists_of(rt, alloc, lists)).expect(rt, "memory");
     }
     NameLists::from_vec(names)

@@ -243,8 +243,9 @@ fn check_select(
     let conditions = where_text(rt, alloc, asked);
     let items = by.items;
     let group = by.clause;
-    let text = format!(in alloc; "SELECT {items}COUNT(*), SUM(m) FROM c{conditions}{group}")
-        .expect(rt, "memory");
+    let text = format!(in alloc; "SELECT {items}COUNT(*), SUM(m) FROM c{conditions}{group}").expect(
+        rt, "memory",
+    );
     let bound = bound_query(rt, alloc, cubes, names, text.as_str());
     assert!(rt; has_wanted(&bound.span, asked), "{text}");
     let rows = rows_of(rt, alloc, asked);
@@ -313,9 +314,11 @@ fn bound_deletion(
 
 fn cuts_x(fault: &CallError<BindFault>) -> bool {
     match fault {
-        CallError::Fault(BindFault::Unfit {
-            misfit: Misfit::CutsBrick { name },
-        }) => name.as_str() == "x",
+        CallError::Fault(
+            BindFault::Unfit {
+                misfit: Misfit::CutsBrick { name },
+            },
+        ) => name.as_str() == "x",
         _ => false,
     }
 }

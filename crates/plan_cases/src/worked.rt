@@ -1,12 +1,11 @@
 //! What statements ask by coordinates, worked out by hand.
 
-use crate::cubes::{
-    asks_rows, deletes_rows, names_of_three, puts_rows, statement_of, three_cubes,
-};
+use crate::cubes::{asks_rows, deletes_rows, names_of_three, puts_rows, statement_of, three_cubes};
 use cube_schema::Schema;
 use cube_values::{Bound, BoundItem, BoundKey, BoundQuery, Span, TopPlan, Value};
 use query_plan::{
-    RowPlan, bind_delete, bind_rows, bind_select, bind_top, span_of, statements_are_bound_to_what_they_ask,
+    RowPlan, bind_delete, bind_rows, bind_select, bind_top, span_of,
+    statements_are_bound_to_what_they_ask,
 };
 use std::alloc::Global;
 use std::process::Abort;
@@ -49,7 +48,10 @@ fn is_span(span: &Span, shown: &str) -> bool {
 const TAKEN: &[(&str, &str)] = &[
     ("x = 4", "00001"),
     ("x = 5", "00000"),
-    ("x IN (-9223372036854775808, 9223372036854775807, 0)", "10000"),
+    (
+        "x IN (-9223372036854775808, 9223372036854775807, 0)",
+        "10000",
+    ),
     ("x BETWEEN 3 AND 1", "00000"),
     ("x BETWEEN 3 AND 9223372036854775807", "00011"),
     ("x BETWEEN -9223372036854775808 AND -1", "00000"),
@@ -67,7 +69,10 @@ fn spans_of_queries(rt: HostRuntime) {
     let alloc = rt.alloc();
     let cubes = three_cubes(&rt, alloc);
     for (condition, shown) in TAKEN {
-        assert!(rt; takes(&rt, alloc, cubes.as_slice(), condition, shown), "{condition}");
+        assert!(rt;
+            takes(&rt, alloc, cubes.as_slice(), condition, shown),
+            "{condition}"
+        );
     }
 }
 
@@ -84,12 +89,15 @@ fn a_query_by_places(rt: HostRuntime) {
     );
     assert_eq!(rt; query.cube, 0);
     assert!(rt; query.group.as_slice() == &[1, 0]);
-    assert!(rt; query.items.as_slice() == &[
-        BoundItem::Group(1),
-        BoundItem::Sum(1),
-        BoundItem::Group(0),
-        BoundItem::Count,
-    ]);
+    assert!(rt;
+        query.items.as_slice()
+            == &[
+                BoundItem::Group(1),
+                BoundItem::Sum(1),
+                BoundItem::Group(0),
+                BoundItem::Count,
+            ]
+    );
     for region in 0..4 {
         assert_eq!(rt; query.span.has(&[region, 3]), region == 0 || region == 2);
     }
@@ -101,7 +109,13 @@ fn spans_of_deletions(rt: HostRuntime) {
     let alloc = rt.alloc();
     let cubes = three_cubes(&rt, alloc);
     let cubes = cubes.as_slice();
-    let low = deletion_span(&rt, alloc, cubes, "DELETE FROM t WHERE x BETWEEN 0 AND 1", &[]);
+    let low = deletion_span(
+        &rt,
+        alloc,
+        cubes,
+        "DELETE FROM t WHERE x BETWEEN 0 AND 1",
+        &[],
+    );
     assert!(rt; is_span(&low, "11000"));
     let last = deletion_span(&rt, alloc, cubes, "DELETE FROM t WHERE x = 4", &[]);
     assert!(rt; is_span(&last, "00001"));
@@ -163,10 +177,19 @@ fn lines_that_are_asked_for(rt: HostRuntime) {
         return;
     };
     assert!(rt; test.place == 1 && test.bound == Bound::Between(5, 7));
-    assert!(rt; plan.keys.as_slice() == &[
-        BoundKey { place: 2, desc: true },
-        BoundKey { place: 1, desc: false },
-    ]);
+    assert!(rt;
+        plan.keys.as_slice()
+            == &[
+                BoundKey {
+                    place: 2,
+                    desc: true
+                },
+                BoundKey {
+                    place: 1,
+                    desc: false
+                },
+            ]
+    );
     assert_eq!(rt; plan.limit, Some(2));
     let nothing = plan_of(&rt, alloc, "DELETE FROM t WHERE x = 4");
     assert!(rt; nothing.having.is_empty() && nothing.keys.is_empty());

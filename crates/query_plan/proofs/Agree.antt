@@ -1,5 +1,5 @@
 -- The conditions of a deletion that fits its cube agree within each range.
-use Rattle.std.proofs.Common.{◌≡◌, ℕ, ◌/◌, ◌%◌, ◌<◌, true, false, List, length, get_or, Option, refl, sym, ap, ◌∙◌, inl, inr, arith}
+use Rattle.std.proofs.Common.{◌≡◌, ℕ, ◌/◌, ◌<◌, List, length, get_or, Option, sym, ap, ◌∙◌, inl, inr, arith}
 use Rattle.std.specs.Prelude.{filter_map}
 use Rattle.std.proofs.lemmas.Bool.{cases_Bool}
 use Rattle.std.proofs.lemmas.Nat.{div-add-mod', mod_below}
@@ -39,8 +39,8 @@ agree_within d cube conds codes storable fits i e lt x y of_x of_y share =
     let aligned : AreAligned conds dim = all_aligned d cube conds fits i e lt in
     elim (cases_Bool dim.text) [
       | inr number ↦ same_asked d i dim conds codes x at number kinds
-        ∙ aligned.0 number x y (record { first = of_x; second = of_y; range = share })
-        ∙ sym (same_asked d i dim conds codes y at number kinds)
+          ∙ aligned.0 number x y (record { first = of_x; second = of_y; range = share })
+          ∙ sym (same_asked d i dim conds codes y at number kinds)
       | inl text ↦ elim (aligned.1 text) [
         | inl one ↦ ap (passes_at i conditions) (one_each x y dim.range one share)
         | inr none ↦ nothing_asked d i dim conds codes x at none ∙ sym (nothing_asked d i dim conds codes y at none)

@@ -6,7 +6,7 @@ use Rattle.std.specs.Str.{bytes_eq}
 use Rattle.std.proofs.lemmas.Bool.{cases_Bool, cases_eq}
 use Rattle.std.proofs.lemmas.List.Elements.{All-nil, All-cons, All-push}
 use Rattle.cube_values.specs.declared.value.Value.TheVariants.{Int}
-use Rattle.cube_language.specs.Misfits.{AreAligned, CutsRange, HaveWholeRanges, HaveSingleRanges, ShareRange, FitsCube, all_pass, cond_name}
+use Rattle.cube_language.specs.Misfits.{AreAligned, CutsRange, FitsCube, all_pass, cond_name}
 use Rattle.cube_language.specs.declared.decl.Decl.{Decl}
 use Rattle.cube_language.specs.declared.decl.DimDecl.{DimDecl}
 use Rattle.cube_language.specs.declared.misfit.Misfit.TheVariants.{CutsBrick}
@@ -22,10 +22,11 @@ one_answer false true = inr (λ e. absurd cc)
 -- Where it is absurd that conditions are not aligned, they are.
 aligned : (conds : List Cond) (dim : DimDecl) → ((AreAligned conds dim → ⊥) → ⊥) → AreAligned conds dim
 aligned conds dim never = (
-  (λ number x y share. elim (one_answer (all_pass conds dim.name (Int (pos x))) (all_pass conds dim.name (Int (pos y)))) [
-    | inl same ↦ same
-    | inr other ↦ absurd (never (λ whole. other (whole.0 number x y share)))
-  ]),
+  (λ number x y share.
+      elim (one_answer (all_pass conds dim.name (Int (pos x))) (all_pass conds dim.name (Int (pos y)))) [
+        | inl same ↦ same
+        | inr other ↦ absurd (never (λ whole. other (whole.0 number x y share)))
+      ]),
   (λ text. elim (cases_eq dim.range 1) [
     | inl one ↦ inl one
     | inr more ↦ elim (cases_Bool (list_any (λ c. bytes_eq (cond_name c) dim.name) conds)) [
@@ -41,13 +42,19 @@ aligned conds dim never = (
 aligned_behind : (d : Decl) (conds : List Cond) → ((name : List ℕ) → CutsRange d conds name → ⊥)
     → (before behind : List DimDecl) → d.dims ≡ before ++ behind → All (AreAligned conds) before
     → All (AreAligned conds) behind
-aligned_behind d conds no before [] whole front = All-nil (AreAligned conds)
-aligned_behind d conds no before (dim ∷ behind) whole front =
-    let here : AreAligned conds dim = aligned conds dim (λ cut. no dim.name (record {
-      before = before; dim = dim; behind = behind; whole = whole; aligned = front; cut = cut; name_is = refl
+aligned_behind d conds never before [] whole front = All-nil (AreAligned conds)
+aligned_behind d conds never before (dim ∷ behind) whole front =
+    let here : AreAligned conds dim = aligned conds dim (λ cut. never dim.name (record {
+      before = before;
+      dim = dim;
+      behind = behind;
+      whole = whole;
+      aligned = front;
+      cut = cut;
+      name_is = refl;
     })) in
     All-cons (AreAligned conds) dim behind here
-    (aligned_behind d conds no (before ++ dim ∷ []) behind (whole ∙ sym (append_assoc before (dim ∷ []) behind))
+    (aligned_behind d conds never (before ++ dim ∷ []) behind (whole ∙ sym (append_assoc before (dim ∷ []) behind))
     (All-push (AreAligned conds) before dim front here))
 
 pub all_aligned : (d : Decl) (cube : List ℕ) (conds : List Cond) → FitsCube d (Delete cube conds)

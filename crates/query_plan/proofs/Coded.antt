@@ -1,5 +1,5 @@
 -- What conditions by places ask of a dimension of numbers is what the conditions by names ask of it.
-use Rattle.std.proofs.Common.{◌≡◌, ℕ, Bool, true, false, List, [], ◌∷◌, map, Option, Some, None, refl, sym, ap, subst, ◌∙◌, inl, inr, arith}
+use Rattle.std.proofs.Common.{◌≡◌, ℕ, Bool, true, false, List, [], ◌∷◌, map, Option, Some, None, refl, sym, ap, subst, ◌∙◌, inl, inr}
 use Rattle.std.specs.Prelude.{find, filter_map, fold, not, ◌||◌, ◌&&◌, ◌==◌, pos, if◌then◌else◌}
 use Rattle.std.specs.List.{list_any, cons_option}
 use Rattle.std.specs.Option.{option_map, option_map_or}
@@ -90,15 +90,15 @@ one_asks : (d : Decl) (k : ℕ) (dim : DimDecl) (c : Cond) (codes : List (Option
     ≡ (not (bytes_eq (cond_name c) dim.name) || passes (cond_test c) (Int (pos x)))
 one_asks d k dim c codes x p at number fits is = elim (cases_Bool (bytes_eq (cond_name c) dim.name)) [
   | inl same ↦
-    let place : Some p ≡ Some k = own_place d k dim c (Some p) at is same in
-    let here : (p == k) ≡ true = eq-eqb p k (cc) in
-    let named = ap (dim_named d) (names_same (cond_name c) dim.name same) ∙ at.named in
-    let alike = coded_alike dim c codes (Int (pos x)) number (not_against d dim c named fits) in
-    (λ i. not (here i) || alike i) ∙ (λ i. not (sym same i) || passes (cond_test c) (Int (pos x)))
+      let place : Some p ≡ Some k = own_place d k dim c (Some p) at is same in
+      let here : (p == k) ≡ true = eq-eqb p k (cc) in
+      let named = ap (dim_named d) (names_same (cond_name c) dim.name same) ∙ at.named in
+      let alike = coded_alike dim c codes (Int (pos x)) number (not_against d dim c named fits) in
+      (λ i. not (here i) || alike i) ∙ (λ i. not (sym same i) || passes (cond_test c) (Int (pos x)))
   | inr other ↦
-    let here : (p == k) ≡ false = other_place d k dim c p at is other in
-    (λ i. not (here i) || passes (coded_test codes (cond_test c)) (Int (pos x)))
-    ∙ (λ i. not (sym other i) || passes (cond_test c) (Int (pos x)))
+      let here : (p == k) ≡ false = other_place d k dim c p at is other in
+      (λ i. not (here i) || passes (coded_test codes (cond_test c)) (Int (pos x)))
+      ∙ (λ i. not (sym other i) || passes (cond_test c) (Int (pos x)))
 ]
 
 all_ask : (d : Decl) (k : ℕ) (dim : DimDecl) (c : Cond) (codes : List (Option ℕ)) (x : ℕ) (rest : List Condition)
@@ -109,7 +109,7 @@ all_ask : (d : Decl) (k : ℕ) (dim : DimDecl) (c : Cond) (codes : List (Option 
     ≡ ((not (bytes_eq (cond_name c) dim.name) || passes (cond_test c) (Int (pos x))) && all)
 all_ask d k dim c codes x rest all None at number fits others is =
     let other : bytes_eq (cond_name c) dim.name ≡ false = false_from_ne_true (bytes_eq (cond_name c) dim.name)
-        (λ same. let no : None ≡ Some k = own_place d k dim c None at is same in absurd cc) in
+    (λ same. let never : None ≡ Some k = own_place d k dim c None at is same in absurd cc) in
     others codes ∙ ap (λ (b : Bool). (not b || passes (cond_test c) (Int (pos x))) && all) (sym other)
 all_ask d k dim c codes x rest all (Some p) at number fits others is =
     λ i. one_asks d k dim c codes x p at number fits is i
@@ -143,6 +143,7 @@ pub nothing_asked : (d : Decl) (k : ℕ) (dim : DimDecl) (conds : List Cond) (co
     → passes_at k (coded_conditions codes (filter_map (resolved_cond d) conds)) x ≡ true
 nothing_asked d k dim [] codes x at none = refl
 nothing_asked d k dim (c ∷ conds) codes x at none =
-    let parts = or_parts (bytes_eq (cond_name c) dim.name) (list_any (λ o. bytes_eq (cond_name o) dim.name) conds) none in
+    let parts =
+    or_parts (bytes_eq (cond_name c) dim.name) (list_any (λ o. bytes_eq (cond_name o) dim.name) conds) none in
     none_asks d k dim c codes x (filter_map (resolved_cond d) conds) (dim_place d (cond_name c)) at parts.0
     (λ behind. nothing_asked d k dim conds behind x at parts.1) refl

@@ -1,12 +1,9 @@
 -- The cube that a statement needs, by its place.
-use Rattle.std.proofs.Common.{◌≡◌, ℕ, ◌+◌, ◌-◌, ◌<◌, Bool, List, length, get_or, Some, None, refl, sym, ap, subst, ◌∙◌, arith}
-use Rattle.std.specs.Prelude.{Result, Err, find, slice_get}
+use Rattle.std.proofs.Common.{◌≡◌, ℕ, ◌+◌, ◌-◌, ◌<◌, Bool, List, length, get_or, Some, None, sym, ap, subst, ◌∙◌, arith}
+use Rattle.std.specs.Prelude.{slice_get}
 use Rattle.std.specs.Option.{option_and_then}
 use Rattle.std.specs.Str.{bytes_eq}
 use Rattle.std.proofs.lemmas.Option.{slice_get-get_or, slice_get_within, get_or_from_slice_get}
-use Rattle.cube_values.specs.Faults.{IfFault}
-use Rattle.cube_values.specs.declared.call_error.CallError.{CallError}
-use Rattle.cube_values.specs.declared.call_error.CallError.TheVariants.{Fault, NoMemory}
 use Rattle.cube_language.specs.Misfits.{FitsCube}
 use Rattle.cube_language.specs.declared.decl.Decl.{Decl}
 use Rattle.cube_language.specs.declared.statement.Statement.{Statement}
@@ -42,11 +39,14 @@ cube_there cubes name place d is there =
 
 pub bound_at : (cubes : List Decl) (s : Statement) (name : List ℕ) (place : ℕ) (d : Decl) → cube_needed s ≡ Some name
     → cube_place cubes name ≡ Some place → d ≡ get_or cubes place d → FitsCube d s → IsBoundAt cubes s place
-bound_at cubes s name place d needed is there fits = (d, record {
-  place_is = ap (option_and_then (cube_place cubes)) needed ∙ is;
-  cube_is = cube_there cubes name place d is there;
-  fits = fits;
-})
+bound_at cubes s name place d needed is there fits = (
+  d,
+  record {
+    place_is = ap (option_and_then (cube_place cubes)) needed ∙ is;
+    cube_is = cube_there cubes name place d is there;
+    fits = fits;
+  },
+)
 
 pub unfit_at : (cubes : List Decl) (s : Statement) (name : List ℕ) (place : ℕ) (d : Decl) (fault : BindFault)
     → cube_needed s ≡ Some name → cube_place cubes name ≡ Some place → d ≡ get_or cubes place d
@@ -61,12 +61,6 @@ unfit_at cubes s name place d (Unfit misfit) needed is there fails =
           ∙ cube_there cubes name place d is there;
       fails = fails;
     }
-
--- What holds of a fault does so of the answer that has it.
-pub fault_then : {T U F : Type 0} (P Q : F → Type 0) (e : CallError F) → ((f : F) → P f → Q f)
-    → IfFault {T} (Err e) P → IfFault {U} (Err e) Q
-fault_then P Q (Fault f) each holds = each f holds
-fault_then P Q NoMemory each holds = tt
 
 pub bound_within : (cubes : List Decl) (s : Statement) (place : ℕ) → IsBoundAt cubes s place → place < length cubes
 bound_within cubes s place bound = slice_get_within cubes place bound.0 bound.1.cube_is

@@ -1,11 +1,10 @@
 -- The dimensions of a cube that can be stored have distinct names, so the place of each is that of its name.
-use Rattle.std.proofs.Common.{◌≡◌, ℕ, zero, suc, ◌+◌, ◌-◌, ◌<◌, Bool, true, false, List, [], ◌∷◌, ◌++◌, length, get_or, Some, None, refl, sym, ap, subst, ◌∙◌, inl, inr, arith}
-use Rattle.std.specs.Prelude.{find}
+use Rattle.std.proofs.Common.{◌≡◌, ℕ, zero, suc, ◌+◌, ◌-◌, ◌<◌, Bool, true, false, List, [], ◌∷◌, ◌++◌, length, get_or, Some, None, refl, sym, ap, ◌∙◌, inl, inr, arith}
 use Rattle.std.specs.List.{list_any}
 use Rattle.std.specs.Str.{bytes_eq}
 use Rattle.std.proofs.lemmas.Bool.{cases_Bool, or_parts, false_from_ne_true, true≢false}
 use Rattle.std.proofs.lemmas.Slice.Eq.{bytes_eq-Decides}
-use Rattle.cube_language.specs.Cubes.{repeated_after, column_names, dim_names, IsStorable}
+use Rattle.cube_language.specs.Cubes.{repeated_after, dim_names, IsStorable}
 use Rattle.cube_language.specs.ColumnUses.{dim_named}
 use Rattle.cube_language.specs.ResolvedNames.{dim_place}
 use Rattle.cube_language.specs.declared.decl.Decl.{Decl}
@@ -54,10 +53,10 @@ apart_at before (dim ∷ dims) zero e apart lt = elim (cases_Bool (list_any (byt
 apart_at before (dim ∷ dims) (suc k) e apart lt = elim (cases_Bool (list_any (bytes_eq dim.name) before)) [
   | inl there ↦ let some = rw there at apart in absurd cc
   | inr new ↦
-    let rest = apart_at (dim.name ∷ before) dims k e (rw new at apart) (omega arith) in
-    let parts = or_parts (bytes_eq (get_or dims k e).name dim.name)
-        (list_any (bytes_eq (get_or dims k e).name) before) rest.outside in
-    record { outside = parts.1; earlier = behind_first dim dims k e parts.0 rest.earlier }
+      let rest = apart_at (dim.name ∷ before) dims k e (rw new at apart) (omega arith) in
+      let parts = or_parts (bytes_eq (get_or dims k e).name dim.name)
+      (list_any (bytes_eq (get_or dims k e).name) before) rest.outside in
+      record { outside = parts.1; earlier = behind_first dim dims k e parts.0 rest.earlier }
 ]
 
 -- A dimension at a place is the one of its name.
@@ -70,10 +69,10 @@ pub dim_at : (d : Decl) (k : ℕ) (e : DimDecl) → IsStorable d → k < length 
 dim_at d k e storable lt =
     let dim = get_or d.dims k e in
     let apart = apart_at [] d.dims k e
-        (apart_front [] (dim_names d.dims) d.metrics (parts_of d storable).distinct) lt in
+    (apart_front [] (dim_names d.dims) d.metrics (parts_of d storable).distinct) lt in
     let t : DimDecl → Bool = λ other. bytes_eq other.name dim.name in
     let there = finds t 0 d.dims k e lt (name_is dim.name)
-        (λ j before. turned dim.name (get_or d.dims j e).name (apart.earlier j before)) in
+    (λ j before. turned dim.name (get_or d.dims j e).name (apart.earlier j before)) in
     let sum : 0 + k ≡ k = omega arith in
     record {
       place = there.0 ∙ ap Some sum;

@@ -1,6 +1,6 @@
 -- What a statement that fits its cube has: conditions on dimensions, each with values of their kind.
-use Rattle.std.proofs.Common.{◌≡◌, ℕ, Bool, true, false, List, [], ◌∷◌, ◌++◌, map, Option, Some, None, refl, sym, ap, ◌∙◌}
-use Rattle.std.specs.Prelude.{find, ⊤}
+use Rattle.std.proofs.Common.{◌≡◌, Bool, ◌++◌, map, Option, Some, None, refl, sym, ◌∙◌}
+use Rattle.std.specs.Prelude.{find}
 use Rattle.std.specs.List.{flat_map}
 use Rattle.std.specs.Option.{option_map, option_or}
 use Rattle.std.proofs.lemmas.List.Folds.{find-append}
@@ -12,8 +12,8 @@ use Rattle.cube_language.specs.declared.misfit.Misfit.TheVariants.{UnknownColumn
 use Rattle.cube_language.specs.declared.statement.Statement.{Statement}
 
 pub nothing : {A : Type 0} (o : Option A) → ((x : A) → o ≡ Some x → ⊥) → o ≡ None
-nothing None no = refl
-nothing (Some x) no = absurd (no x refl)
+nothing None never = refl
+nothing (Some x) never = absurd (never x refl)
 
 no_name : (o : Option ColumnUse) → option_map (λ u. u.name) o ≡ None → o ≡ None
 no_name None none = refl
@@ -29,7 +29,7 @@ none_in_conds : (p : ColumnUse → Bool) (s : Statement) → find p (column_uses
 none_in_conds p s none =
     let rest = map group_use (group_of s) ++ flat_map item_uses (asked_items s) in
     let behind = first_nothing (find p (flat_map item_uses (items_of s))) (find p (map cond_use (conds_of s) ++ rest))
-        (sym (find-append p (flat_map item_uses (items_of s)) (map cond_use (conds_of s) ++ rest)) ∙ none) in
+    (sym (find-append p (flat_map item_uses (items_of s)) (map cond_use (conds_of s) ++ rest)) ∙ none) in
     (first_nothing (find p (map cond_use (conds_of s))) (find p rest)
     (sym (find-append p (map cond_use (conds_of s)) rest) ∙ behind.1)).0
 

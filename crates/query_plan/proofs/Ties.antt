@@ -70,13 +70,13 @@ text_at texts text code x distinct is within =
     let lt : code < length texts = slice_get_within texts code text is in
     elim (cases_order code x) [
       | inl same ↦ ap (bytes_eq text) (ap (λ (k : ℕ). get_or texts k []) (sym same) ∙ there) ∙ name_is text
-        ∙ sym (eq-eqb code x same)
+          ∙ sym (eq-eqb code x same)
       | inr other ↦ elim other [
         | inl before ↦ ap (λ (t : List ℕ). bytes_eq t (get_or texts x [])) (sym there)
-          ∙ apart texts code x [] distinct before within ∙ sym (ne_eqb code x (λ e. absurd (omega arith)))
+            ∙ apart texts code x [] distinct before within ∙ sym (ne_eqb code x (λ e. absurd (omega arith)))
         | inr behind ↦ ap (λ (t : List ℕ). bytes_eq t (get_or texts x [])) (sym there)
-          ∙ turned (get_or texts x []) (get_or texts code []) (apart texts x code [] distinct behind lt)
-          ∙ sym (ne_eqb code x (λ e. absurd (omega arith)))
+            ∙ turned (get_or texts x []) (get_or texts code []) (apart texts x code [] distinct behind lt)
+            ∙ sym (ne_eqb code x (λ e. absurd (omega arith)))
       ]
     ]
 
@@ -120,7 +120,8 @@ other_kinds dim (Int n ∷ values) text fits =
     let first = (or_parts (is_of_other_kind dim (Int n)) (list_any (is_of_other_kind dim) values) fits).0 in
     absurd (true≢false ((λ i. if sym text i then true else false) ∙ first))
 other_kinds dim (Text t ∷ values) text fits =
-    other_kinds dim values text (or_parts (is_of_other_kind dim (Text t)) (list_any (is_of_other_kind dim) values) fits).1
+    other_kinds dim values text
+    (or_parts (is_of_other_kind dim (Text t)) (list_any (is_of_other_kind dim) values) fits).1
 
 -- ---- one condition
 
@@ -151,12 +152,12 @@ asks_alike : (dim : DimDecl) (texts : List (List ℕ)) (c : Cond) (codes : List 
     → passes (coded_test codes (cond_test c)) (Int (pos x)) ≡ passes (cond_test c) (value_for texts x)
 asks_alike dim texts c codes x fits distinct are named = elim (cases_Bool dim.text) [
   | inl text ↦
-    let within = named.text text in
-    asks_of_text dim texts c codes x text fits distinct are within
-    ∙ ap (passes (cond_test c)) (sym (value_of_text texts x within))
+      let within = named.text text in
+      asks_of_text dim texts c codes x text fits distinct are within
+      ∙ ap (passes (cond_test c)) (sym (value_of_text texts x within))
   | inr number ↦
-    asks_of_number dim c codes x number fits
-    ∙ ap (λ (ts : List (List ℕ)). passes (cond_test c) (value_for ts x)) (sym (named.number number))
+      asks_of_number dim c codes x number fits
+      ∙ ap (λ (ts : List (List ℕ)). passes (cond_test c) (value_for ts x)) (sym (named.number number))
 ]
 
 -- ---- all conditions
@@ -203,7 +204,7 @@ one_holds d lists coords c codes p named distinct fits is are =
     let has : slice_get coords p ≡ Some x = slice_get-get_or coords p 0 (omega arith) in
     let texts = texts_at lists p in
     let alike = asks_alike dim texts c codes x (not_against d dim c there.1 fits) (distinct p) are
-        (named.each p no_dim lt) in
+    (named.each p no_dim lt) in
     ap (λ (o : Option Value). option_map_or (passes (coded_test codes (cond_test c))) o false)
     (slice_get-map (λ (y : ℕ). Int (pos y)) coords p ∙ ap (option_map (λ (y : ℕ). Int (pos y))) has)
     ∙ alike
@@ -215,8 +216,8 @@ hold_with : (d : Decl) (lists : List (List (List ℕ))) (coords : List ℕ) (c :
     → is_wrong_use d (cond_use c) ≡ false → dim_place d (cond_name c) ≡ o
     → AreCodesOf lists codes (placed o c rest)
     → ((behind : List (Option ℕ)) → AreCodesOf lists behind rest
-      → list_all (holds_of (coord_values coords)) (coded_conditions behind rest)
-      ≡ list_all (holds_of (values_for lists coords)) rest)
+    → list_all (holds_of (coord_values coords)) (coded_conditions behind rest)
+    ≡ list_all (holds_of (values_for lists coords)) rest)
     → list_all (holds_of (coord_values coords)) (coded_conditions codes (placed o c rest))
     ≡ list_all (holds_of (values_for lists coords)) (placed o c rest)
 hold_with d lists coords c codes rest None named distinct fits is are others = others codes are
@@ -258,14 +259,15 @@ is_code texts text (Some k) is =
     let none : k ≡ k - 0 = omega arith in
     let below : k < 0 + length texts = place.below in
     let passes : bytes_eq text (get_or texts k []) ≡ true =
-        (λ j. bytes_eq text (get_or texts (none j) [])) ∙ place.passes [] in
+    (λ j. bytes_eq text (get_or texts (none j) [])) ∙ place.passes [] in
     slice_get-get_or texts k [] (omega arith) ∙ ap Some (sym (names_same text (get_or texts k []) passes))
 
 begin_with : (texts : List (List ℕ)) (values : List Value) (more : List (Option ℕ))
     → BeginWithCodes texts (codes_among texts values ++ more) values
 begin_with texts [] more = tt
 begin_with texts (Int n ∷ values) more = begin_with texts values more
-begin_with texts (Text text ∷ values) more = (is_code texts text (code_in texts text) refl, begin_with texts values more)
+begin_with texts (Text text ∷ values) more =
+    (is_code texts text (code_in texts text) refl, begin_with texts values more)
 
 behind_all : (texts : List (List ℕ)) (values : List Value) (more : List (Option ℕ))
     → fold codes_behind (codes_among texts values ++ more) values ≡ more
@@ -273,15 +275,17 @@ behind_all texts [] more = refl
 behind_all texts (Int n ∷ values) more = behind_all texts values more
 behind_all texts (Text text ∷ values) more = behind_all texts values more
 
-are_codes : (lists : List (List (List ℕ))) (conditions : List Condition) → AreCodesOf lists (codes_in lists conditions) conditions
+are_codes : (lists : List (List (List ℕ))) (conditions : List Condition)
+    → AreCodesOf lists (codes_in lists conditions) conditions
 are_codes lists [] = tt
 are_codes lists (c ∷ conditions) =
     let texts = texts_at lists c.place in
     let values = values_of_test c.test in
-    let more = codes_in lists conditions in
-    (begin_with texts values more,
-    subst (λ (codes : List (Option ℕ)). AreCodesOf lists codes conditions) (sym (behind_all texts values more))
-    (are_codes lists conditions))
+    let more = codes_in lists conditions in (
+      begin_with texts values more,
+      subst (λ (codes : List (Option ℕ)). AreCodesOf lists codes conditions) (sym (behind_all texts values more))
+          (are_codes lists conditions),
+    )
 
 pub queries_take_regions : QueriesTakeRegions
 queries_take_regions d s names q fits distinct on =

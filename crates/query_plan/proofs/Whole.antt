@@ -1,15 +1,14 @@
 -- Parts that agree within each range cut no brick.
-use Rattle.std.proofs.Common.{◌≡◌, ℕ, zero, suc, ◌+◌, ◌/◌, ◌%◌, ◌<◌, List, [], ◌∷◌, length, get_or, refl, sym, ap, subst, ◌∙◌, arith}
+use Rattle.std.proofs.Common.{◌≡◌, ℕ, suc, ◌+◌, ◌/◌, ◌%◌, ◌<◌, List, [], ◌∷◌, length, get_or, refl, sym, ap, subst, ◌∙◌, arith}
 use Rattle.std.specs.Prelude.{All, ◌&&◌}
-use Rattle.std.proofs.lemmas.List.Elements.{All-head, All-tail}
+use Rattle.std.proofs.lemmas.List.Elements.{All-tail}
 use Rattle.cube_values.specs.Shapes.{bricks_of, IsSoundSize}
-use Rattle.cube_values.specs.Spans.{part_has, parts_have}
 use Rattle.cube_values.specs.declared.operation.Condition.{Condition}
 use Rattle.cube_values.specs.declared.shape.Size.{Size}
 use Rattle.cube_values.specs.declared.span.Part.{Part}
 use Rattle.cube_language.specs.Cubes.{size_of, sizes_of}
 use Rattle.cube_language.specs.declared.decl.DimDecl.{DimDecl}
-use Rattle.brick_address.specs.Addresses.{AreCoords, brick_of}
+use Rattle.brick_address.specs.Addresses.{brick_of}
 use Rattle.brick_address.proofs.Bricks.{first_range, other_brick}
 use Rattle.condition_spans.specs.Spans.{ArePartsOf, CutNoBrick, passes_at}
 
@@ -28,11 +27,12 @@ agree_from : (conditions : List Condition) (place : ℕ) (dims : List DimDecl)
     → AgreeFrom conditions place (sizes_of dims)
 agree_from conditions place [] each = tt
 agree_from conditions place (dim ∷ dims) each =
-    let first : place + 0 ≡ place = omega arith in
-    (subst (λ (p : ℕ). AgreeIn conditions p (size_of dim)) first (each 0 dim (omega arith)),
-    agree_from conditions (place + 1) dims (λ i e lt.
-    let next : place + suc i ≡ (place + 1) + i = omega arith in
-    subst (λ (p : ℕ). AgreeIn conditions p (size_of (get_or dims i e))) next (each (suc i) e (omega arith))))
+    let first : place + 0 ≡ place = omega arith in (
+      subst (λ (p : ℕ). AgreeIn conditions p (size_of dim)) first (each 0 dim (omega arith)),
+      agree_from conditions (place + 1) dims (λ i e lt.
+          let next : place + suc i ≡ (place + 1) + i = omega arith in
+          subst (λ (p : ℕ). AgreeIn conditions p (size_of (get_or dims i e))) next (each (suc i) e (omega arith))),
+    )
 
 cuts_none : (conditions : List Condition) (place : ℕ) (sizes : List Size) (parts : List Part)
     → All IsSoundSize sizes → ArePartsOf conditions place sizes parts → AgreeFrom conditions place sizes
@@ -47,11 +47,11 @@ cuts_none conditions place (s ∷ sizes) (part ∷ parts) sound are agree (x ∷
 cuts_none conditions place (s ∷ sizes) (part ∷ parts) sound are agree (x ∷ a) (y ∷ b) of_a of_b same =
     let rest = All-tail IsSoundSize s sizes sound in
     let range : x / s.range ≡ y / s.range =
-        sym (first_range s sizes x a rest of_a.1) ∙ ap (λ (n : ℕ). n / bricks_of sizes) same
-        ∙ first_range s sizes y b rest of_b.1 in
+    sym (first_range s sizes x a rest of_a.1) ∙ ap (λ (n : ℕ). n / bricks_of sizes) same
+    ∙ first_range s sizes y b rest of_b.1 in
     let others : brick_of sizes a ≡ brick_of sizes b =
-        sym (other_brick s sizes x a rest of_a.1) ∙ ap (λ (n : ℕ). n % bricks_of sizes) same
-        ∙ other_brick s sizes y b rest of_b.1 in
+    sym (other_brick s sizes x a rest of_a.1) ∙ ap (λ (n : ℕ). n % bricks_of sizes) same
+    ∙ other_brick s sizes y b rest of_b.1 in
     let here = are.0 x of_a.0 ∙ agree.0 x y of_a.0 of_b.0 range ∙ sym (are.0 y of_b.0) in
     λ i. here i && cuts_none conditions (place + 1) sizes parts rest are.1 agree.1 a b of_a.1 of_b.1 others i
 

@@ -1,5 +1,5 @@
 -- Places that names are resolved to are places of the cube.
-use Rattle.std.proofs.Common.{◌≡◌, ℕ, suc, ◌+◌, ◌<◌, Bool, true, false, List, [], ◌∷◌, length, Option, Some, None, refl, sym, ap, subst, ◌∙◌, inl, inr, arith}
+use Rattle.std.proofs.Common.{◌≡◌, ℕ, suc, ◌+◌, ◌<◌, Bool, true, List, [], ◌∷◌, length, Option, Some, None, refl, sym, ap, subst, ◌∙◌, inl, inr, arith}
 use Rattle.std.specs.Prelude.{All, Contains, find, filter_map, not}
 use Rattle.std.specs.List.{list_any, cons_option, position_from}
 use Rattle.std.specs.Option.{option_map}
@@ -75,15 +75,18 @@ contains_more (Some y) xs x there =
 place_among : (d : Decl) (name : List ℕ) (p : ℕ) (names : List (List ℕ)) → dim_place d name ≡ Some p
     → list_any (bytes_eq name) names ≡ true → Contains (filter_map (dim_place d) names) p
 place_among d name p [] is there = absurd cc
-place_among d name p (other ∷ names) is there = elim (or_cases (bytes_eq name other) (list_any (bytes_eq name) names) there) [
-  | inl same ↦
-    let first : dim_place d other ≡ Some p = ap (dim_place d) (sym (names_same name other same)) ∙ is in
-    subst (λ (o : Option ℕ). Contains (cons_option o (filter_map (dim_place d) names)) p) (sym first)
-    (0, omega arith, refl)
-  | inr later ↦ contains_more (dim_place d other) (filter_map (dim_place d) names) p (place_among d name p names is later)
-]
+place_among d name p (other ∷ names) is there =
+    elim (or_cases (bytes_eq name other) (list_any (bytes_eq name) names) there) [
+      | inl same ↦
+          let first : dim_place d other ≡ Some p = ap (dim_place d) (sym (names_same name other same)) ∙ is in
+          subst (λ (o : Option ℕ). Contains (cons_option o (filter_map (dim_place d) names)) p) (sym first)
+          (0, omega arith, refl)
+      | inr later ↦
+          contains_more (dim_place d other) (filter_map (dim_place d) names) p (place_among d name p names is later)
+    ]
 
-metric_item : (d : Decl) (group : List ℕ) (make : ℕ → BoundItem) (name : List ℕ) (o : Option ℕ) → metric_place d name ≡ o
+metric_item : (d : Decl) (group : List ℕ) (make : ℕ → BoundItem) (name : List ℕ) (o : Option ℕ)
+    → metric_place d name ≡ o
     → ((p : ℕ) → p < length d.metrics → IsSoundItem group (length d.metrics) (make p))
     → (b : BoundItem) → option_map make o ≡ Some b → IsSoundItem group (length d.metrics) b
 metric_item d group make name None is each b some = absurd cc
@@ -135,6 +138,7 @@ items_within d names (CountAll ∷ items) grouped =
     (items_within d names items grouped)
 
 pub fit_items_within : (d : Decl) (s : Statement) → FitsCube d s
-    → All (IsSoundItem (filter_map (dim_place d) (group_of s)) (length d.metrics)) (filter_map (resolved_item d) (items_of s))
+    → All (IsSoundItem (filter_map (dim_place d) (group_of s)) (length d.metrics))
+    (filter_map (resolved_item d) (items_of s))
 fit_items_within d s fits =
     items_within d (group_of s) (items_of s) (nothing (not_grouped s) (λ name is. fits (NotGrouped name) is))

@@ -1,7 +1,6 @@
 //! Statements bound to their cubes.
 
-ghost use Rattle.std.specs.Prelude.{◌≡◌, ◌<◌, ◌≤◌, length, map, IfOk, OnOk, IsSome};
-ghost use Rattle.cube_values.specs.declared.shape.TheConstants.{MOST_COLUMNS};
+ghost use Rattle.std.specs.Prelude.{◌≡◌, ◌<◌, All, length, map, IfOk, OnOk, IsSome};
 ghost use Rattle.cube_values.specs.Faults.{IfFault};
 ghost use Rattle.cube_language.specs.Misfits.{FitsCube};
 ghost use Rattle.cube_language.specs.ResolvedNames.{resolved_region};
@@ -12,25 +11,16 @@ ghost use Rattle.cube_run.specs.RunRecords.{cube_needed};
 ghost use Rattle.query_plan.specs.Bindings.{AsksRows, DeletesRows, PutsRows, IsBoundAt, IsUnfitFault, IsBindFault, IsDropPlan, IsSomeDropPlan, IsDropSpan, IsRowPlan, IsQueryOn, IsBoundQuery};
 
 use crate::fault::BindFault;
-use crate::places::{cube_needed, cube_place};
+use crate::places::{cube_needed, cube_place, shape_of};
 use crate::plan::{DropPlan, RowPlan};
 use crate::resolve::{resolved_conditions, resolved_group, resolved_items};
 use crate::rows::rows_of_values;
 use condition_spans::{codes_in, lists_at, narrow, span_for};
-use cube_language::{Decl, Statement};
+use cube_language::Statement;
 use cube_schema::Schema;
-use cube_values::{BoundQuery, CallError, NameLists, Span};
+use cube_values::{BoundQuery, CallError, Conditions, NameLists, Span};
 use statement_check::{check_statement, conds_of, group_of, inserted_rows, items_of};
 use std::alloc::{AllocError, Global};
-
-/// The declaration of a cube, which has few columns.
-fn decl_of(cube: &Schema) -> &Decl
-    ensures decl { result.now ≡ cube.now }
-    ensures dims { length result.now.dims ≤ MOST_COLUMNS }
-    ensures metrics { length result.now.metrics ≤ MOST_COLUMNS }
-{
-    cube.decl()
-}
 
 /// Whether a statement fits its cube.
 fn check_fit(cube: &Schema, statement: &Statement) -> Result<(), CallError<BindFault>>
@@ -63,6 +53,20 @@ fn bound_place(cubes: &[Schema], statement: &Statement) -> Result<u32, CallError
     Ok(narrow(place)?)
 }
 
+/// The conditions of a statement by the places of its cube.
+#[tactic(auto, using(crate::proofs::Within::conds_within))]
+fn conditions_on(
+    alloc: Global,
+    cube: &Schema,
+    statement: &Statement,
+) -> Result<Conditions, AllocError>
+    ensures are { IfOk result (λ conditions.
+        conditions ≡ (resolved_region cube.now (conds_of statement.now)).conditions) }
+    ensures within { IfOk result (All (λ c. c.place < length cube.now.dims)) }
+{
+    resolved_conditions(alloc, cube, conds_of(statement))
+}
+
 /// The deletion on the cube at a place.
 fn drop_plan(
     alloc: Global,
@@ -74,7 +78,7 @@ fn drop_plan(
     ensures conditions { IfOk result (λ plan.
         plan.conditions ≡ (resolved_region cube.now (conds_of statement.now)).conditions) }
 {
-    let conditions = resolved_conditions(alloc, decl_of(cube), conds_of(statement))?;
+    let conditions = conditions_on(alloc, cube, statement)?;
     Ok(DropPlan {
         cube: place,
         conditions,
@@ -105,7 +109,7 @@ pub fn bind_delete(
 /// `codes` has the code of each text of the conditions, in order: the text's number in the dictionary of its
 /// dimension, or None for one that no row can have. It takes time by the number of dimensions and by how many
 /// values the conditions have, never by the number of ranges.
-#[tactic(auto, using(crate::proofs::Plans::plan_within, crate::proofs::Plans::drop_span_from))]
+#[tactic(auto, using(crate::proofs::Plans::plan_within))]
 pub fn span_of(
     alloc: Global,
     plan: &DropPlan,
@@ -116,7 +120,7 @@ pub fn span_of(
     ensures { IfOk result (IsDropSpan cubes.now plan.now codes.now) }
 {
     let cube = &cubes[plan.cube as usize];
-    span_for(alloc, cube.shape(), plan.conditions.as_slice(), codes)
+    span_for(alloc, shape_of(cube), plan.conditions.as_slice(), codes)
 }
 
 /// The rows of an INSERT for the cube at a place.
@@ -162,12 +166,16 @@ fn query_on(
     ensures place { IfOk result (λ q. q.cube ≡ place) }
     ensures query { IfOk result (IsQueryOn cube.now names.now statement.now) }
 {
-    let decl = decl_of(cube);
-    let conditions = resolved_conditions(alloc, decl, conds_of(statement))?;
+    let conditions = conditions_on(alloc, cube, statement)?;
     let codes = codes_in(alloc, lists_at(names, place), conditions.as_slice())?;
-    let span = span_for(alloc, cube.shape(), conditions.as_slice(), codes.as_slice())?;
-    let group = resolved_group(alloc, decl, group_of(statement))?;
-    let items = resolved_items(alloc, decl, items_of(statement))?;
+    let span = span_for(
+        alloc,
+        shape_of(cube),
+        conditions.as_slice(),
+        codes.as_slice(),
+    )?;
+    let group = resolved_group(alloc, cube, group_of(statement))?;
+    let items = resolved_items(alloc, cube, items_of(statement))?;
     Ok(BoundQuery {
         cube: place,
         span,

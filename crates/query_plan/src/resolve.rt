@@ -1,13 +1,13 @@
 //! Names as places of their cube.
 
-ghost use Rattle.std.specs.Prelude.{◌≡◌, ◌≤◌, length, filter_map, IfOk};
-ghost use Rattle.cube_values.specs.declared.shape.TheConstants.{MOST_COLUMNS};
+ghost use Rattle.std.specs.Prelude.{◌≡◌, filter_map, IfOk};
 ghost use Rattle.cube_language.specs.Misfits.{cond_test};
 ghost use Rattle.cube_language.specs.ResolvedNames.{dim_place, metric_place, resolved_cond, resolved_item};
 
 use crate::places::{dim_place, metric_place};
 use condition_spans::append;
-use cube_language::{Cond, Decl, Item};
+use cube_language::{Cond, Item};
+use cube_schema::Schema;
 use cube_values::{BoundItem, BoundItems, Condition, Conditions, Coords, Text, ValueTest, Values};
 use statement_check::cond_name;
 use std::alloc::{AllocError, Global};
@@ -29,11 +29,10 @@ fn cond_test(cond: &Cond) -> Result<ValueTest, AllocError>
 }
 
 /// A condition at the place of its dimension.
-fn resolved_cond(decl: &Decl, cond: &Cond) -> Result<Option<Condition>, AllocError>
-    requires { length decl.now.dims ≤ MOST_COLUMNS }
-    ensures { IfOk result (λ found. found ≡ resolved_cond decl.now cond.now) }
+fn resolved_cond(cube: &Schema, cond: &Cond) -> Result<Option<Condition>, AllocError>
+    ensures { IfOk result (λ found. found ≡ resolved_cond cube.now cond.now) }
 {
-    let Some(place) = dim_place(decl, cond_name(cond)) else {
+    let Some(place) = dim_place(cube, cond_name(cond)) else {
         return Ok(None);
     };
     Ok(Some(Condition {
@@ -45,61 +44,59 @@ fn resolved_cond(decl: &Decl, cond: &Cond) -> Result<Option<Condition>, AllocErr
 /// Conditions at the places of their dimensions.
 pub fn resolved_conditions(
     alloc: Global,
-    decl: &Decl,
+    cube: &Schema,
     conds: &[Cond],
 ) -> Result<Conditions, AllocError>
-    requires { length decl.now.dims ≤ MOST_COLUMNS }
-    ensures { IfOk result (λ found. found ≡ filter_map (resolved_cond decl.now) conds.now) }
+    ensures { IfOk result (λ found. found ≡ filter_map (resolved_cond cube.now) conds.now) }
 {
     let mut found = Vec::new(alloc);
     let mut left = conds;
     'conds: while let [cond, rest @ ..] = left {
-        append(&mut found, resolved_cond(decl, cond)?)?;
+        append(&mut found, resolved_cond(cube, cond)?)?;
         left = rest;
     }
     Ok(Conditions::from_vec(found))
 }
 
 /// An item by the place of its column.
-fn resolved_item(decl: &Decl, item: &Item) -> Option<BoundItem>
-    requires dims { length decl.now.dims ≤ MOST_COLUMNS }
-    requires metrics { length decl.now.metrics ≤ MOST_COLUMNS }
-    ensures { result ≡ resolved_item decl.now item.now }
+fn resolved_item(cube: &Schema, item: &Item) -> Option<BoundItem>
+    ensures { result ≡ resolved_item cube.now item.now }
 {
     match item {
-        Item::Plain(name) => Some(BoundItem::Group(dim_place(decl, name)?)),
-        Item::Sum(name) => Some(BoundItem::Sum(metric_place(decl, name)?)),
-        Item::Min(name) => Some(BoundItem::Min(metric_place(decl, name)?)),
-        Item::Max(name) => Some(BoundItem::Max(metric_place(decl, name)?)),
-        Item::Avg(name) => Some(BoundItem::Avg(metric_place(decl, name)?)),
+        Item::Plain(name) => Some(BoundItem::Group(dim_place(cube, name)?)),
+        Item::Sum(name) => Some(BoundItem::Sum(metric_place(cube, name)?)),
+        Item::Min(name) => Some(BoundItem::Min(metric_place(cube, name)?)),
+        Item::Max(name) => Some(BoundItem::Max(metric_place(cube, name)?)),
+        Item::Avg(name) => Some(BoundItem::Avg(metric_place(cube, name)?)),
         Item::CountAll => Some(BoundItem::Count),
     }
 }
 
 /// Items by the places of their columns.
-pub fn resolved_items(alloc: Global, decl: &Decl, items: &[Item]) -> Result<BoundItems, AllocError>
-    requires dims { length decl.now.dims ≤ MOST_COLUMNS }
-    requires metrics { length decl.now.metrics ≤ MOST_COLUMNS }
-    ensures { IfOk result (λ found. found ≡ filter_map (resolved_item decl.now) items.now) }
+pub fn resolved_items(
+    alloc: Global,
+    cube: &Schema,
+    items: &[Item],
+) -> Result<BoundItems, AllocError>
+    ensures { IfOk result (λ found. found ≡ filter_map (resolved_item cube.now) items.now) }
 {
     let mut found = Vec::new(alloc);
     let mut left = items;
     'items: while let [item, rest @ ..] = left {
-        append(&mut found, resolved_item(decl, item))?;
+        append(&mut found, resolved_item(cube, item))?;
         left = rest;
     }
     Ok(BoundItems::from_vec(found))
 }
 
 /// The places of the dimensions of a group.
-pub fn resolved_group(alloc: Global, decl: &Decl, names: &[Text]) -> Result<Coords, AllocError>
-    requires { length decl.now.dims ≤ MOST_COLUMNS }
-    ensures { IfOk result (λ found. found ≡ filter_map (dim_place decl.now) names.now) }
+pub fn resolved_group(alloc: Global, cube: &Schema, names: &[Text]) -> Result<Coords, AllocError>
+    ensures { IfOk result (λ found. found ≡ filter_map (dim_place cube.now) names.now) }
 {
     let mut found = Vec::new(alloc);
     let mut left = names;
     'names: while let [name, rest @ ..] = left {
-        append(&mut found, dim_place(decl, name))?;
+        append(&mut found, dim_place(cube, name))?;
         left = rest;
     }
     Ok(Coords::from_vec(found))

@@ -1,7 +1,7 @@
 use Rattle.std.proofs.Common.{◌≤◌, length, sym, subst}
 use Rattle.cube_language.specs.declared.decl.Decl.{Decl}
 use Rattle.cube_schema.proofs.Sound.{parts_of}
-use Rattle.query_plan.proofs.bind.decl_of.Goals as goal
+use Rattle.query_plan.proofs.places.decl_of.Goals as goal
 
 pub returns-clause-dims : goal.returns-clause-dims
 returns-clause-dims c =
