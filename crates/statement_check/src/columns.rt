@@ -54,7 +54,7 @@ fn is_against_dim(cond: &Cond, dim: &DimDecl) -> bool
 }
 
 /// The column of a condition.
-pub(crate) fn cond_name(cond: &Cond) -> &Text
+pub fn cond_name(cond: &Cond) -> &Text
     ensures { result.now ≡ cond_name cond.now }
 {
     match cond {

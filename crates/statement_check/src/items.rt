@@ -37,7 +37,7 @@ pub(crate) fn not_grouped(statement: &Statement) -> Option<&Text>
 }
 
 /// Whether two items are one.
-pub(crate) fn same_item(a: &Item, b: &Item) -> bool
+pub fn same_item(a: &Item, b: &Item) -> bool
     ensures { result ≡ item_eq a.now b.now }
 {
     match (a, b) {

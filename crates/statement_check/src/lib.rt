@@ -11,4 +11,8 @@ mod ranges;
 mod rows;
 
 pub use check::check_statement;
+pub use columns::cond_name;
 pub use cube_language::Misfit;
+pub use items::same_item;
+pub use names::same_name;
+pub use parts::{conds_of, group_of, inserted_rows, items_of};

@@ -10,7 +10,7 @@ use cube_language::{Decl, DimDecl};
 use cube_values::Text;
 
 /// Whether two names are one.
-pub(crate) fn same_name(a: &Text, b: &Text) -> bool
+pub fn same_name(a: &Text, b: &Text) -> bool
     ensures { result ≡ bytes_eq a.now b.now }
 {
     a.as_bytes() == b.as_bytes()

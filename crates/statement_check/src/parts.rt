@@ -8,7 +8,7 @@ use cube_language::{Cond, Item, Key, Statement, Test};
 use cube_values::{Text, Values};
 
 /// The items of a query.
-pub(crate) fn items_of(statement: &Statement) -> &[Item]
+pub fn items_of(statement: &Statement) -> &[Item]
     ensures { result.now ≡ items_of statement.now }
 {
     match statement {
@@ -19,7 +19,7 @@ pub(crate) fn items_of(statement: &Statement) -> &[Item]
 }
 
 /// The conditions on rows.
-pub(crate) fn conds_of(statement: &Statement) -> &[Cond]
+pub fn conds_of(statement: &Statement) -> &[Cond]
     ensures { result.now ≡ conds_of statement.now }
 {
     match statement {
@@ -31,7 +31,7 @@ pub(crate) fn conds_of(statement: &Statement) -> &[Cond]
 }
 
 /// The columns by which a query groups.
-pub(crate) fn group_of(statement: &Statement) -> &[Text]
+pub fn group_of(statement: &Statement) -> &[Text]
     ensures { result.now ≡ group_of statement.now }
 {
     match statement {
@@ -72,7 +72,7 @@ pub(crate) fn deleted_conds(statement: &Statement) -> &[Cond]
 }
 
 /// The rows of an INSERT.
-pub(crate) fn inserted_rows(statement: &Statement) -> &[Values]
+pub fn inserted_rows(statement: &Statement) -> &[Values]
     ensures { result.now ≡ inserted_rows statement.now }
 {
     match statement {

@@ -1,0 +1,12 @@
+pub mod FirstPlaces
+pub mod Distinct
+pub mod FitConditions
+pub mod Aligned
+pub mod Coded
+pub mod Whole
+pub mod Agree
+pub mod Within
+pub mod Cubes
+pub mod Needs
+pub mod Plans
+pub mod Ties

@@ -1,0 +1,18 @@
+//! Binding: what a statement asks of its cube, by coordinates.
+#![tactic(auto)]
+
+mod bind;
+mod fault;
+mod law;
+mod places;
+mod plan;
+mod resolve;
+mod rows;
+mod top;
+
+pub use bind::{bind_delete, bind_rows, bind_select, span_of};
+pub use cube_language::Misfit;
+pub use fault::BindFault;
+pub use law::statements_are_bound_to_what_they_ask;
+pub use plan::{DropPlan, RowPlan};
+pub use top::bind_top;
