@@ -1,7 +1,6 @@
 -- The two rows of a test and their totals.
-use Rattle.std.proofs.Common.{◌≡◌, ◌<◌, ℤ, pos, List, [], ◌∷◌, All, FitsSigned, refl, arith, rules}
+use Rattle.std.proofs.Common.{◌<◌, ℤ, pos, [], ◌∷◌, All, FitsSigned, refl, arith, rules}
 use Rattle.std.specs.Int.{w64}
-use Rattle.std.proofs.lemmas.Int.{ints}
 use Rattle.std.proofs.lemmas.List.Elements.{All-nil, All-cons}
 use Rattle.cube_values.specs.Queries.{IsSoundItem}
 use Rattle.cube_values.specs.declared.query.BoundItem.TheVariants.{Count, Sum}

@@ -17,7 +17,7 @@ use std::test::Fail;
 mod plain;
 
 /// A row of at most three coordinates and one metric.
-#[derive(Clone, Copy, Debug)]
+#[derive(Clone, Copy)]
 struct Made {
     coords: [u32; 3],
     metric: i64,

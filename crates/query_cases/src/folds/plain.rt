@@ -9,7 +9,7 @@ use std::process::Abort;
 use std::test::Fail;
 
 /// A group of the plain fold, by its key.
-#[derive(Clone, Copy, Debug)]
+#[derive(Clone, Copy)]
 struct Plain {
     key: [u32; 3],
     count: u64,

@@ -1,4 +1,4 @@
-use Rattle.std.proofs.Common.{List, [], ◌++◌, subst, sym, refl, arith}
+use Rattle.std.proofs.Common.{List, [], subst, sym, refl, arith}
 use Rattle.std.proofs.lemmas.List.Sorted.{IsPermutation-refl}
 use Rattle.agg_fold.specs.Standing.{StandsFor}
 use Rattle.agg_fold.specs.declared.groups.Groups.{Groups}

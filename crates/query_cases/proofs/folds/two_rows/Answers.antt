@@ -1,4 +1,4 @@
-use Rattle.std.proofs.Common.{◌≡◌, [], length, pos, sym, ap, subst, arith}
+use Rattle.std.proofs.Common.{[], length, sym, ap, subst, arith}
 use Rattle.cube_values.specs.declared.query.BoundQuery.{BoundQuery}
 use Rattle.agg_fold.specs.Totals.{AreToldOf}
 use Rattle.query_cases.specs.TwoRows.{three_and_five}
