@@ -14,6 +14,7 @@ use std::process::Abort;
 use std::test::*;
 
 /// Numbers that look as if drawn by chance, the same in each run.
+#[derive(Drop)]
 struct Draws {
     state: u64,
 }
@@ -158,7 +159,7 @@ struct Grouping {
     places: &'static [u32],
 }
 
-fn grouping(number: u64) -> Grouping {
+fn grouping_of(number: u64) -> Grouping {
     match number {
         0 => Grouping {
             items: "",
@@ -355,7 +356,7 @@ fn drawn_statements(rt: HostRuntime) {
     let mut draws = Draws { state: 20 };
     for round in 0..2000 {
         let asked = drawn_conditions(&rt, alloc, &mut draws);
-        let by = grouping(round % 4);
+        let by = grouping_of(round % 4);
         check_select(&rt, alloc, cubes.as_slice(), &names, asked.as_slice(), by);
         if !asked.is_empty() {
             check_delete(&rt, alloc, cubes.as_slice(), asked.as_slice());

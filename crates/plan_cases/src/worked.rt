@@ -4,7 +4,7 @@ use crate::cubes::{asks_rows, deletes_rows, names_of_three, puts_rows, statement
 use cube_schema::Schema;
 use cube_values::{Bound, BoundItem, BoundKey, BoundQuery, Span, TopPlan, Value};
 use query_plan::{
-    RowPlan, bind_delete, bind_rows, bind_select, bind_top, span_of,
+    RowPlan, bind_delete, bind_rows, bind_select, bind_top, bindings_have_all_parts, span_of,
     statements_are_bound_to_what_they_ask,
 };
 use std::alloc::Global;
@@ -88,16 +88,14 @@ fn a_query_by_places(rt: HostRuntime) {
             WHERE region IN ('WA', 'OR', 'CA') GROUP BY gender, region",
     );
     assert_eq!(rt; query.cube, 0);
-    assert!(rt; query.group.as_slice() == &[1, 0]);
-    assert!(rt;
-        query.items.as_slice()
-            == &[
-                BoundItem::Group(1),
-                BoundItem::Sum(1),
-                BoundItem::Group(0),
-                BoundItem::Count,
-            ]
-    );
+    assert!(rt; query.group.as_slice() == [1, 0].as_slice());
+    let items = [
+        BoundItem::Group(1),
+        BoundItem::Sum(1),
+        BoundItem::Group(0),
+        BoundItem::Count,
+    ];
+    assert!(rt; query.items.as_slice() == items.as_slice());
     for region in 0..4 {
         assert_eq!(rt; query.span.has(&[region, 3]), region == 0 || region == 2);
     }
@@ -154,7 +152,7 @@ fn rows_by_columns(rt: HostRuntime) {
     };
     assert!(rt; is_text(first.dims.as_slice().first(), "a"));
     assert!(rt; is_text(second.dims.as_slice().first(), ""));
-    assert!(rt; first.metrics.as_slice() == &[-7]);
+    assert!(rt; first.metrics.as_slice() == [-7].as_slice());
     let loaded = rows_of(&rt, alloc, cubes.as_slice(), "LOAD t FROM 'f' REJECT 0");
     assert!(rt; loaded.cube == 1 && loaded.rows.is_empty());
 }
@@ -177,22 +175,21 @@ fn lines_that_are_asked_for(rt: HostRuntime) {
         return;
     };
     assert!(rt; test.place == 1 && test.bound == Bound::Between(5, 7));
-    assert!(rt;
-        plan.keys.as_slice()
-            == &[
-                BoundKey {
-                    place: 2,
-                    desc: true
-                },
-                BoundKey {
-                    place: 1,
-                    desc: false
-                },
-            ]
-    );
+    let keys = [
+        BoundKey {
+            place: 2,
+            desc: true,
+        },
+        BoundKey {
+            place: 1,
+            desc: false,
+        },
+    ];
+    assert!(rt; plan.keys.as_slice() == keys.as_slice());
     assert_eq!(rt; plan.limit, Some(2));
     let nothing = plan_of(&rt, alloc, "DELETE FROM t WHERE x = 4");
     assert!(rt; nothing.having.is_empty() && nothing.keys.is_empty());
     assert_eq!(rt; nothing.limit, None);
     statements_are_bound_to_what_they_ask();
+    bindings_have_all_parts();
 }

@@ -18,7 +18,7 @@ names_same a b = (bytes_eq-Decides a b).0
 pub name_is : (a : List ℕ) → bytes_eq a a ≡ true
 name_is a = (bytes_eq-Decides a a).1 refl
 
-turned : (a b : List ℕ) → bytes_eq a b ≡ false → bytes_eq b a ≡ false
+pub turned : (a b : List ℕ) → bytes_eq a b ≡ false → bytes_eq b a ≡ false
 turned a b apart =
     false_from_ne_true (bytes_eq b a)
     (λ t. true≢false (sym ((bytes_eq-Decides a b).1 (sym (names_same b a t))) ∙ apart))

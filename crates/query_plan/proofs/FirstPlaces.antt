@@ -1,7 +1,7 @@
 -- The first place at which a test passes.
 use Rattle.std.proofs.Common.{◌≡◌, ℕ, zero, suc, ◌+◌, ◌-◌, ◌<◌, ◌≤◌, Bool, true, false, cond, List, [], ◌∷◌, length, get_or, Some, None, refl, sym, ap, ◌∙◌, inl, inr, arith}
-use Rattle.std.specs.Prelude.{find, slice_get}
-use Rattle.std.specs.List.{position_from}
+use Rattle.std.specs.Prelude.{find, slice_get, ◌||◌}
+use Rattle.std.specs.List.{list_any, position_from}
 use Rattle.std.proofs.lemmas.Bool.{cases_Bool}
 
 -- A place that is found, counted from i.
@@ -56,6 +56,14 @@ finds_nothing t i [] none = refl
 finds_nothing t i (x ∷ xs) none = elim (cases_Bool (t x)) [
   | inl there ↦ let some = rw there at none in absurd cc
   | inr never ↦ (λ j. cond (never j) (Some x) (find t xs)) ∙ finds_nothing t (i + 1) xs (rw never at none)
+]
+
+-- A test that finds nothing passes none.
+pub none_passes : {K : Type 0} (t : K → Bool) (xs : List K) → find t xs ≡ None → list_any t xs ≡ false
+none_passes t [] none = refl
+none_passes t (x ∷ xs) none = elim (cases_Bool (t x)) [
+  | inl there ↦ let some = rw there at none in absurd cc
+  | inr never ↦ (λ j. never j || list_any t xs) ∙ none_passes t xs (rw never at none)
 ]
 
 -- What stands at the place that is found is what the test finds.

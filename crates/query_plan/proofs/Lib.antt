@@ -9,4 +9,5 @@ pub mod Within
 pub mod Cubes
 pub mod Needs
 pub mod Plans
+pub mod AllParts
 pub mod Ties

@@ -4,7 +4,7 @@ use Rattle.std.specs.Prelude.{All, filter, filter_map, find, fold, pos, slice_ge
 use Rattle.std.specs.List.{IsDistinct, AllByRecursion, list_any, list_all, cons_option, position_from}
 use Rattle.std.specs.Option.{option_map, option_map_or}
 use Rattle.std.specs.Str.{bytes_eq}
-use Rattle.std.proofs.lemmas.Bool.{cases_Bool, cases_order, or_parts, eq-eqb, ne_eqb, false_from_ne_true, true≢false}
+use Rattle.std.proofs.lemmas.Bool.{cases_Bool, cases_order, or_parts, eq-eqb, ne_eqb, true≢false}
 use Rattle.std.proofs.lemmas.List.Elements.{All-head, All-tail}
 use Rattle.std.proofs.lemmas.Option.{slice_get-map, slice_get-get_or, slice_get_within, get_or_from_slice_get, unwrap_or-slice_get}
 use Rattle.cube_values.specs.Answer.{table_of}
@@ -37,9 +37,9 @@ use Rattle.condition_spans.specs.Spans.{coord_values}
 use Rattle.query_plan.specs.Ties.{stored_for, StandsForValue, StandForValues, AreDistinct, IsCodeOf, BeginWithCodes, AreCodesOf, SpansTakeRegions, QueriesTakeRegions, QueriesAnswerForValues}
 use Rattle.condition_spans.proofs.Among.{same_number}
 use Rattle.query_plan.proofs.Coded.{placed, not_against, coded_alike, or_nothing}
-use Rattle.query_plan.proofs.Distinct.{names_same, name_is}
+use Rattle.query_plan.proofs.Distinct.{names_same, name_is, turned}
 use Rattle.query_plan.proofs.FitConditions.{kinds_fit}
-use Rattle.query_plan.proofs.FirstPlaces.{found, finds_nothing, finds_there}
+use Rattle.query_plan.proofs.FirstPlaces.{found, finds_nothing, none_passes, finds_there}
 
 -- ---- texts
 
@@ -56,11 +56,6 @@ apart [] i j d distinct lt within = absurd (omega arith)
 apart (x ∷ xs) i zero d distinct lt within = absurd (omega arith)
 apart (x ∷ xs) zero (suc j) d distinct lt within = apart_from x xs j d distinct.0 (omega arith)
 apart (x ∷ xs) (suc i) (suc j) d distinct lt within = apart xs i j d distinct.1 (omega arith) (omega arith)
-
-turned : (a b : List ℕ) → bytes_eq a b ≡ false → bytes_eq b a ≡ false
-turned a b other =
-    false_from_ne_true (bytes_eq b a)
-    (λ t. true≢false (sym (ap (bytes_eq a) (names_same b a t) ∙ name_is a) ∙ other))
 
 -- A text with a code is the one at a place exactly where the code is the place.
 text_at : (texts : List (List ℕ)) (text : List ℕ) (code x : ℕ) → IsDistinct bytes_eq texts
@@ -245,15 +240,9 @@ spans_take_regions d s lists codes span fits distinct are has row named =
 
 -- ---- the codes of a query
 
-none_any : (text : List ℕ) (ts : List (List ℕ)) → find (bytes_eq text) ts ≡ None → list_any (bytes_eq text) ts ≡ false
-none_any text [] none = refl
-none_any text (t ∷ ts) none =
-    let parts = none_found (bytes_eq text) t ts none in
-    λ i. parts.0 i || none_any text ts parts.1 i
-
 is_code : (texts : List (List ℕ)) (text : List ℕ) (o : Option ℕ) → position_from (bytes_eq text) 0 texts ≡ o
     → IsCodeOf texts text o
-is_code texts text None is = none_any text texts (finds_nothing (bytes_eq text) 0 texts is)
+is_code texts text None is = none_passes (bytes_eq text) texts (finds_nothing (bytes_eq text) 0 texts is)
 is_code texts text (Some k) is =
     let place = found (bytes_eq text) 0 texts k is in
     let none : k ≡ k - 0 = omega arith in

@@ -1,3 +1,4 @@
 pub mod Bindings
 pub mod Refusals
 pub mod Ties
+pub mod AllParts

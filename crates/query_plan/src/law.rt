@@ -1,6 +1,13 @@
 //! What ties rows by coordinates to the rows of values that they stand for.
 
+ghost use Rattle.query_plan.specs.AllParts.{BindingsHaveAllParts};
 ghost use Rattle.query_plan.specs.Ties.{SpansTakeRegions, QueriesTakeRegions, QueriesAnswerForValues};
+
+/// Nothing of a statement that fits its cube is left out where it is bound: by places it has as many conditions,
+/// columns of its group, items, tests of HAVING and keys of ORDER BY as by names.
+pub fn bindings_have_all_parts()
+    ensures { BindingsHaveAllParts }
+{}
 
 /// A statement that fits its cube, bound by right codes, takes those rows by coordinates that stand for rows of
 /// its region: the span of a deletion, by whatever texts its codes are right, and that of a query, by the names

@@ -13,6 +13,6 @@ mod top;
 pub use bind::{bind_delete, bind_rows, bind_select, span_of};
 pub use cube_language::Misfit;
 pub use fault::BindFault;
-pub use law::statements_are_bound_to_what_they_ask;
+pub use law::{bindings_have_all_parts, statements_are_bound_to_what_they_ask};
 pub use plan::{DropPlan, RowPlan};
 pub use top::bind_top;
