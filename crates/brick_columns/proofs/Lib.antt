@@ -1,3 +1,4 @@
+pub mod Batches
 pub mod EachColumn
 pub mod InPlace
 pub mod KeptItems

@@ -1,23 +1,25 @@
 //! The columns of a brick, which are whole rows after every call.
 
-ghost use Rattle.std.specs.Prelude.{◌≡◌, ℕ, ◌+◌, ◌*◌, ◌-◌, ◌^◌, ◌<◌, ◌≤◌, [], ◌∷◌, ◌++◌, length, map, min, All, IsOk, IfOk, OnOk, OnErr};
+ghost use Rattle.std.specs.Prelude.{◌≡◌, ℕ, List, ◌+◌, ◌*◌, ◌-◌, ◌^◌, ◌<◌, ◌≤◌, [], ◌∷◌, ◌++◌, length, map, min, All, IsOk, IfOk, OnOk, OnErr};
 ghost use Rattle.std.specs.List.{AllZip, items_where_true};
 ghost use Rattle.cube_values.specs.Rooms.{grown_room};
 ghost use Rattle.cube_values.specs.Shapes.{IsSoundShape};
-ghost use Rattle.brick_columns.specs.Lists.{IsGrown, HaveSpare};
-ghost use Rattle.brick_columns.specs.Rows.{layout_of, IsBrickRow, row_at, offset_at, metric_at};
+ghost use Rattle.packed_words.specs.Rows.{AreWords};
+ghost use Rattle.brick_columns.specs.Rows.{layout_of, IsBrickRow, IsWidth, LiesFrom, row_at, row_from, rows_between, offset_at, metric_at};
 
 use crate::lists::{empty_lists, keep_each, push_each, reserve_each};
-use cube_values::{Bits, Shape, Size, grown_room};
+use cube_values::{Bits, CodedRows, Shape, Size, grown_room};
+use packed_words::PackedRows;
 use std::alloc::{AllocError, Global};
 use std::marker::Model;
 
-/// The rows of a brick: in each dimension an offset below the range size, and the metrics. The offsets of
-/// a dimension are one list, and so are the values of a metric.
+/// The rows of a brick: in each dimension an offset below the range size, and the metrics. The offsets are
+/// packed row by row in words of 64 bits, each in no more bits than its range needs, none where that is 1.
+/// The values of a metric are one list.
 #[derive(Debug, Drop)]
 pub struct Columns {
     ranges: Vec<u32>,
-    offsets: Vec<Vec<u32>>,
+    offsets: PackedRows,
     metrics: Vec<Vec<i64>>,
     rows: u64,
     room: u64,
@@ -44,10 +46,11 @@ impl Columns {
         ensures rows { IfOk result (λ made. made.rows ≡ []) }
         ensures spare { IfOk result (λ made. made.spare ≡ 0) }
     {
-        let sizes = shape.sizes.as_slice();
+        let ranges = ranges_of(alloc, shape.sizes.as_slice())?;
+        let widths = widths_of(alloc, ranges.as_slice())?;
         Ok(Columns {
-            ranges: ranges_of(alloc, sizes)?,
-            offsets: empty_lists(alloc, sizes.len())?,
+            ranges,
+            offsets: PackedRows::new(alloc, widths),
             metrics: empty_lists(alloc, metrics as usize)?,
             rows: 0,
             room: 0,
@@ -69,12 +72,8 @@ impl Columns {
     {
         if self.room - self.rows < n {
             let room = room_with(self.rows, self.room, n)?;
-            let more = (room - self.rows) as usize;
-            reserve_all(
-                self.offsets.as_mut_slice(),
-                self.metrics.as_mut_slice(),
-                more,
-            )?;
+            self.offsets.reserve(room)?;
+            reserve_each(self.metrics.as_mut_slice(), (room - self.rows) as usize)?;
             self.room = room;
         }
         Ok(())
@@ -90,13 +89,46 @@ impl Columns {
             ≡ self.old.rows ++ record { offsets = offsets.now; metrics = metrics.now } ∷ [] }
         ensures spare { self.new.spare + 1 ≡ self.old.spare }
     {
-        push_each(self.offsets.as_mut_slice(), offsets);
+        self.offsets.push(offsets);
+        push_each(self.metrics.as_mut_slice(), metrics);
+        self.rows += 1;
+    }
+
+    /// Puts the rows of a batch from one place up to another at the end, in room that there is. `starts` has
+    /// the coordinate of offset 0 in each dimension. It takes no memory and cannot fail.
+    pub fn push_rows(&mut self, batch: &CodedRows, from: usize, to: usize, starts: &[u32])
+        requires order { from ≤ to }
+        requires within { to ≤ length batch.now.rows }
+        requires room { to - from ≤ self.old.spare }
+        requires rows { All (LiesFrom self.old.layout starts.now)
+            (rows_between from to batch.now.rows) }
+        ensures layout { self.new.layout ≡ self.old.layout }
+        ensures rows { self.new.rows
+            ≡ self.old.rows ++ map (row_from starts.now) (rows_between from to batch.now.rows) }
+        ensures spare { self.new.spare + (to - from) ≡ self.old.spare }
+    {
+        'rows: for i in from..to {
+            self.push_from(starts, batch.coords_of(i), batch.metrics_of(i));
+        }
+    }
+
+    // Puts a row at the end by its coordinates.
+    fn push_from(&mut self, starts: &[u32], coords: &[u32], metrics: &[i64])
+        requires room { 1 ≤ self.old.spare }
+        requires row { LiesFrom self.old.layout starts.now
+            (record { coords = coords.now; metrics = metrics.now }) }
+        ensures layout { self.new.layout ≡ self.old.layout }
+        ensures rows { self.new.rows ≡ self.old.rows
+            ++ row_from starts.now (record { coords = coords.now; metrics = metrics.now }) ∷ [] }
+        ensures spare { self.new.spare + 1 ≡ self.old.spare }
+    {
+        self.offsets.push_differences(coords, starts);
         push_each(self.metrics.as_mut_slice(), metrics);
         self.rows += 1;
     }
 
     /// Leaves the rows whose bit is set, in order, with the room that there was. It takes no memory and goes
-    /// once over each column.
+    /// once over the words and over each list.
     pub fn keep(&mut self, bits: &Bits)
         requires { length bits.now.bits ≡ length self.old.rows }
         ensures layout { self.new.layout ≡ self.old.layout }
@@ -105,7 +137,7 @@ impl Columns {
             ≡ length self.old.rows + self.old.spare }
         ensures spare { self.old.spare ≤ self.new.spare }
     {
-        keep_each(self.offsets.as_mut_slice(), bits);
+        self.offsets.keep(bits);
         keep_each(self.metrics.as_mut_slice(), bits);
         self.rows = bits.ones();
     }
@@ -118,13 +150,27 @@ impl Columns {
         self.rows
     }
 
+    /// How many rows there is memory for.
+    pub fn room(&self) -> u64
+        ensures { result ≡ length self.now.rows + self.now.spare }
+    {
+        self.room
+    }
+
+    /// How many metrics a row has.
+    pub fn width(&self) -> usize
+        ensures { result ≡ self.now.layout.metrics }
+    {
+        self.metrics.len()
+    }
+
     /// The offset of a row in a dimension.
     pub fn offset(&self, row: u64, dim: u32) -> u32
         requires row { row < length self.now.rows }
         requires dim { dim < length self.now.layout.ranges }
         ensures { result ≡ offset_at dim (row_at self.now.rows row) }
     {
-        self.offsets_of(dim)[row as usize]
+        self.offsets.number(row, dim as usize)
     }
 
     /// A metric of a row.
@@ -136,12 +182,13 @@ impl Columns {
         self.metrics_of(m)[row as usize]
     }
 
-    /// The offsets of all rows in a dimension.
-    pub fn offsets_of(&self, dim: u32) -> &[u32]
-        requires { dim < length self.now.layout.ranges }
-        ensures { result.now ≡ map (offset_at dim) self.now.rows }
+    /// The words that hold the offsets: dimension i of each row in the least number of bits in which each
+    /// offset of its range can be written, the first dimension first and the lowest bit first.
+    pub fn words(&self) -> &[u64]
+        ensures { (widths : List ℕ) → AllZip IsWidth self.now.layout.ranges widths
+            → AreWords widths (map (λ row. row.offsets) self.now.rows) result.now }
     {
-        self.offsets[dim as usize].as_slice()
+        self.offsets.words()
     }
 
     /// The values of a metric in all rows.
@@ -170,19 +217,25 @@ fn ranges_of(alloc: Global, sizes: &[Size]) -> Result<Vec<u32>, AllocError>
     sizes.iter().map(|size| size.range).collect(alloc)
 }
 
-// Makes room for `more` items in each column. The items stay.
-// Where memory is wanted, some of the columns may have the room.
-#[tactic(auto, using(crate::proofs::RowLists::grown_none))]
-fn reserve_all(
-    offsets: &mut [Vec<u32>],
-    metrics: &mut [Vec<i64>],
-    more: usize,
-) -> Result<(), AllocError>
-    ensures offsets { AllZip IsGrown offsets.old offsets.new }
-    ensures metrics { AllZip IsGrown metrics.old metrics.new }
-    ensures offsets_room { OnOk result (HaveSpare more offsets.new) }
-    ensures metrics_room { OnOk result (HaveSpare more metrics.new) }
+// The least width of each range.
+fn widths_of(alloc: Global, ranges: &[u32]) -> Result<Vec<u64>, AllocError>
+    ensures { IfOk result (λ widths. AllZip IsWidth ranges.now widths.items) }
 {
-    reserve_each(offsets, more)?;
-    reserve_each(metrics, more)
+    let mut widths = Vec::with_capacity(alloc, ranges.len())?;
+    for range in ranges {
+        widths.push_reserved(width_of(*range));
+    }
+    Ok(widths)
+}
+
+// The least number of bits in which each number below `range` can be written.
+fn width_of(range: u32) -> u64
+    ensures { IsWidth range result }
+{
+    'bits: for width in 0..32 {
+        if u64::from(range) <= 1 << width {
+            return width;
+        }
+    }
+    32
 }

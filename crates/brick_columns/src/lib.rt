@@ -1,10 +1,7 @@
-//! The plain columns of a brick: one list for each dimension and one for each metric, seen as rows.
+//! The columns of a brick, seen as rows: offsets packed in words, and one list for each metric.
 #![tactic(auto)]
 
 mod columns;
 mod lists;
 
 pub use columns::Columns;
-
-#[cfg(test)]
-mod tests;

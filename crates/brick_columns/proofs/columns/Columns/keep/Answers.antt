@@ -7,24 +7,23 @@ use Rattle.brick_columns.proofs.RowLists.{columns_len}
 use Rattle.brick_columns.proofs.WholeRows.{seen_length, keeps_by, keeps_rows, keeps_whole}
 use Rattle.brick_columns.proofs.columns.Columns.keep.Goals as goal
 
+pub keep-requires : goal.keep-requires
+keep-requires c =
+    let old = c.self.inside in
+    omega (arith, c.requires, seen_length old c.args.self.now c.self.invariant c.self.view_is, c.self.invariant.long)
+
 pub keep_each-requires : goal.keep_each-requires
 keep_each-requires c =
     let old = c.self.inside in
     let long = c.requires ∙ seen_length old c.args.self.now c.self.invariant c.self.view_is in
-    rw (c.as_mut_slice.ensures.value, long) (columns_len old.offsets.items old.rows old.room c.self.invariant.offsets)
-
-pub keep_each-requires-2 : goal.keep_each-requires-2
-keep_each-requires-2 c =
-    let old = c.self.inside in
-    let long = c.requires ∙ seen_length old c.args.self.now c.self.invariant c.self.view_is in
-    rw (c.as_mut_slice-2.ensures.value, long) (columns_len old.metrics.items old.rows old.room c.self.invariant.metrics)
+    rw (c.as_mut_slice.ensures.value, long) (columns_len old.metrics.items old.rows old.room c.self.invariant.metrics)
 
 pub invariant_of-self : goal.invariant_of-self
 invariant_of-self c =
     let old = c.self.inside in
     let bits = c.args.bits.now.bits in
     let long = c.requires ∙ seen_length old c.args.self.now c.self.invariant c.self.view_is in
-    let by = keeps_by bits old c.keep_each.new.lists c.keep_each-2.new.lists c.ones-self-inside.result (rw c.as_mut_slice.ensures.value at c.keep_each.ensures) (rw c.as_mut_slice-2.ensures.value at c.keep_each-2.ensures) c.ones-self-inside.ensures in
+    let by = keeps_by bits old c.keep.new.self c.keep_each.new.lists c.ones-self-inside.result c.keep.ensures (rw c.as_mut_slice.ensures.value at c.keep_each.ensures) c.ones-self-inside.ensures in
     keeps_whole bits old _ long by c.self.invariant
 
 pub returns-clause-rows : goal.returns-clause-rows
@@ -32,7 +31,7 @@ returns-clause-rows c =
     let old = c.self.inside in
     let bits = c.args.bits.now.bits in
     let long = c.requires ∙ seen_length old c.args.self.now c.self.invariant c.self.view_is in
-    let by = keeps_by bits old c.keep_each.new.lists c.keep_each-2.new.lists c.ones-self-inside.result (rw c.as_mut_slice.ensures.value at c.keep_each.ensures) (rw c.as_mut_slice-2.ensures.value at c.keep_each-2.ensures) c.ones-self-inside.ensures in
+    let by = keeps_by bits old c.keep.new.self c.keep_each.new.lists c.ones-self-inside.result c.keep.ensures (rw c.as_mut_slice.ensures.value at c.keep_each.ensures) c.ones-self-inside.ensures in
     keeps_rows bits old _ long by ∙ ap (λ (v : BrickRows). items_where_true bits v.rows) c.self.view_is
 
 pub returns-clause-room : goal.returns-clause-room

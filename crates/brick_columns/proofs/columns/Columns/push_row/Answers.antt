@@ -1,14 +1,27 @@
-use Rattle.std.proofs.Common.{◌∷◌, ◌++◌, [], ap, ◌∙◌, arith}
+use Rattle.std.proofs.Common.{◌∷◌, ◌++◌, [], ap, sym, subst, ◌∙◌, ◌<◌, arith}
+use Rattle.std.specs.List.{AllZip}
 use Rattle.brick_columns.specs.Rows.{BrickRow, BrickRows}
-use Rattle.brick_columns.proofs.WholeRows.{row_of, takes_by, takes_rows, takes_whole}
+use Rattle.brick_columns.proofs.WholeRows.{narrow, row_of, takes_by, takes_rows, takes_whole}
 use Rattle.brick_columns.proofs.columns.Columns.push_row.Goals as goal
+
+pub push-requires-clause-room : goal.push-requires-clause-room
+push-requires-clause-room c =
+    let old = c.self.inside in
+    let spare = ap (λ (v : BrickRows). v.spare) c.self.view_is in
+    omega (arith, c.requires.room, c.self.invariant.room, c.self.invariant.long)
+
+pub push-requires-clause-numbers : goal.push-requires-clause-numbers
+push-requires-clause-numbers c =
+    let old = c.self.inside in
+    let below = subst (λ (v : BrickRows). AllZip ◌<◌ c.args.offsets.now v.layout.ranges) (sym c.self.view_is) c.requires.offsets in
+    narrow c.args.offsets.now old.ranges.items old.offsets.widths below c.self.invariant.widths
 
 pub invariant_of-self : goal.invariant_of-self
 invariant_of-self c =
     let old = c.self.inside in
     let row : BrickRow = record { offsets = c.args.offsets.now; metrics = c.args.metrics.now } in
     let is = row_of old c.args.self.now row c.self.view_is c.requires.offsets c.requires.metrics in
-    let by = takes_by row old c.push_each.new.lists c.push_each-2.new.lists is c.self.invariant (rw c.as_mut_slice.ensures.value at c.push_each.ensures) (rw c.as_mut_slice-2.ensures.value at c.push_each-2.ensures) in
+    let by = takes_by row old c.push.new.self c.push_each.new.lists is c.push.ensures (rw c.as_mut_slice.ensures.value at c.push_each.ensures) in
     let spare = ap (λ (v : BrickRows). v.spare) c.self.view_is in
     takes_whole row old _ is (omega (arith, c.requires.room)) by c.self.invariant
 
@@ -17,5 +30,5 @@ returns-clause-rows c =
     let old = c.self.inside in
     let row : BrickRow = record { offsets = c.args.offsets.now; metrics = c.args.metrics.now } in
     let is = row_of old c.args.self.now row c.self.view_is c.requires.offsets c.requires.metrics in
-    let by = takes_by row old c.push_each.new.lists c.push_each-2.new.lists is c.self.invariant (rw c.as_mut_slice.ensures.value at c.push_each.ensures) (rw c.as_mut_slice-2.ensures.value at c.push_each-2.ensures) in
+    let by = takes_by row old c.push.new.self c.push_each.new.lists is c.push.ensures (rw c.as_mut_slice.ensures.value at c.push_each.ensures) in
     takes_rows row old _ is by c.self.invariant ∙ ap (λ (v : BrickRows). v.rows ++ row ∷ []) c.self.view_is

@@ -1,5 +1,0 @@
-use Rattle.std.proofs.Common.{length}
-use Rattle.brick_columns.proofs.tests.+sound_bricks.Given as goal
-
-abbrev pub decreases-sound_bricks : goal.decreases-sound_bricks
-decreases-sound_bricks l = length l.sizes.now

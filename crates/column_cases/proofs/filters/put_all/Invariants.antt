@@ -1,0 +1,5 @@
+use Rattle.std.proofs.Common.{◌≡◌}
+use Rattle.column_cases.proofs.filters.put_all.Given as goal
+
+abbrev pub invariant-rows : goal.invariant-rows
+invariant-rows g l = l.columns.layout ≡ l.initial.columns.layout

@@ -1,0 +1,89 @@
+//! Columns for the tests, and rows that are put to them one by one.
+
+ghost use Rattle.std.specs.Prelude.{◌≡◌, ◌<◌, ◌≤◌, ◌^◌, IfOk, IfSome, IsTrue, All};
+ghost use Rattle.std.specs.List.{AllZip};
+ghost use Rattle.cube_values.specs.Shapes.{bricks_of, IsSoundSize};
+
+use brick_columns::Columns;
+use cube_values::{Shape, Size, Sizes};
+use std::alloc::{AllocError, Global};
+use std::process::Abort;
+
+// The number of bricks, where each size is sound and the bricks are few enough.
+fn sound_bricks(sizes: &[Size]) -> Option<u64>
+    ensures sound { IfSome result (λ n. All IsSoundSize sizes.now) }
+    ensures bricks { IfSome result (λ n. n ≡ bricks_of sizes.now) }
+    ensures most { IfSome result (λ n. n ≤ 2 ^ 62) }
+{
+    let [size, rest @ ..] = sizes else {
+        return Some(1);
+    };
+    let bricks = sound_bricks(rest)?;
+    if size.range == 0 || size.range > size.cardinality {
+        return None;
+    }
+    let ranges = (u64::from(size.cardinality) + u64::from(size.range - 1)) / u64::from(size.range);
+    let product = ranges.checked_mul(bricks)?;
+    if product <= 1 << 62 {
+        Some(product)
+    } else {
+        None
+    }
+}
+
+// Columns for dimensions of one range each.
+pub fn columns_for(
+    rt: &impl Abort,
+    alloc: Global,
+    ranges: &[u32],
+    metrics: u32,
+) -> Result<Columns, AllocError>
+    ensures { IfOk result
+        (λ made. made.layout ≡ record { ranges = ranges.now; metrics = metrics }) }
+{
+    let mut sizes = Vec::new(alloc);
+    for range in ranges {
+        sizes.push(Size {
+            cardinality: *range,
+            range: *range,
+        })?;
+    }
+    let shape = Shape {
+        sizes: Sizes::from_vec(sizes),
+    };
+    assert!(rt; sound_bricks(shape.sizes.as_slice()).is_some());
+    assert!(rt; shape.sizes.len() <= 16);
+    Columns::new(alloc, &shape, metrics)
+}
+
+// Whether there is an offset for each range, below it.
+fn are_below(offsets: &[u32], ranges: &[u32]) -> bool
+    ensures { IsTrue result → AllZip ◌<◌ offsets.now ranges.now }
+{
+    let [offset, offsets_rest @ ..] = offsets else {
+        return ranges.is_empty();
+    };
+    let [range, ranges_rest @ ..] = ranges else {
+        return false;
+    };
+    *offset < *range && are_below(offsets_rest, ranges_rest)
+}
+
+// Puts a row.
+pub fn put(
+    rt: &impl Abort,
+    columns: &mut Columns,
+    ranges: &[u32],
+    metrics: u32,
+    row: (&[u32], &[i64]),
+) -> Result<(), AllocError>
+    requires { columns.old.layout ≡ record { ranges = ranges.now; metrics = metrics } }
+    ensures { columns.new.layout ≡ columns.old.layout }
+{
+    columns.reserve(1)?;
+    let (offsets, values) = row;
+    assert!(rt; are_below(offsets, ranges));
+    assert!(rt; values.len() == metrics as usize);
+    columns.push_row(offsets, values);
+    Ok(())
+}

@@ -1,0 +1,6 @@
+pub mod BitParts
+pub mod HeldRows
+pub mod Numbers
+pub mod RowLists
+pub mod Shifts
+pub mod WordLists

@@ -1,0 +1,72 @@
+use Rattle.std.proofs.Common.{◌≡◌, ◌+◌, ◌*◌, ◌<◌, length, take, drop, get_or, sum, ap, ◌∙◌, arith}
+use Rattle.std.proofs.lemmas.List.{get_or_default}
+use Rattle.std.proofs.lemmas.List.Sums.{sum_by-take-le}
+use Rattle.packed_words.specs.Numbers.{number_of}
+use Rattle.packed_words.specs.Rows.{NumberRows, number_at}
+use Rattle.packed_words.proofs.HeldRows.{seen_length, number_there, number_inside, number_narrow, number_small, rows_fit}
+use Rattle.packed_words.proofs.packed_rows.PackedRows.number.Goals as goal
+
+pub total-start-requires : goal.total-start-requires
+total-start-requires c =
+    let widths = c.self.inside.widths.items in
+    let start = ap (λ ws. sum (take c.args.i ws)) c.as_slice.ensures.value in
+    omega (arith, start, sum_by-take-le (λ x. x) widths c.args.i, c.self.invariant.total, c.self.invariant.few)
+
+pub overflow_mul-row : goal.overflow_mul-row
+overflow_mul-row c =
+    let old = c.self.inside in
+    let long = seen_length old c.args.self.now c.self.view_is in
+    let most = rows_fit old.widths.items old.width old.rows old.room old.bits c.self.invariant c.args.row (omega (arith, c.requires.row)) in
+    omega (arith, most)
+
+pub overflow_add-row : goal.overflow_add-row
+overflow_add-row c =
+    let old = c.self.inside in
+    let long = seen_length old c.args.self.now c.self.view_is in
+    let dims = ap (λ (v : NumberRows). length v.widths) c.self.view_is in
+    let start : c.total-start.result ≡ sum (take c.args.i old.widths.items) = c.total-start.ensures ∙ ap (λ ws. sum (take c.args.i ws)) c.as_slice.ensures.value in
+    let inside = number_inside old.widths.items old.width old.rows old.room old.bits c.self.invariant c.args.row c.args.i (omega (arith, c.requires.row)) (omega (arith, c.requires.number)) in
+    let most = rows_fit old.widths.items old.width old.rows old.room old.bits c.self.invariant old.rows (omega arith) in
+    omega (arith, start, inside, most, c.self.invariant.long)
+
+pub read-requires-clause-within : goal.read-requires-clause-within
+read-requires-clause-within c =
+    let old = c.self.inside in
+    let long = seen_length old c.args.self.now c.self.view_is in
+    let dims = ap (λ (v : NumberRows). length v.widths) c.self.view_is in
+    let there : c.args.i < length old.widths.items = omega (arith, c.requires.number) in
+    let start : c.total-start.result ≡ sum (take c.args.i old.widths.items) = c.total-start.ensures ∙ ap (λ ws. sum (take c.args.i ws)) c.as_slice.ensures.value in
+    let width : c.index.result.now ≡ get_or old.widths.items c.args.i 0 = c.index.ensures ∙ get_or_default old.widths.items c.args.i c.index.result.now 0 there in
+    let inside = number_inside old.widths.items old.width old.rows old.room old.bits c.self.invariant c.args.row c.args.i (omega (arith, c.requires.row)) there in
+    omega (arith, start, width, inside)
+
+pub read-requires-clause-width : goal.read-requires-clause-width
+read-requires-clause-width c =
+    let old = c.self.inside in
+    let dims = ap (λ (v : NumberRows). length v.widths) c.self.view_is in
+    let there : c.args.i < length old.widths.items = omega (arith, c.requires.number) in
+    let width : c.index.result.now ≡ get_or old.widths.items c.args.i 0 = c.index.ensures ∙ get_or_default old.widths.items c.args.i c.index.result.now 0 there in
+    omega (arith, width, number_narrow old.widths.items old.width old.rows old.room old.bits c.self.invariant c.args.i there)
+
+pub overflow_cast-result : goal.overflow_cast-result
+overflow_cast-result c =
+    let old = c.self.inside in
+    let dims = ap (λ (v : NumberRows). length v.widths) c.self.view_is in
+    let there : c.args.i < length old.widths.items = omega (arith, c.requires.number) in
+    let width : c.index.result.now ≡ get_or old.widths.items c.args.i 0 = c.index.ensures ∙ get_or_default old.widths.items c.args.i c.index.result.now 0 there in
+    let narrow = number_narrow old.widths.items old.width old.rows old.room old.bits c.self.invariant c.args.i there in
+    let small = number_small c.index.result.now (c.args.row * old.width + c.total-start.result) old.bits.bits (omega (arith, width, narrow)) in
+    omega (arith, c.read.ensures, small)
+
+pub returns : goal.returns
+returns c =
+    let old = c.self.inside in
+    let long = seen_length old c.args.self.now c.self.view_is in
+    let dims = ap (λ (v : NumberRows). length v.widths) c.self.view_is in
+    let there : c.args.i < length old.widths.items = omega (arith, c.requires.number) in
+    let start : c.total-start.result ≡ sum (take c.args.i old.widths.items) = c.total-start.ensures ∙ ap (λ ws. sum (take c.args.i ws)) c.as_slice.ensures.value in
+    let width : c.index.result.now ≡ get_or old.widths.items c.args.i 0 = c.index.ensures ∙ get_or_default old.widths.items c.args.i c.index.result.now 0 there in
+    c.read.ensures
+    ∙ (λ t. number_of (take (width t) (drop (c.args.row * old.width + start t) old.bits.bits)))
+    ∙ number_there old.widths.items old.width old.rows old.room old.bits c.self.invariant c.args.row c.args.i (omega (arith, c.requires.row)) there
+    ∙ ap (λ (v : NumberRows). number_at v.rows c.args.row c.args.i) c.self.view_is
