@@ -113,7 +113,8 @@ fn can_be_put(
 ) -> bool
     requires order { from ≤ to }
     requires within { to ≤ length batch.now.rows }
-    ensures { IsTrue result → All (LiesFrom (record { ranges = ranges.now; metrics = metrics }) starts.now)
+    ensures { IsTrue result
+        → All (LiesFrom (record { ranges = ranges.now; metrics = metrics }) starts.now)
         (rows_between from to batch.now.rows) }
 {
     'rows: for i in from..to {

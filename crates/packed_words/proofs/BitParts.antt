@@ -1,11 +1,11 @@
 -- Lists of bits in words, as bits are appended, read, copied and cut.
-use Rattle.std.proofs.Common.{◌≡◌, ℕ, ◌+◌, ◌-◌, ◌/◌, ◌%◌, ◌^◌, ◌<◌, ◌≤◌, Bool, false, List, [], ◌++◌, length, take, drop, get_or, min, refl, sym, ap, ◌∙◌, arith, inl, inr}
+use Rattle.std.proofs.Common.{◌≡◌, ℕ, ◌+◌, ◌-◌, ◌^◌, ◌<◌, ◌≤◌, Bool, false, List, [], ◌++◌, length, take, drop, get_or, refl, sym, ap, ◌∙◌, arith, inl, inr}
 use Rattle.std.proofs.lemmas.Bool.{cases_lt}
 use Rattle.std.proofs.lemmas.List.{ext_get_or, append_assoc, length-append, length-take-le, length-drop, get_or_append_left, get_or-append_right, get_or-take, get_or-drop}
 use Rattle.cube_values.specs.BitRows.{has_bit, is_set, bits_of, word_count}
 use Rattle.cube_values.proofs.BitWords.{bits_length, bits_at, bits_are}
 use Rattle.packed_words.specs.Numbers.{number_of, low_bits}
-use Rattle.packed_words.specs.Words.{PackedBits, ArePacked, IsAppended, IsCut}
+use Rattle.packed_words.specs.Words.{ArePacked, IsAppended, IsCut}
 use Rattle.packed_words.proofs.Numbers.{low_length, low_at, number_of_low}
 use Rattle.packed_words.proofs.WordLists.{set_past, appended_front, appended_rest, appended_unused, cut_front, cut_rest}
 

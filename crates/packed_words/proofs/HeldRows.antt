@@ -1,17 +1,17 @@
 -- Rows that packed bits hold, as rows come and go.
-use Rattle.std.proofs.Common.{◌≡◌, ℕ, ◌+◌, ◌-◌, ◌*◌, ◌^◌, ◌<◌, ◌≤◌, suc, Bool, false, List, [], ◌∷◌, ◌++◌, All, length, take, drop, get_or, max, refl, sym, ap, ◌∙◌, arith, suc-mul, add-one, mul-le-mul_right, pow_mono, sum}
-use Rattle.std.specs.List.{AllZip, items_where_true}
-use Rattle.std.proofs.lemmas.List.{length-append, length-take, length-take-le, drop-drop}
+use Rattle.std.proofs.Common.{◌≡◌, ℕ, ◌+◌, ◌*◌, ◌^◌, ◌<◌, ◌≤◌, Bool, false, List, [], ◌∷◌, ◌++◌, length, take, drop, get_or, sym, ap, ◌∙◌, arith, suc-mul, add-one, mul-le-mul_right, pow_mono, sum}
+use Rattle.std.specs.List.{AllZip}
+use Rattle.std.proofs.lemmas.List.{length-append, length-take, drop-drop}
 use Rattle.std.proofs.lemmas.List.Elements.{length_all_zip, All-get_or}
 use Rattle.std.proofs.lemmas.List.Sums.{sum_by_more_le}
 use Rattle.cube_values.specs.BitRows.{has_bit, is_set, bits_of}
 use Rattle.cube_values.proofs.BitWords.{bits_at}
 use Rattle.packed_words.specs.Words.{PackedBits}
-use Rattle.packed_words.specs.Rows.{NumberRows, HasWidth, HoldRows, AreWords, place_of, number_at, row_bits, rows_of_bits}
+use Rattle.packed_words.specs.Rows.{NumberRows, HasWidth, HoldRows, place_of, number_at, row_bits, rows_of_bits}
 use Rattle.packed_words.specs.declared.packed_rows.PackedRows.TheInside.{Inside}
 use Rattle.packed_words.specs.Numbers.{number_of}
 use Rattle.packed_words.proofs.Numbers.{number_below}
-use Rattle.packed_words.proofs.RowLists.{row_at, number_in_row, rows_front, rows_long, row_length, rows_more, rows_taken, number_within, number_bit}
+use Rattle.packed_words.proofs.RowLists.{row_at, number_in_row, rows_long, row_length, rows_more, rows_taken, number_within, number_bit}
 
 -- the rows as contracts see them
 abbrev pub seen : Inside → NumberRows

@@ -1,7 +1,6 @@
 -- Numbers and their bits: each makes the other.
 use Rattle.std.proofs.Common.{◌≡◌, ℕ, ◌+◌, ◌*◌, ◌/◌, ◌%◌, ◌^◌, ◌<◌, ◌==◌, zero, suc, Bool, true, false, List, [], ◌∷◌, length, get_or, refl, sym, ap, ◌∙◌, arith, pow-suc}
-use Rattle.std.specs.Int.{from_bool, bit_at}
-use Rattle.std.proofs.lemmas.Bool.Decides.{nat_tests}
+use Rattle.std.specs.Int.{from_bool}
 use Rattle.std.proofs.lemmas.Nat.Bits.{bit_at_lowest, bit_at-suc}
 use Rattle.cube_values.specs.BitRows.{has_bit}
 use Rattle.packed_words.specs.Numbers.{number_of, low_bits}

@@ -1,8 +1,8 @@
 -- Rows in bits: each is read where it was put.
-use Rattle.std.proofs.Common.{◌≡◌, ℕ, ◌+◌, ◌-◌, ◌*◌, ◌^◌, ◌<◌, ◌≤◌, zero, suc, Bool, true, false, List, [], ◌∷◌, ◌++◌, length, take, drop, get_or, min, refl, sym, ap, ◌∙◌, arith, suc-mul, take-add, add-one, mul-le-mul_right, zero-mul, sum}
+use Rattle.std.proofs.Common.{◌≡◌, ℕ, ◌+◌, ◌-◌, ◌*◌, ◌^◌, ◌<◌, ◌≤◌, zero, suc, Bool, true, false, List, [], ◌∷◌, ◌++◌, length, take, drop, get_or, min, refl, sym, ap, ◌∙◌, arith, suc-mul, add-one, mul-le-mul_right, zero-mul, sum}
 use Rattle.std.specs.List.{AllZip, zip, items_where_true}
 use Rattle.std.proofs.lemmas.Slice.Zip.{length-zip}
-use Rattle.std.proofs.lemmas.List.{length-map, take-append-le, drop-append-le, take_at, drop_at, take_all, take-append-drop, drop-drop, length-drop, length-append, length-take, length-take-le, nil_from_length, append-nil, append_assoc, drop_more, drop_all, get_or-take, get_or-drop}
+use Rattle.std.proofs.lemmas.List.{length-map, take-append-le, drop-append-le, take_at, drop_at, take-append-drop, drop-drop, length-drop, length-append, length-take, length-take-le, nil_from_length, append-nil, append_assoc, drop_more, drop_all, get_or-take, get_or-drop}
 use Rattle.std.proofs.lemmas.List.Sums.{sum_by-cons, sum_by_more_le}
 use Rattle.packed_words.specs.Numbers.{number_of, low_bits}
 use Rattle.cube_values.specs.BitRows.{has_bit}

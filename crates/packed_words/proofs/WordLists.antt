@@ -1,6 +1,5 @@
 -- The bits of a list of words, before and after writes to its words.
-use Rattle.std.proofs.Common.{◌≡◌, ℕ, ◌+◌, ◌-◌, ◌*◌, ◌/◌, ◌%◌, ◌^◌, ◌<◌, ◌≤◌, Bool, false, nat_lt, List, [], ◌∷◌, ◌++◌, length, take, get_or, slice_set, bit_or, if◌then◌else◌, ◌⊎◌, refl, sym, ap, ◌∙◌, arith, inl, inr}
-use Rattle.std.specs.Int.{bit_at}
+use Rattle.std.proofs.Common.{◌≡◌, ℕ, ◌+◌, ◌-◌, ◌*◌, ◌/◌, ◌%◌, ◌^◌, ◌<◌, ◌≤◌, false, List, [], ◌∷◌, ◌++◌, length, take, get_or, slice_set, bit_or, ◌⊎◌, refl, sym, ap, ◌∙◌, arith, inl, inr}
 use Rattle.std.proofs.lemmas.Nat.{pow_pos, mod_below}
 use Rattle.std.proofs.lemmas.Bool.{cases_lt, cases_eq}
 use Rattle.std.proofs.lemmas.Bool.Decides.{nat_tests}
@@ -9,7 +8,7 @@ use lib.ListN.{get_or-eq_default}
 use Rattle.cube_values.specs.BitRows.{has_bit, is_set, word_count}
 use Rattle.cube_values.proofs.BitMasks.{none_set}
 use Rattle.packed_words.specs.Words.{IsAppended, IsReplaced, IsCut}
-use Rattle.packed_words.proofs.Shifts.{shl_below, shl_from, same_test, clear_test, test_of_clear, has_above, has_shr, or_left, or_right, has_low_part}
+use Rattle.packed_words.proofs.Shifts.{shl_below, shl_from, same_test, clear_test, has_above, has_shr, or_left, or_right, has_low_part}
 
 -- a bit by its word
 pub set_at : (words : List ℕ) (at i : ℕ) → i / 64 ≡ at → is_set words i ≡ has_bit (get_or words at 0) (i % 64)

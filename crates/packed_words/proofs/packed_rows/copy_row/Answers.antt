@@ -1,4 +1,4 @@
-use Rattle.std.proofs.Common.{◌*◌, ◌≤◌, arith, mul-le-mul_right}
+use Rattle.std.proofs.Common.{arith, mul-le-mul_right}
 use Rattle.packed_words.proofs.packed_rows.copy_row.Goals as goal
 
 pub overflow_mul-to : goal.overflow_mul-to

@@ -1,4 +1,4 @@
-use Rattle.std.proofs.Common.{◌≡◌, ◌<◌, ◌^◌, All, length, ap, ◌∙◌, arith}
+use Rattle.std.proofs.Common.{◌<◌, ◌^◌, All, length, ap, ◌∙◌, arith}
 use Rattle.std.proofs.lemmas.List.{length-map}
 use Rattle.cube_values.specs.Shapes.{IsSoundSize}
 use Rattle.brick_columns.proofs.WholeRows.{made_rows, made_whole, ranges_small, widths_small, widths_few}

@@ -1,4 +1,4 @@
-use Rattle.std.proofs.Common.{◌≡◌, ◌∷◌, ◌++◌, [], ap, sym, subst, ◌∙◌, ◌<◌, arith}
+use Rattle.std.proofs.Common.{◌∷◌, ◌++◌, [], ap, sym, subst, ◌∙◌, ◌<◌, arith}
 use Rattle.std.specs.List.{AllZip}
 use Rattle.packed_words.specs.Rows.{differences}
 use Rattle.brick_columns.specs.Rows.{BrickRow, BrickRows}

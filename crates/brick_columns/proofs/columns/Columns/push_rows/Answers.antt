@@ -1,6 +1,6 @@
-use Rattle.std.proofs.Common.{◌≡◌, ◌+◌, ◌++◌, ◌∷◌, [], map, sym, subst, ap, append_assoc, ◌∙◌, arith}
+use Rattle.std.proofs.Common.{◌++◌, ◌∷◌, [], sym, ap, append_assoc, ◌∙◌, arith}
 use Rattle.cube_values.specs.Batches.{coded_row_at}
-use Rattle.brick_columns.specs.Rows.{Layout, LiesFrom, row_from}
+use Rattle.brick_columns.specs.Rows.{LiesFrom, row_from}
 use Rattle.brick_columns.proofs.Batches.{mapped_more, one_between}
 use Rattle.brick_columns.proofs.columns.Columns.push_rows.Goals as goal
 

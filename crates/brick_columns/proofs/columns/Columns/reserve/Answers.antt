@@ -1,4 +1,4 @@
-use Rattle.std.proofs.Common.{◌≡◌, ◌+◌, ◌-◌, ◌≤◌, length, refl, ap, ◌∙◌, arith, rules}
+use Rattle.std.proofs.Common.{◌≡◌, ◌+◌, ◌-◌, length, refl, ap, ◌∙◌, arith, rules}
 use Rattle.cube_values.specs.Rooms.{grown_room}
 use Rattle.packed_words.specs.Rows.{NumberRows}
 use Rattle.brick_columns.specs.Rows.{BrickRows}

@@ -1,6 +1,5 @@
 use Rattle.std.proofs.Common.{map, sym, subst, ap, ◌∙◌}
 use Rattle.std.specs.List.{AllZip}
-use Rattle.packed_words.specs.Rows.{AreWords}
 use Rattle.brick_columns.specs.Rows.{BrickRow, BrickRows, IsWidth}
 use Rattle.brick_columns.proofs.WholeRows.{offset_rows, same_widths}
 use Rattle.brick_columns.proofs.columns.Columns.words.Goals as goal

@@ -1,4 +1,4 @@
-use Rattle.std.proofs.Common.{◌≡◌, ◌*◌, length, sym, ap, ◌∙◌, arith, mul-le-mul_right}
+use Rattle.std.proofs.Common.{◌*◌, sym, ap, ◌∙◌, arith, mul-le-mul_right}
 use Rattle.std.specs.List.{items_where_true}
 use Rattle.packed_words.specs.Words.{PackedBits}
 use Rattle.packed_words.specs.Rows.{NumberRows, rows_of_bits}

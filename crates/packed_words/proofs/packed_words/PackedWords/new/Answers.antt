@@ -1,4 +1,3 @@
-use Rattle.std.proofs.Common.{◌∙◌}
 use Rattle.std.specs.Vec.{vec_capacity}
 use Rattle.packed_words.proofs.BitParts.{bits_none, packed_none}
 use Rattle.packed_words.proofs.packed_words.PackedWords.new.Goals as goal

@@ -1,0 +1,48 @@
+use Rattle.std.proofs.Common.{◌≡◌, ◌+◌, ◌<◌, All, IsTrue, length, map, filter, take, sym, ap, ◌∙◌, arith}
+use Rattle.std.specs.List.{items_where_true}
+use Rattle.std.proofs.lemmas.List.{length-map, take_all}
+use Rattle.cube_values.specs.declared.row.CodedRow.{CodedRow}
+use Rattle.agg_fold.specs.Standing.{Gains}
+use Rattle.brick_store.specs.Rows.{span_has_row}
+use Rattle.brick_store.specs.Whole.{row_with_coords}
+use Rattle.brick_store.proofs.Folds.{gains_none, gains_same, gains_row, of_each, filtered_short, room_after}
+use Rattle.brick_store.proofs.scan.fold_rows.Goals as goal
+
+pub fold_row-requires-clause-all : goal.fold_row-requires-clause-all
+fold_row-requires-clause-all c = λ yes.
+    of_each (λ (row : CodedRow). IsTrue (span_has_row c.args.query.now.span row)) c.args.starts.now c.args.columns.now.rows c.rows.row (omega arith) (c.requires.all yes)
+
+pub fold_row-requires-clause-room : goal.fold_row-requires-clause-room
+fold_row-requires-clause-room c =
+    let l = c.rows in
+    let all = map (row_with_coords c.args.starts.now) c.args.columns.now.rows in
+    let test = span_has_row c.args.query.now.span in
+    let short = filtered_short test c.args.bits.now.bits all l.row (omega (arith, length-map c.args.columns.now.rows (row_with_coords c.args.starts.now))) in
+    room_after c.args.query.now (length c.args.columns.now.rows) 1 (filter test (items_where_true (take l.row c.args.bits.now.bits) (take l.row all))) c.args.into.now.groups l.into.groups (omega (arith, short)) c.requires.room l.invariant.gains
+
+pub rows-init : goal.rows-init
+rows-init c = record {
+  gains = gains_none c.args.query.now c.args.into.now.groups;
+  coords = omega (arith, c.in_ok-coords.ensures.len);
+  metrics = omega (arith, c.in_ok-metrics.ensures.len, c.width.ensures);
+}
+
+pub rows-preserved : goal.rows-preserved
+rows-preserved c =
+    let l = c.rows in
+    record {
+      gains = gains_row c.args.query.now c.args.starts.now c.args.bits.now.bits c.args.columns.now.rows l.row c.get.result c.args.into.now.groups l.into.groups c.fold_row.new.into.groups (omega arith) (omega arith) c.get.ensures l.invariant.gains c.in_ok-fold_row.ensures.gains;
+      coords = l.invariant.coords;
+      metrics = l.invariant.metrics;
+    }
+
+pub returns : goal.returns
+returns c =
+    let l = c.rows in
+    let query = c.args.query.now in
+    let bits = c.args.bits.now.bits in
+    let all = map (row_with_coords c.args.starts.now) c.args.columns.now.rows in
+    let long = length-map c.args.columns.now.rows (row_with_coords c.args.starts.now) in
+    gains_same query _ _ c.args.into.now.groups l.into.groups
+    (λ t. filter (span_has_row query.span) (items_where_true (take_all l.row bits (omega arith) t) (take_all l.row all (omega (arith, long)) t)))
+    l.invariant.gains

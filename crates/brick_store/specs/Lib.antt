@@ -1,0 +1,4 @@
+pub mod Bricks
+pub mod Copies
+pub mod Rows
+pub mod Whole
