@@ -1,8 +1,8 @@
 //! Texts that a session knows, with the codes that dictionaries gave them.
 #![tactic(auto)]
 
-mod hints;
 mod known;
+mod short_texts;
 #[cfg(test)]
 mod tests;
 
