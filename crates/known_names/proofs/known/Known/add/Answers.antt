@@ -1,4 +1,4 @@
-use Rattle.std.proofs.Common.{vec_items, subst, sym, ap}
+use Rattle.std.proofs.Common.{vec_items, subst, sym}
 use Rattle.known_names.specs.KnownTexts.{texts_of}
 use Rattle.known_names.specs.Slots.{AreRight}
 use Rattle.known_names.proofs.Entries.{text_added}
