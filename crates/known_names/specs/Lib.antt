@@ -1,1 +1,2 @@
 pub mod KnownTexts
+pub mod Slots

@@ -1,7 +1,7 @@
 //! Texts that a session knows, with the codes that dictionaries gave them.
 #![tactic(auto)]
 
-mod hints;
 mod known;
+mod short_texts;
 
 pub use known::Known;

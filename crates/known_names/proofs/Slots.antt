@@ -1,0 +1,80 @@
+-- Slots that hold short texts with their codes.
+use Rattle.std.proofs.Common.{◌≡◌, ℕ, ◌<◌, true, cond, List, [], ◌∷◌, ◌++◌, length, get_or, set, Some, None, is_some, refl, sym, ap, subst, ◌∙◌, inl, inr, arith}
+use Rattle.std.specs.Cmp.Lexicographic.{bytes_decides}
+use Rattle.std.specs.Str.{bytes_eq}
+use Rattle.std.proofs.lemmas.Bool.{cases_Bool}
+use Rattle.std.proofs.lemmas.List.Elements.{All-get_or, All-nil, All-push, All-set, All-weaker}
+use Rattle.known_names.specs.KnownTexts.{code_of, with_text}
+use Rattle.known_names.specs.Slots.{AreRight, IsRight}
+use Rattle.known_names.specs.declared.short_texts.Slot.{Slot}
+
+pub none_right : (known : List (List ℕ × ℕ)) → AreRight known []
+none_right known = All-nil (IsRight known)
+
+pub free_pushed : (known : List (List ℕ × ℕ)) (slots : List Slot) (slot : Slot) → AreRight known slots
+    → slot.text.items ≡ [] → AreRight known (slots ++ slot ∷ [])
+free_pushed known slots slot right free =
+    All-push (IsRight known) slots slot right (λ some. absurd (omega (arith, some, ap length free)))
+
+pub slot_set : (known : List (List ℕ × ℕ)) (slots : List Slot) (i : ℕ) (slot : Slot) (text : List ℕ) (code : ℕ)
+    → AreRight known slots → slot.text.items ≡ text → slot.code ≡ code → code_of known text ≡ Some code
+    → AreRight known (set slots i slot)
+slot_set known slots i slot text code right is has so =
+    All-set (IsRight known) slots i slot (λ some. ap (code_of known) is ∙ so ∙ sym (ap Some has)) right
+
+-- what is found in a slot is the code
+pub right_code : (known : List (List ℕ × ℕ)) (slots : List Slot) (i : ℕ) (d : Slot) (text : List ℕ)
+    → AreRight known slots → i < length slots → (get_or slots i d).text.items ≡ text → 0 < length text
+    → code_of known text ≡ Some (get_or slots i d).code
+right_code known slots i d text right lt is some =
+    sym (ap (code_of known) is)
+    ∙ All-get_or (IsRight known) slots i d lt right (subst (λ (t : List ℕ). 0 < length t) (sym is) some)
+
+-- ---- a text that is added
+
+after : (known : List (List ℕ × ℕ)) (text other : List ℕ) (code had : ℕ) → code_of known other ≡ Some had
+    → code_of (known ++ (text, code) ∷ []) other ≡ Some had
+after [] text other code had is = absurd cc
+after (e ∷ known) text other code had is = elim (cases_Bool (bytes_eq other e.0)) [
+  | inl same ↦ rw same (rw same at is)
+  | inr differ ↦ rw differ (after known text other code had (rw differ at is))
+]
+
+last : (known : List (List ℕ × ℕ)) (text : List ℕ) (code : ℕ) → code_of known text ≡ None
+    → bytes_eq text text ≡ true → code_of (known ++ (text, code) ∷ []) text ≡ Some code
+last [] text code none same = rw same refl
+last (e ∷ known) text code none same = elim (cases_Bool (bytes_eq text e.0)) [
+  | inl is ↦ let no = rw is at none in absurd cc
+  | inr differ ↦ rw differ (last known text code (rw differ at none) same)
+]
+
+with_new : (known : List (List ℕ × ℕ)) (text : List ℕ) (code : ℕ) → code_of known text ≡ None
+    → with_text known text code ≡ known ++ (text, code) ∷ []
+with_new known text code none = ap (λ o. cond (is_some o) known (known ++ (text, code) ∷ [])) none
+
+-- what is right stays so where a text is added
+pub right_after : (known : List (List ℕ × ℕ)) (text : List ℕ) (code : ℕ) (slots : List Slot)
+    → code_of known text ≡ None → AreRight known slots → AreRight (with_text known text code) slots
+right_after known text code slots none right =
+    subst (λ (k : List (List ℕ × ℕ)). AreRight k slots) (sym (with_new known text code none))
+    (All-weaker (IsRight known) (IsRight (known ++ (text, code) ∷ []))
+    (λ slot h some. after known text slot.text.items code slot.code (h some)) slots right)
+
+-- and the text has its code then
+pub code_then : (known : List (List ℕ × ℕ)) (text : List ℕ) (code : ℕ) → code_of known text ≡ None
+    → bytes_eq text text ≡ true → code_of (with_text known text code) text ≡ Some code
+code_then known text code none same =
+    ap (λ k. code_of k text) (with_new known text code none) ∙ last known text code none same
+
+same_text : (text : List ℕ) → bytes_eq text text ≡ true
+same_text text = (bytes_decides text text).1 refl
+
+-- so the slots are right after a text was added and noted
+pub right_with : (known new : List (List ℕ × ℕ)) (text : List ℕ) (code : ℕ) (before after : List Slot)
+    → code_of known text ≡ None → new ≡ with_text known text code → AreRight known before
+    → ((k : List (List ℕ × ℕ)) → AreRight k before → code_of k text ≡ Some code → AreRight k after)
+    → AreRight new after
+right_with known new text code before after none added right noted =
+    subst (λ (k : List (List ℕ × ℕ)). AreRight k after) (sym added)
+    (noted (with_text known text code) (right_after known text code before none right)
+    (code_then known text code none (same_text text)))
