@@ -1,0 +1,2 @@
+pub mod DictSteps
+pub mod CubeSteps

@@ -1,0 +1,3 @@
+pub mod FinalCodes
+pub mod DictsAsEncoder
+pub mod CodedValues
