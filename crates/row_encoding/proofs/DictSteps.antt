@@ -30,13 +30,13 @@ none_passes : {X : Type 0} (p : X → Bool) (xs : List X) → length xs ≤ posi
 none_passes p [] h = refl
 none_passes p (x ∷ xs) h = none_first p x xs (p x) refl h (none_passes p xs)
 
-same_test : (a b : List ℕ) → bytes_eq a b ≡ bytes_eq b a
+pub same_test : (a b : List ℕ) → bytes_eq a b ≡ bytes_eq b a
 same_test a b = elim (cases_Bool (bytes_eq a b)) [
   | inl same ↦ same ∙ sym ((bytes_eq-Decides b a).1 (sym ((bytes_eq-Decides a b).0 same)))
   | inr other ↦ other ∙ sym (false_from_ne_true (bytes_eq b a) (λ t. true≢false (sym ((bytes_eq-Decides a b).1 (sym ((bytes_eq-Decides b a).0 t))) ∙ other)))
 ]
 
-any_turned : (name : List ℕ) (names : List (List ℕ)) → list_any (λ other. bytes_eq other name) names ≡ list_any (bytes_eq name) names
+pub any_turned : (name : List ℕ) (names : List (List ℕ)) → list_any (λ other. bytes_eq other name) names ≡ list_any (bytes_eq name) names
 any_turned name [] = refl
 any_turned name (other ∷ names) = λ i. same_test other name i || any_turned name names i
 

@@ -1,2 +1,9 @@
 pub mod DictSteps
 pub mod CubeSteps
+pub mod Growing
+pub mod RowCoords
+pub mod CodedFronts
+pub mod InsertRows
+pub mod RecordFields
+pub mod TextNumbers
+pub mod LoadSteps

@@ -20,6 +20,18 @@ FitDims dims values = AllZip (λ dim value. dim_reason dim value ≡ None) dims 
 abbrev pub HaveText : List Value → ℕ → List ℕ → Type 0
 HaveText values place text = slice_get values place ≡ Some (Text text)
 
+abbrev pub IsTextValue : Value → Type 0
+IsTextValue (Text text) = Unit {0}
+IsTextValue (Int n) = ⊥
+
+-- A value is this text of its dimension.
+abbrev pub IsItsText : ℕ → Value → ℕ → List ℕ → Type 0
+IsItsText dim value place text = (place ≡ dim) × (value ≡ Text text)
+
+-- There is a text at this place.
+abbrev pub HasTextAt : List Value → ℕ → Type 0
+HasTextAt values place = (text : List ℕ) × HaveText values place text
+
 -- No dimension of numbers has names.
 abbrev pub NumbersHaveNoNames : Decl → List (List (List ℕ)) → Type 0
 NumbersHaveNoNames d lists =
@@ -32,10 +44,15 @@ IsFinalCoord dim names (Text text) coord = IsFinalNumber dim names text coord
 IsFinalCoord dim names (Int n) (Some coord) = n ≡ pos coord
 IsFinalCoord dim names (Int n) None = ⊥
 
+-- Each coordinate of a text is the place of a name.
+abbrev pub HaveNames : Decl → List (List (List ℕ)) → List ℕ → Type 0
+HaveNames d lists coords =
+    (place : ℕ) → (dim_at d.dims place).text ≡ true → get_or coords place 0 < length (texts_at lists place)
+
 -- Coordinates stand for the values of a row's dimensions: each text has a place, which its coordinate names.
 pub record StandFor (d : Decl) (lists : List (List (List ℕ))) (row : List Value) (coords : List ℕ) : Type 0 where
   pub values : NumbersHaveNoNames d lists → values_for lists coords ≡ row
-  pub names : (k : ℕ) → (dim_at d.dims k).text ≡ true → get_or coords k 0 < length (texts_at lists k)
+  pub names : HaveNames d lists coords
   pub places : text_without_place d.dims lists row ≡ None
 
 -- The text of a row's dimension is its first one that finds no place.

@@ -10,8 +10,8 @@ use cube_schema::Schema;
 use names_dict::Code;
 use std::alloc::AllocError;
 
-/// Dictionaries that texts are given to. Others may give names to them meanwhile: so a contract speaks of
-/// the names that they may end with, and holds for each of these.
+/// Dictionaries that texts are given to. Others may give names to them meanwhile: so a contract
+/// speaks of the names that they may end with, and holds for each of these.
 pub trait Encoder {
     // the names, by cube and dimension, that its dictionaries may end with
     ghost may_end: { Self → List (List (List (List ℕ))) → Type 0 };
@@ -22,7 +22,8 @@ pub trait Encoder {
     // the names that it has or was given, by the places of cube and dimension
     ghost has_name: { Self → ℕ → ℕ → List ℕ → Type 0 };
 
-    /// The code of a text in a dimension of texts of the cube at a place. The error is out of memory.
+    /// The code of a text in a dimension of texts of the cube at a place. The error is out of
+    /// memory.
     fn encode(
         &mut self,
         place: u32,
@@ -34,8 +35,10 @@ pub trait Encoder {
         requires text { (dim_at cube.now.dims dim).text ≡ true }
         requires short { length text.now ≤ TEXT_BYTES }
         ensures code { IfOk result (λ code. InTheEnd (may_end self.new) place (λ lists.
-            IsFinalNumber (dim_at cube.now.dims dim) (texts_at lists dim) text.now (code_number code))) }
+            IsFinalNumber (dim_at cube.now.dims dim) (texts_at lists dim) text.now
+            (code_number code))) }
         ensures inside { IfOk result (λ code.
             IfSome (code_number code) (λ n. n < (dim_at cube.now.dims dim).cardinality)) }
-        ensures grow { Grow may_end suits has_name place cube.now (IsTextOf dim text.now) self.old self.new };
+        ensures grow { Grow may_end suits has_name place cube.now (IsTextOf dim text.now)
+            self.old self.new };
 }

@@ -1,14 +1,13 @@
 //! The values of a row's dimensions as coordinates.
 
-ghost use Rattle.std.specs.Prelude.{◌≡◌, ◌^◌, ◌<◌, ◌≤◌, None, Some, true, length, unsigned_abs, IfOk, IfSome, IfNone};
+ghost use Rattle.std.specs.Prelude.{◌≡◌, ◌<◌, ◌≤◌, None, true, length, pos, IfOk, IfSome, IfNone};
 ghost use Rattle.cube_language.specs.Cubes.{sizes_of};
 ghost use Rattle.cube_language.specs.RowFaults.{coord_reason, dim_reason};
 ghost use Rattle.cube_language.specs.declared.bad_row.TheConstants.{TEXT_BYTES};
-ghost use Rattle.cube_values.specs.declared.value.Value.TheVariants as value;
 ghost use Rattle.brick_address.specs.Addresses.{AreCoords};
 ghost use Rattle.condition_spans.specs.Codes.{texts_at};
-ghost use Rattle.row_encoding.specs.FinalCodes.{dim_at, IsFinalNumber, InTheEnd, IsTextOf, Grow};
-ghost use Rattle.row_encoding.specs.CodedValues.{FitDims, HaveText, IsFinalCoord, AreCodedAs};
+ghost use Rattle.row_encoding.specs.FinalCodes.{dim_at, code_number, IsFinalNumber, InTheEnd, IsTextOf, Grow};
+ghost use Rattle.row_encoding.specs.CodedValues.{FitDims, HaveText, IsTextValue, IsItsText, HasTextAt, IsFinalCoord, AreCodedAs};
 
 use crate::encoder::Encoder;
 use cube_schema::Schema;
@@ -56,7 +55,8 @@ fn coord_of(cardinality: u32, n: i64) -> u32
     n as u32
 }
 
-/// The coordinate of a value that fits its dimension, or None where it is a text that finds no place.
+/// The coordinate of a value that fits its dimension, or None where it is a text that finds no
+/// place.
 fn encode_value<E: Encoder>(
     encoder: &mut E,
     place: u32,
@@ -71,8 +71,8 @@ fn encode_value<E: Encoder>(
         IsFinalCoord (dim_at cube.now.dims dim) (texts_at lists dim) value.now coord)) }
     ensures inside { IfOk result (λ coord.
         IfSome coord (λ c. c < (dim_at cube.now.dims dim).cardinality)) }
-    ensures text { IfOk result (λ coord. IfNone coord (IsText value.now)) }
-    ensures grow { Grow E.may_end E.suits E.has_name place cube.now (IsTextIn dim value.now)
+    ensures text { IfOk result (λ coord. IfNone coord (IsTextValue value.now)) }
+    ensures grow { Grow E.may_end E.suits E.has_name place cube.now (IsItsText dim value.now)
         encoder.old encoder.new }
 {
     match value {
@@ -84,18 +84,19 @@ fn encode_value<E: Encoder>(
     }
 }
 
-/// The place of one of the dimensions in 32 bits.
+/// The place of one of the dimensions in 32 bits. Each has coordinates.
 pub(crate) fn narrow(cube: &Schema, dim: usize) -> u32
     requires { dim < length cube.now.dims }
-    ensures { result ≡ dim }
+    ensures place { result ≡ dim }
+    ensures some { 0 < (dim_at cube.now.dims dim).cardinality }
 {
     let _shape = cube.cube_shape();
     dim as u32
 }
 
-/// Puts the coordinates of the values of a row's dimensions, which fit, into `coords`, and gives their
-/// texts to the dictionaries from left to right. The answer is None, or the first dimension whose text
-/// finds no place; the texts before it keep theirs. The error is out of memory.
+/// Puts the coordinates of the values of a row's dimensions, which fit, into `coords`, and gives
+/// their texts to the dictionaries from left to right. The answer is None, or the first dimension
+/// whose text finds no place; the texts before it keep theirs. The error is out of memory.
 pub fn encode_values<E: Encoder>(
     encoder: &mut E,
     place: u32,
@@ -109,7 +110,7 @@ pub fn encode_values<E: Encoder>(
         AreCodedAs cube.now lists values.now coords.new.items full)) }
     ensures inside { IfOk result (λ full.
         IfNone full (AreCoords (sizes_of cube.now.dims) coords.new.items)) }
-    ensures text { IfOk result (λ full. IfSome full (IsTextAt values.now)) }
+    ensures text { IfOk result (λ full. IfSome full (HasTextAt values.now)) }
     ensures grow { Grow E.may_end E.suits E.has_name place cube.now (HaveText values.now)
         encoder.old encoder.new }
 {
