@@ -1,5 +1,6 @@
 pub mod DictSteps
 pub mod CubeSteps
+pub mod CubeEnds
 pub mod Growing
 pub mod RowCoords
 pub mod CodedFronts

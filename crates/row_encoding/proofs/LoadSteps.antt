@@ -4,7 +4,7 @@ use Rattle.std.specs.Prelude.{filter_map}
 use Rattle.std.specs.List.{cons_option, enumerate_from}
 use Rattle.std.specs.Option.{option_map_or}
 use Rattle.std.proofs.lemmas.List.{append-nil, length-append, length-take, length-map, length_push, map-append, map_push, take_all, take_at, take-append-le}
-use Rattle.std.proofs.lemmas.List.Elements.{All-nil, All-push, Contains-append_left, Contains-append_right, Contains-push, filter_map-append}
+use Rattle.std.proofs.lemmas.List.Elements.{All-nil, All-push, Contains-append_left, Contains-append_right, Contains-get_or, Contains-push, filter_map-append}
 use Rattle.cube_values.specs.Batches.{Batch}
 use Rattle.cube_values.specs.declared.row.CodedRow.{CodedRow}
 use Rattle.cube_values.specs.declared.row.Row.{Row}
@@ -26,16 +26,16 @@ use Rattle.row_encoding.specs.FinalCodes.{Grow, InTheEnd}
 use Rattle.row_encoding.specs.CodedValues.{HaveNames, HaveText, NumbersHaveNoNames}
 use Rattle.row_encoding.specs.CodedInserts.{HasCoords}
 use Rattle.row_encoding.specs.CodedRecords.{IsCodedRecord, ReadRow, RecordHasText, RowStandsFor}
-use Rattle.row_encoding.specs.CodedLoads.{GoesOn, HasEnded, HaveTextAmong, IsFoundRecord, TakesBatch, Tell, final_record, final_records, record_result, records_between, rejections_from, rows_then}
+use Rattle.row_encoding.specs.CodedLoads.{GoesOn, HasEnded, HaveTextAmong, HaveTextLeft, IsFoundRecord, TakesBatch, Tell, final_record, final_records, record_result, records_between, rejections_from, rows_then}
 use Rattle.row_encoding.proofs.Growing.{grow_none, grow_more, grow_wider}
 
 -- ---- which records were taken
 
 pub none_between : (load : LoadState) → records_between load load ≡ []
-none_between load = ap (λ n. take n load.left) (omega arith)
+none_between load = let none : load.number - load.number ≡ 0 = omega arith in ap (λ n. take n load.left) none
 
 pub goes_nowhere : (load : LoadState) → GoesOn load load
-goes_nowhere load = record { cube = refl; count = sym (ap (λ (xs : List RecordFields). load.number + length xs) (none_between load)); left = ap (λ (xs : List RecordFields). xs ++ load.left) (sym (none_between load)) }
+goes_nowhere load = record { cube = refl; count = let l = ap length (none_between load) in omega (arith, l); left = ap (λ (xs : List RecordFields). xs ++ load.left) (sym (none_between load)) }
 
 pub one_between : (start mid new : LoadState) → GoesOn start mid → TakesRecord mid new → records_between start new ≡ records_between start mid ++ new.fields ∷ []
 one_between start mid new goes takes =
@@ -144,6 +144,24 @@ among_last d start mid new goes takes k text h =
           (Contains-append_right (records_between start mid) (new.fields ∷ []) h.fields (subst (λ (xs : List RecordFields). Contains xs h.fields) is h.one));
       here = h.here;
     }
+
+pub text_left : (d : Decl) (old new : LoadState) → TakesRecord old new → (k : ℕ) (text : List ℕ) → RecordHasText d new k text → HaveTextLeft d old k text
+text_left d old new takes k text h =
+    record { fields = new.fields; one = subst (λ (xs : List RecordFields). Contains xs new.fields) (sym takes.next) (Contains-get_or (new.fields ∷ new.left) 0 [] (omega arith)); here = h }
+
+pub left_before : (d : Decl) (start mid : LoadState) → GoesOn start mid → (k : ℕ) (text : List ℕ) → HaveTextAmong d start mid k text → HaveTextLeft d start k text
+left_before d start mid goes k text h = record {
+  fields = h.fields;
+  one = subst (λ (xs : List RecordFields). Contains xs h.fields) (sym goes.left) (Contains-append_left (records_between start mid) mid.left h.fields h.one);
+  here = h.here;
+}
+
+pub left_last : (d : Decl) (start mid : LoadState) → GoesOn start mid → (k : ℕ) (text : List ℕ) → HaveTextLeft d mid k text → HaveTextLeft d start k text
+left_last d start mid goes k text h = record {
+  fields = h.fields;
+  one = subst (λ (xs : List RecordFields). Contains xs h.fields) (sym goes.left) (Contains-append_right (records_between start mid) mid.left h.fields h.one);
+  here = h.here;
+}
 
 -- ---- one record more in a batch
 
@@ -312,6 +330,10 @@ module _ {S : Type 0} (may_end : S → List (List (List (List ℕ))) → Type 0)
       → Grow may_end suits has_name place d (HaveTextAmong d start next) old now
   grown_by_record old mid now load next goes takes first grow =
       grow_more (grow_wider first (among_before d start load next goes takes)) grow (among_last d start load next goes takes)
+
+  pub grown_in_all : (old mid now : S) (load : LoadState) → GoesOn start load → Grow may_end suits has_name place d (HaveTextAmong d start load) old mid
+      → Grow may_end suits has_name place d (HaveTextLeft d load) mid now → Grow may_end suits has_name place d (HaveTextLeft d start) old now
+  grown_in_all old mid now load goes first grow = grow_more (grow_wider first (left_before d start load goes)) grow (left_last d start load goes)
 
   pub row_loaded : (old mid now : S) (load next : LoadState) (bad : BadRecords) (batch after : Batch) (row : CodedRow)
       → IsLoadedFront may_end suits has_name place d allowed start before empty old mid load bad batch → TakesRecord load next

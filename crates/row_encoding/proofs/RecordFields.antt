@@ -20,7 +20,7 @@ use Rattle.csv_load.specs.FileRecords.{RecordFields, columns_fault, dim_value, d
 use Rattle.csv_load.specs.Loads.{AreTexts, LoadState}
 use Rattle.row_encoding.specs.FinalCodes.{dim_at}
 use Rattle.row_encoding.specs.CodedValues.{FitDims, IsFinalCoord}
-use Rattle.row_encoding.specs.CodedRecords.{ReadRow}
+use Rattle.row_encoding.specs.CodedRecords.{ReadRow, value_read}
 use Rattle.row_encoding.proofs.InsertRows.{none_of_both, none_mapped}
 use Rattle.row_encoding.proofs.RowCoords.{short_fits, value_at}
 
@@ -163,3 +163,9 @@ module _ (d : Decl) (load : LoadState) (read : ReadRow d load) where
 
   pub read_long : length (dim_values d.dims load.fields) ≡ length d.dims
   read_long = values_long d.dims load.fields (let w = read.row.width in omega (arith, w))
+
+  pub read_below : (i : ℕ) → i < length d.dims → i < length (dim_values d.dims load.fields)
+  read_below i below = let l = read_long in omega (arith, l, below)
+
+  pub read_at : (k i : ℕ) → k ≡ i → i < length d.dims → value_read d load k ≡ value_at (dim_values d.dims load.fields) i
+  read_at k i is below = sym (read_value k (omega (arith, is, below))) ∙ ap (value_at (dim_values d.dims load.fields)) is

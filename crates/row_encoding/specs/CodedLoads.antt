@@ -102,6 +102,12 @@ HasEnded allowed load bad rows batch_is.Full = (length rows ≡ BATCH_ROWS) × (
 HasEnded allowed load bad rows batch_is.End = (load.left ≡ []) × (bad.count ≤ allowed)
 HasEnded allowed load bad rows batch_is.TooMany = bad.count ≡ allowed + 1
 
+-- One of the records that a load has left has this text in this dimension.
+pub record HaveTextLeft (d : Decl) (load : LoadState) (dim : ℕ) (text : List ℕ) : Type 0 where
+  pub fields : RecordFields
+  pub one : Contains load.left fields
+  pub here : HaveText (dim_values d.dims fields) dim text
+
 -- One of the records that a load took has this text in this dimension.
 pub record HaveTextAmong (d : Decl) (old new : LoadState) (dim : ℕ) (text : List ℕ) : Type 0 where
   pub fields : RecordFields

@@ -4,7 +4,7 @@ use Rattle.std.specs.Prelude.{◌≡◌, ◌⊎◌, ℕ, ◌<◌, ◌≤◌, Lis
 use Rattle.std.specs.List.{AllZip}
 use Rattle.cube_language.specs.declared.decl.Decl.{Decl}
 use Rattle.cube_language.specs.declared.decl.DimDecl.{DimDecl}
-use Rattle.names_dict.specs.Dictionaries.{Dictionary, dictionaries_of, dictionary_at}
+use Rattle.names_dict.specs.Dictionaries.{Dictionary, dictionaries_of, dictionary_at, names_of}
 use Rattle.condition_spans.specs.Codes.{lists_at, texts_at}
 
 -- A dictionary may end with these names: its own stand first, and there are no more than may be.
@@ -31,3 +31,14 @@ Suit cubes place d =
 -- A name stands in a dictionary.
 abbrev pub HasName : List (List Dictionary) → ℕ → ℕ → List ℕ → Type 0
 HasName cubes place dim name = Contains (dictionary_at cubes place dim).names name
+
+-- ---- what holds
+
+-- Dictionaries that are not made suit each declaration.
+abbrev pub NoneSuit : Type 0
+NoneSuit = (place : ℕ) (d : Decl) → Suit [] place d
+
+-- Dictionaries that suit declarations may end with the names that they have.
+abbrev pub MayEndAsTheyAre : Type 0
+MayEndAsTheyAre =
+    (cubes : List (List Dictionary)) → ((place : ℕ) → (d : Decl) × Suit cubes place d) → MayEndWith cubes (names_of cubes)

@@ -3,6 +3,7 @@
 #![tactic(auto)]
 
 mod encoder;
+mod law;
 mod load;
 mod of_dicts;
 mod records;
@@ -11,6 +12,7 @@ mod texts;
 mod values;
 
 pub use encoder::Encoder;
+pub use law::{dictionaries_may_end_as_they_are, dictionaries_that_are_not_made_suit};
 pub use load::{BATCH_ROWS, BadRecords, BatchEnd, load_rows};
 pub use records::encode_record;
 pub use rows::encode_rows;

@@ -1,11 +1,11 @@
 //! The records of a file as rows by coordinates, one batch after the other.
 
-ghost use Rattle.std.specs.Prelude.{◌≡◌, ◌+◌, ◌≤◌, ◌<◌, ◌++◌, [], ◌∷◌, length, All, IfOk, OnOk, OnErr};
+ghost use Rattle.std.specs.Prelude.{◌≡◌, ◌+◌, ◌≤◌, ◌<◌, List, ◌++◌, [], ◌∷◌, length, All, IfOk, OnOk, OnErr};
 ghost use Rattle.cube_journal.specs.declared.reply.Rejection.{Rejection};
 ghost use Rattle.agg_fold.specs.Coded.{coded_row};
 ghost use Rattle.row_encoding.specs.FinalCodes.{InTheEnd, Grow};
 ghost use Rattle.row_encoding.specs.CodedInserts.{HasCoords};
-ghost use Rattle.row_encoding.specs.CodedLoads.{IsTaken, IsFoundRecord, rows_then, GoesOn, Tell, TakesBatch, HasEnded, HaveTextAmong};
+ghost use Rattle.row_encoding.specs.CodedLoads.{IsTaken, IsFoundRecord, rows_then, GoesOn, Tell, TakesBatch, HasEnded, HaveTextAmong, HaveTextLeft};
 
 use crate::encoder::Encoder;
 use crate::records::encode_record;
@@ -98,7 +98,9 @@ fn load_record<E: Encoder>(
         rows_then batch.old.rows (coded_row coords.new.items load.new.metrics) found }) }
     ensures inside { IfOk result (λ found.
         All (HasCoords cube.now) batch.old.rows → All (HasCoords cube.now) batch.new.rows) }
-    ensures grow { OnOk result (Grow E.may_end E.suits E.has_name place cube.now
+    ensures grow { Grow E.may_end E.suits E.has_name place cube.now
+        (HaveTextLeft cube.now load.old) encoder.old encoder.new }
+    ensures given { OnOk result (Grow E.may_end E.suits E.has_name place cube.now
         (HaveTextAmong cube.now load.old load.new) encoder.old encoder.new) }
 {
     match load.step()? {
@@ -136,7 +138,9 @@ pub fn load_rows<E: Encoder>(
         TakesBatch cube.now lists allowed load.old load.new bad.old bad.new batch.new.rows ended)) }
     ensures ended { IfOk result (HasEnded allowed load.new bad.new batch.new.rows) }
     ensures inside { OnOk result (All (HasCoords cube.now) batch.new.rows) }
-    ensures grow { OnOk result (Grow E.may_end E.suits E.has_name place cube.now
+    ensures grow { Grow E.may_end E.suits E.has_name place cube.now
+        (HaveTextLeft cube.now load.old) encoder.old encoder.new }
+    ensures given { OnOk result (Grow E.may_end E.suits E.has_name place cube.now
         (HaveTextAmong cube.now load.old load.new) encoder.old encoder.new) }
     ensures counted { OnOk result (bad.new.count ≤ load.new.number) }
     ensures dims { OnOk result (batch.new.dims ≡ batch.old.dims) }

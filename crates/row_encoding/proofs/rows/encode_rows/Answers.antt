@@ -33,7 +33,7 @@ returns-in-Some-clause-rows g c =
     let at = c.as_slice.ensures ∙ get_or_read c.args.rows.now c.rows.values-index c.values-item.result c.rows-test.true c.values-item.is [] in
     one_row_lacks g.E.Encoder.may_end g.E.Encoder.suits g.E.Encoder.has_name c.args.place c.args.cube.now c.args.rows.now _ c.args.encoder.now c.rows.encoder c.encode_row.new.encoder
     c.rows.batch c.rows.values-index c.in-Some.dim c.as_slice.result.now c.encode_row.new.scratch.coords.items c.in_ok-text_at.field-0 c.rows.invariant c.rows-test.true at
-    (rw c.in-Some.is at c.in_ok-lacking.ensures.coords) (rw (c.as_slice-2.ensures ∙ sym c.as_slice.ensures) at c.in_ok-text_at.ensures) c.encode_row.ensures.grow
+    (rw c.in-Some.is at c.in_ok-lacking.ensures.coords) (rw (c.as_slice-in-Some.ensures ∙ sym c.as_slice.ensures) at c.in_ok-text_at.ensures) c.encode_row.ensures.grow
 
 pub rows-preserved : goal.rows-preserved
 rows-preserved g c =
