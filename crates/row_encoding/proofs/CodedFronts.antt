@@ -1,5 +1,5 @@
 -- The first values of a row, coded: what holds between two of them.
-use Rattle.std.proofs.Common.{◌≡◌, ◌⊎◌, ℕ, ◌+◌, ◌<◌, ◌≤◌, List, [], ◌∷◌, ◌++◌, length, get_or, Option, Some, None, slice_get, refl, sym, ap, ◌∙◌, subst, inl, inr, arith}
+use Rattle.std.proofs.Common.{◌≡◌, ℕ, ◌+◌, ◌<◌, List, [], ◌∷◌, ◌++◌, length, get_or, Some, None, refl, sym, ap, ◌∙◌, subst, inl, inr, arith}
 use Rattle.std.specs.Prelude.{pos}
 use Rattle.std.proofs.lemmas.Bool.{cases_eq}
 use Rattle.std.proofs.lemmas.List.{get_or_append_left, get_or_push, length_push}
@@ -16,7 +16,7 @@ use Rattle.row_encoding.proofs.Growing.{grow_none, grow_more}
 use Rattle.row_encoding.proofs.RowCoords.{are_coords, first_lacks, fit_long, row_stands, value_at}
 
 pub record IsCodedFront {S : Type 0} (may_end : S → List (List (List (List ℕ))) → Type 0) (suits : S → ℕ → Decl → Type 0) (has_name : S → ℕ → ℕ → List ℕ → Type 0)
-  (place : ℕ) (d : Decl) (row : List Value) (old now : S) (coords : List ℕ) (n : ℕ) : Type 0 where
+    (place : ℕ) (d : Decl) (row : List Value) (old now : S) (coords : List ℕ) (n : ℕ) : Type 0 where
   pub long : length coords ≡ n
   pub below : (k : ℕ) → k < n → get_or coords k 0 < (dim_at d.dims k).cardinality
   pub final : (names : List (List (List (List ℕ)))) → may_end now names → (k : ℕ) → k < n
@@ -24,8 +24,7 @@ pub record IsCodedFront {S : Type 0} (may_end : S → List (List (List (List ℕ
   pub grow : Grow may_end suits has_name place d (HaveText row) old now
 
 module _ {S : Type 0} (may_end : S → List (List (List (List ℕ))) → Type 0) (suits : S → ℕ → Decl → Type 0) (has_name : S → ℕ → ℕ → List ℕ → Type 0)
-  (place : ℕ) (d : Decl) (row : List Value) where
-
+    (place : ℕ) (d : Decl) (row : List Value) where
   pub no_value_coded : (now : S) → suits now place d → IsCodedFront may_end suits has_name place d row now now [] 0
   no_value_coded now suit = record {
     long = refl;

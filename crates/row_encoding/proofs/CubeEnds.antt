@@ -1,5 +1,5 @@
 -- Dictionaries that get no more names.
-use Rattle.std.proofs.Common.{◌≡◌, ◌⊎◌, ℕ, ◌<◌, ◌≤◌, zero, suc, List, [], ◌∷◌, length, map, take, get_or, refl, sym, ap, ◌∙◌, subst, inl, inr, arith}
+use Rattle.std.proofs.Common.{◌≡◌, ◌⊎◌, ℕ, ◌<◌, ◌≤◌, zero, suc, List, [], ◌∷◌, length, map, get_or, refl, sym, ap, ◌∙◌, subst, inl, inr, arith}
 use Rattle.std.proofs.lemmas.List.{take_all}
 use Rattle.std.proofs.lemmas.Option.{unwrap_or-slice_get}
 use Rattle.std.specs.List.{AllZip}
@@ -7,7 +7,7 @@ use Rattle.cube_language.specs.declared.decl.Decl.{Decl}
 use Rattle.names_dict.specs.Dictionaries.{Dictionary, dictionaries_of, dictionary_at, dictionary_in, names_of}
 use Rattle.condition_spans.specs.Codes.{lists_at, texts_at}
 use Rattle.row_encoding.specs.FinalCodes.{dim_at}
-use Rattle.row_encoding.specs.DictsAsEncoder.{IsDictionaryOf, MayBecome, MayEndAsTheyAre, NoneSuit, Suit}
+use Rattle.row_encoding.specs.DictsAsEncoder.{IsDictionaryOf, MayBecome, MayEndAsTheyAre, NoneSuit}
 use Rattle.row_encoding.proofs.CubeSteps.{zip_at, zip_length}
 
 pub none_suit : NoneSuit

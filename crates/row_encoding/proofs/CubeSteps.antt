@@ -1,5 +1,5 @@
 -- The dictionaries of all cubes: a name that is encoded lets them grow.
-use Rattle.std.proofs.Common.{◌≡◌, ◌≢◌, ◌⊎◌, ℕ, ◌+◌, ◌-◌, ◌<◌, ◌≤◌, zero, suc, Bool, true, false, cond, List, [], ◌∷◌, ◌++◌, length, map, set, replicate, get_or, Contains, Some, Result, Ok, Err, IfOk, OnErr, nat_lt, slice_get, IfSome, true≢false, refl, sym, ap, ◌∙◌, subst, inl, inr, arith}
+use Rattle.std.proofs.Common.{◌≡◌, ◌≢◌, ◌⊎◌, ℕ, ◌-◌, ◌<◌, ◌≤◌, zero, suc, Bool, true, false, cond, List, [], ◌∷◌, ◌++◌, length, map, set, replicate, get_or, Contains, Some, Result, Ok, Err, IfOk, OnErr, nat_lt, IfSome, true≢false, refl, sym, ap, ◌∙◌, subst, inl, inr, arith}
 use Rattle.std.specs.List.{AllZip}
 use Rattle.std.specs.Option.{option_map}
 use Rattle.std.proofs.lemmas.Bool.{cases_eq, cases_lt, ltb-true, ltb-false}
@@ -12,7 +12,7 @@ use Rattle.cube_language.specs.declared.decl.Decl.{Decl}
 use Rattle.cube_language.specs.declared.decl.DimDecl.{DimDecl}
 use Rattle.cube_schema.specs.Schemas.{cube_of}
 use Rattle.names_dict.specs.declared.code.Code.{Code}
-use Rattle.names_dict.specs.Dictionaries.{Dictionary, IsCodeFor, IsEncoded, IsTextDimension, dictionaries_of, dictionary_at, dictionary_in, empty_dictionaries, encoded_dictionaries, made_dictionaries, with_code, with_dictionaries}
+use Rattle.names_dict.specs.Dictionaries.{Dictionary, IsCodeFor, IsEncoded, IsTextDimension, dictionaries_of, dictionary_at, dictionary_in, empty_dictionaries, encoded_dictionaries, made_dictionaries, with_code}
 use Rattle.condition_spans.specs.Codes.{lists_at, texts_at}
 use Rattle.row_encoding.specs.FinalCodes.{Grow, InTheEnd, IsFinalNumber, IsTextOf, code_number, dim_at}
 use Rattle.row_encoding.specs.DictsAsEncoder.{HasName, IsDictionaryOf, MayBecome, MayEndWith, Suit}
@@ -91,7 +91,6 @@ zip_at R (x ∷ xs) [] i d e h below = absurd h
 zip_at R (x ∷ xs) (y ∷ ys) zero d e h below = h.0
 zip_at R (x ∷ xs) (y ∷ ys) (suc i) d e h below = zip_at R xs ys i d e h.1 (omega (arith, below))
 
-
 zip_set : {A B : Type 0} (R : A → B → Type 0) (xs : List A) (ys : List B) (i : ℕ) (y : B) (d : A) → AllZip R xs ys → R (get_or xs i d) y → AllZip R xs (set ys i y)
 zip_set R [] [] i y d h r = tt
 zip_set R [] (y' ∷ ys) i y d h r = absurd h
@@ -148,8 +147,7 @@ step d place dim name code cubes new suits text code_is new_is =
     }
 
 module _ (d : Decl) (place dim : ℕ) (name : List ℕ) (code : Code) (cubes new : List (List Dictionary)) (made : List Dictionary)
-  (s : IsStep d place dim name code cubes new made) where
-
+    (s : IsStep d place dim name code cubes new made) where
   within : dim < length made
   within = let l = zip_length IsDictionaryOf d.dims made s.fit in let i = text_inside d.dims dim s.text in omega (arith, l, i)
 
@@ -199,9 +197,9 @@ module _ (d : Decl) (place dim : ℕ) (name : List ℕ) (code : Code) (cubes new
       → Contains (dictionary_at cubes place k).names text ⊎ ((place ≡ place) × IsTextOf dim name k text)
   names_here k text h = elim (cases_eq k dim) [
     | inl same ↦ elim (one_more_name (dictionary_in made dim) name code text (subst (λ (D : Dictionary). Contains D.names text) (ap (dictionary_at new place) same ∙ at_dim) h)) [
-        | inl old ↦ inl (s.names k text (subst (λ (j : ℕ). Contains (dictionary_in made j).names text) (sym same) old))
-        | inr is ↦ inr (refl, (same, is))
-      ]
+      | inl old ↦ inl (s.names k text (subst (λ (j : ℕ). Contains (dictionary_in made j).names text) (sym same) old))
+      | inr is ↦ inr (refl, (same, is))
+    ]
     | inr other ↦ inl (s.names k text (subst (λ (D : Dictionary). Contains D.names text) (at_other k other) h))
   ]
 
@@ -238,8 +236,7 @@ module _ (d : Decl) (place dim : ℕ) (name : List ℕ) (code : Code) (cubes new
 -- ---- for the code, where a call gives a code or is out of memory
 
 module _ (d : Decl) (shape : CubeShape) (place dim : ℕ) (name : List ℕ) (cubes new : List (List Dictionary)) (is : shape ≡ cube_of d)
-  (suits : Suit cubes place d) (text : (dim_at d.dims dim).text ≡ true) where
-
+    (suits : Suit cubes place d) (text : (dim_at d.dims dim).text ≡ true) where
   stepped : (code : Code) → IsCodeFor shape cubes place dim name code → IsEncoded shape place dim name cubes new code
       → IsStep d place dim name code cubes new (made_dictionaries (cube_of d) (dictionaries_of cubes place))
   stepped code code_is new_is =

@@ -1,9 +1,9 @@
 -- One dictionary: the number that it gives holds for whatever names it ends with.
-use Rattle.std.proofs.Common.{◌≡◌, ◌⊎◌, ℕ, ◌+◌, ◌<◌, ◌≤◌, Bool, true, false, cond, not, ◌&&◌, ◌||◌, List, [], ◌∷◌, ◌++◌, length, take, get_or, Contains, Option, Some, None, nat_lt, nat_le, slice_get, IfSome, refl, sym, ap, ◌∙◌, subst, inl, inr, arith}
+use Rattle.std.proofs.Common.{◌≡◌, ◌⊎◌, ℕ, ◌+◌, ◌<◌, ◌≤◌, Bool, true, false, cond, not, ◌&&◌, ◌||◌, List, [], ◌∷◌, ◌++◌, length, take, get_or, Contains, Option, Some, None, nat_lt, slice_get, IfSome, refl, sym, ap, ◌∙◌, subst, inl, inr, arith}
 use Rattle.std.specs.List.{position, position_or_len, list_any}
 use Rattle.std.specs.Option.{option_map_or}
 use Rattle.std.specs.Str.{bytes_eq}
-use Rattle.std.proofs.lemmas.Bool.{true≢false, cases_Bool, ltb-true, ltb-false, lt-ltb, le-leb, false_from_ne_true}
+use Rattle.std.proofs.lemmas.Bool.{true≢false, cases_Bool, ltb-true, ltb-false, le-leb, false_from_ne_true}
 use Rattle.std.proofs.lemmas.List.{take_all, take-append-le, take-take, get_or-take, get_or_push, length_push, length-take}
 use Rattle.std.proofs.lemmas.List.Elements.{Contains-push_cases}
 use Rattle.std.proofs.lemmas.List.Quantifiers.{position-Some}
@@ -13,7 +13,7 @@ use Rattle.cube_language.specs.declared.decl.DimDecl.{DimDecl}
 use Rattle.cube_run.specs.LoadedRows.{has_no_place_for}
 use Rattle.names_dict.specs.declared.code.Code.{Code}
 use Rattle.names_dict.specs.declared.code.Code.TheVariants.{Known, Added, Full}
-use Rattle.names_dict.specs.Dictionaries.{Dictionary, number_of, code_of, with_code}
+use Rattle.names_dict.specs.Dictionaries.{Dictionary, code_of, with_code}
 use Rattle.row_encoding.specs.FinalCodes.{code_number, IsFinalNumber}
 use Rattle.row_encoding.specs.DictsAsEncoder.{MayBecome}
 
@@ -114,5 +114,5 @@ became_before D name Full names h = h
 
 pub one_more_name : (D : Dictionary) (name : List ℕ) (code : Code) (text : List ℕ) → Contains (with_code D name code).names text → Contains D.names text ⊎ (text ≡ name)
 one_more_name D name (Known n) text h = inl h
-one_more_name D name (Added n) text h = elim (Contains-push_cases D.names name text h) [ | inl old ↦ inl old | inr same ↦ inr (sym same) ]
+one_more_name D name (Added n) text h = elim (Contains-push_cases D.names name text h) [ inl old ↦ inl old | inr same ↦ inr (sym same) ]
 one_more_name D name Full text h = inl h

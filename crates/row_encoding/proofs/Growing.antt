@@ -1,5 +1,5 @@
 -- Dictionaries that grow in steps.
-use Rattle.std.proofs.Common.{◌≡◌, ◌⊎◌, ℕ, List, inl, inr}
+use Rattle.std.proofs.Common.{ℕ, List, inl, inr}
 use Rattle.cube_language.specs.declared.decl.Decl.{Decl}
 use Rattle.row_encoding.specs.FinalCodes.{Grow}
 

@@ -1,18 +1,18 @@
 -- Rows of an INSERT one after the other.
-use Rattle.std.proofs.Common.{◌≡◌, ◌⊎◌, ℕ, ◌+◌, ◌<◌, ◌≤◌, zero, suc, Bool, true, false, cond, List, [], ◌∷◌, ◌++◌, length, map, take, drop, get_or, All, Contains, Option, Some, None, slice_get, refl, sym, ap, ◌∙◌, subst, inl, inr, arith}
+use Rattle.std.proofs.Common.{◌≡◌, ℕ, ◌+◌, ◌<◌, ◌≤◌, zero, suc, Bool, true, false, cond, List, [], ◌∷◌, ◌++◌, length, map, take, drop, get_or, All, Contains, Option, Some, None, slice_get, refl, sym, ap, ◌∙◌, subst, arith}
 use Rattle.std.specs.Prelude.{ℤ, ◌==◌}
 use Rattle.std.specs.Option.{option_map, option_or}
 use Rattle.std.proofs.lemmas.Bool.{eqb-true}
-use Rattle.std.proofs.lemmas.List.{length-append, length-map, map_push, drop_more, take_more, take_all, take-append-drop, length-take, length-drop, length_push}
+use Rattle.std.proofs.lemmas.List.{length-append, length-map, map_push, drop_more, take_more, take_all, take-append-drop, length_push}
 use Rattle.std.proofs.lemmas.List.Elements.{All-nil, All-push, Contains-get_or}
-use Rattle.std.proofs.lemmas.Option.{none-some, same_Some}
+use Rattle.std.proofs.lemmas.Option.{none-some}
 use Rattle.cube_values.specs.Batches.{Batch}
 use Rattle.cube_values.specs.declared.row.CodedRow.{CodedRow}
 use Rattle.cube_values.specs.declared.value.Value.{Value}
-use Rattle.cube_values.specs.declared.value.Value.TheVariants.{Text, Int}
-use Rattle.cube_language.specs.Columns.{columns_of, column_name}
+use Rattle.cube_values.specs.declared.value.Value.TheVariants.{Text}
+use Rattle.cube_language.specs.Columns.{columns_of}
 use Rattle.cube_language.specs.Cubes.{sizes_of}
-use Rattle.cube_language.specs.RowFaults.{bad_row_from, column_fault, dim_reason, first_bad_row, row_fault, value_reason}
+use Rattle.cube_language.specs.RowFaults.{bad_row_from, column_fault, dim_reason, row_fault}
 use Rattle.cube_language.specs.declared.bad_row.BadRow.{BadRow}
 use Rattle.cube_language.specs.declared.bad_row.BadRow.TheVariants as bad
 use Rattle.cube_language.specs.declared.decl.Column.{Column}
@@ -25,7 +25,7 @@ use Rattle.brick_address.specs.Addresses.{AreCoords}
 use Rattle.condition_spans.specs.Codes.{lists_at}
 use Rattle.row_encoding.specs.FinalCodes.{Grow, InTheEnd}
 use Rattle.row_encoding.specs.CodedValues.{AreCodedAs, FindsNoPlace, FitDims, HaveNames, HaveText, HasTextAt, StandFor}
-use Rattle.row_encoding.specs.CodedInserts.{AreCodedRows, HasCoords, HaveTextIn, RowsStandFor}
+use Rattle.row_encoding.specs.CodedInserts.{HasCoords, HaveTextIn, RowsStandFor}
 use Rattle.row_encoding.proofs.Growing.{grow_none, grow_more, grow_wider}
 
 -- ---- rows that fit
@@ -128,7 +128,7 @@ row_lacks d lists given coded n dim values text there at front lacks is =
 -- ---- between two rows
 
 pub record IsCodedInsert {S : Type 0} (may_end : S → List (List (List (List ℕ))) → Type 0) (suits : S → ℕ → Decl → Type 0) (has_name : S → ℕ → ℕ → List ℕ → Type 0)
-  (place : ℕ) (d : Decl) (given : List (List Value)) (old now : S) (start batch : Batch) (n : ℕ) : Type 0 where
+    (place : ℕ) (d : Decl) (given : List (List Value)) (old now : S) (start batch : Batch) (n : ℕ) : Type 0 where
   pub only : batch ≡ record start { rows = batch.rows }
   pub count : length batch.rows ≡ n
   pub final : InTheEnd (may_end now) place (λ lists. RowsStandFor d lists (take n given) batch.rows)
@@ -136,8 +136,7 @@ pub record IsCodedInsert {S : Type 0} (may_end : S → List (List (List (List �
   pub grow : Grow may_end suits has_name place d (HaveTextIn given) old now
 
 module _ {S : Type 0} (may_end : S → List (List (List (List ℕ))) → Type 0) (suits : S → ℕ → Decl → Type 0) (has_name : S → ℕ → ℕ → List ℕ → Type 0)
-  (place : ℕ) (d : Decl) (given : List (List Value)) (start : Batch) where
-
+    (place : ℕ) (d : Decl) (given : List (List Value)) (start : Batch) where
   pub no_row_coded : (now : S) (batch : Batch) → suits now place d → batch ≡ record start { rows = [] }
       → IsCodedInsert may_end suits has_name place d given now now start batch 0
   no_row_coded now batch suit is =

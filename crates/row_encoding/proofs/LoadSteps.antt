@@ -1,9 +1,8 @@
 -- The records of a load, one after the other.
-use Rattle.std.proofs.Common.{◌≡◌, ◌⊎◌, ℕ, ◌+◌, ◌-◌, ◌<◌, ◌≤◌, zero, suc, List, [], ◌∷◌, ◌++◌, length, map, take, All, Contains, Option, Some, None, Result, Ok, Err, refl, sym, ap, ◌∙◌, subst, inl, inr, arith, append_assoc}
-use Rattle.std.specs.Prelude.{filter_map}
-use Rattle.std.specs.List.{cons_option, enumerate_from}
+use Rattle.std.proofs.Common.{◌≡◌, ℕ, ◌+◌, ◌-◌, ◌<◌, ◌≤◌, zero, suc, List, [], ◌∷◌, ◌++◌, length, map, take, All, Contains, Option, Some, None, Result, Ok, Err, refl, sym, ap, ◌∙◌, subst, arith, append_assoc}
+use Rattle.std.specs.List.{cons_option}
 use Rattle.std.specs.Option.{option_map_or}
-use Rattle.std.proofs.lemmas.List.{append-nil, length-append, length-take, length-map, length_push, map-append, map_push, take_all, take_at, take-append-le}
+use Rattle.std.proofs.lemmas.List.{append-nil, length-take, length-map, length_push, map_push, take_all, take_at, take-append-le}
 use Rattle.std.proofs.lemmas.List.Elements.{All-nil, All-push, Contains-append_left, Contains-append_right, Contains-get_or, Contains-push, filter_map-append}
 use Rattle.cube_values.specs.Batches.{Batch}
 use Rattle.cube_values.specs.declared.row.CodedRow.{CodedRow}
@@ -12,21 +11,19 @@ use Rattle.cube_language.specs.declared.bad_row.BadRow.{BadRow}
 use Rattle.cube_language.specs.declared.decl.Decl.{Decl}
 use Rattle.cube_journal.specs.declared.reply.Rejection.{Rejection}
 use Rattle.cube_run.specs.LoadedRows.{judged_record, records_looked_at, rejection_in, row_in, rows_among}
-use Rattle.cube_run.specs.RunText.{shown_rejections}
 use Rattle.agg_fold.specs.Coded.{row_for}
 use Rattle.condition_spans.specs.Codes.{lists_at}
-use Rattle.csv_load.specs.FileRecords.{RecordFields, dim_values, record_fault, record_row}
-use Rattle.csv_load.specs.Loads.{IsJudged, IsOver, IsRow, IsStep, LoadState, TakesRecord}
+use Rattle.csv_load.specs.FileRecords.{RecordFields, record_fault, record_row}
+use Rattle.csv_load.specs.Loads.{IsOver, IsRow, LoadState, TakesRecord}
 use Rattle.row_encoding.specs.declared.load.BadRecords.{BadRecords}
 use Rattle.row_encoding.specs.declared.load.BatchEnd.TheVariants as batch_is
-use Rattle.row_encoding.specs.declared.load.RecordOutcome.{RecordOutcome}
 use Rattle.row_encoding.specs.declared.load.RecordOutcome.TheVariants as record_is
 use Rattle.row_encoding.specs.declared.load.TheConstants.{BATCH_ROWS}
 use Rattle.row_encoding.specs.FinalCodes.{Grow, InTheEnd}
-use Rattle.row_encoding.specs.CodedValues.{HaveNames, HaveText, NumbersHaveNoNames}
+use Rattle.row_encoding.specs.CodedValues.{HaveNames, NumbersHaveNoNames}
 use Rattle.row_encoding.specs.CodedInserts.{HasCoords}
-use Rattle.row_encoding.specs.CodedRecords.{IsCodedRecord, ReadRow, RecordHasText, RowStandsFor}
-use Rattle.row_encoding.specs.CodedLoads.{GoesOn, HasEnded, HaveTextAmong, HaveTextLeft, IsFoundRecord, TakesBatch, Tell, final_record, final_records, record_result, records_between, rejections_from, rows_then}
+use Rattle.row_encoding.specs.CodedRecords.{IsCodedRecord, ReadRow, RecordHasText}
+use Rattle.row_encoding.specs.CodedLoads.{GoesOn, HaveTextAmong, HaveTextLeft, IsFoundRecord, TakesBatch, Tell, final_record, final_records, record_result, records_between, rejections_from}
 use Rattle.row_encoding.proofs.Growing.{grow_none, grow_more, grow_wider}
 
 -- ---- which records were taken
@@ -41,7 +38,7 @@ pub one_between : (start mid new : LoadState) → GoesOn start mid → TakesReco
 one_between start mid new goes takes =
     let front = records_between start mid in
     let whole : start.left ≡ (front ++ new.fields ∷ []) ++ new.left =
-        goes.left ∙ ap (λ (xs : List RecordFields). front ++ xs) takes.next ∙ sym (append_assoc front (new.fields ∷ []) new.left) in
+    goes.left ∙ ap (λ (xs : List RecordFields). front ++ xs) takes.next ∙ sym (append_assoc front (new.fields ∷ []) new.left) in
     let l = length_push front new.fields in
     ap (take (new.number - start.number)) whole
     ∙ take_at (front ++ new.fields ∷ []) new.left (new.number - start.number) (let c = goes.count in let m = takes.count in omega (arith, l, c, m))
@@ -183,7 +180,6 @@ looked_last m all front rest r why is none h =
     h ∙ (λ i. front ++ records_looked_at (none i) (is i ∷ rest)) ∙ ap (λ (x : Result Row BadRow). front ++ x ∷ []) (sym is) ∙ sym (append-nil (front ++ r ∷ []))
 
 module _ (d : Decl) (lists : List (List (List ℕ))) (allowed : ℕ) (start mid new : LoadState) (before : BadRecords) (goes : GoesOn start mid) (takes : TakesRecord mid new) where
-
   front : List (Result Row BadRow)
   front = final_records d lists (records_between start mid)
 
@@ -204,7 +200,7 @@ module _ (d : Decl) (lists : List (List (List ℕ))) (allowed : ℕ) (start mid 
       ap (rejections_from (start.number + 1)) whole_is
       ∙ rejections_more (start.number + 1) (final_records d lists (records_between start mid)) (final_record d lists new.fields)
       ∙ ap (λ n. rejections_from (start.number + 1) (final_records d lists (records_between start mid)) ++ cons_option (rejection_in (n, final_record d lists new.fields)) [])
-        (let c = goes.count in let m = takes.count in omega (arith, l, c, m))
+      (let c = goes.count in let m = takes.count in omega (arith, l, c, m))
 
   looked_is : (after : BadRecords) (coded : List CodedRow) → TakesBatch d lists allowed start mid before after coded batch_is.Full
       → records_looked_at (allowed - before.count) (final_records d lists start.left)
@@ -296,7 +292,7 @@ batch_none d lists allowed start bad = record {
 
 -- a load that began at `start` goes on in a batch that was `empty`
 pub record IsLoadedFront {S : Type 0} (may_end : S → List (List (List (List ℕ))) → Type 0) (suits : S → ℕ → Decl → Type 0) (has_name : S → ℕ → ℕ → List ℕ → Type 0)
-  (place : ℕ) (d : Decl) (allowed : ℕ) (start : LoadState) (before : BadRecords) (empty : Batch) (old now : S) (load : LoadState) (bad : BadRecords) (batch : Batch) : Type 0 where
+    (place : ℕ) (d : Decl) (allowed : ℕ) (start : LoadState) (before : BadRecords) (empty : Batch) (old now : S) (load : LoadState) (bad : BadRecords) (batch : Batch) : Type 0 where
   pub goes : GoesOn start load
   pub only : batch ≡ record empty { rows = batch.rows }
   pub most : length batch.rows ≤ BATCH_ROWS
@@ -307,8 +303,7 @@ pub record IsLoadedFront {S : Type 0} (may_end : S → List (List (List (List �
   pub grow : Grow may_end suits has_name place d (HaveTextAmong d start load) old now
 
 module _ {S : Type 0} (may_end : S → List (List (List (List ℕ))) → Type 0) (suits : S → ℕ → Decl → Type 0) (has_name : S → ℕ → ℕ → List ℕ → Type 0)
-  (place : ℕ) (d : Decl) (allowed : ℕ) (start : LoadState) (before : BadRecords) (empty : Batch) where
-
+    (place : ℕ) (d : Decl) (allowed : ℕ) (start : LoadState) (before : BadRecords) (empty : Batch) where
   pub load_begins : (now : S) (batch : Batch) → suits now place d → before.count ≤ allowed → before.count ≤ start.number → batch ≡ empty → empty.rows ≡ []
       → IsLoadedFront may_end suits has_name place d allowed start before empty now now start before batch
   load_begins now batch suit few counted is none =

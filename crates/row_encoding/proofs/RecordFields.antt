@@ -1,17 +1,16 @@
 -- The fields of a record that is a row, dimension by dimension.
-use Rattle.std.proofs.Common.{◌≡◌, ◌⊎◌, ℕ, ◌+◌, ◌<◌, ◌≤◌, zero, suc, Bool, true, false, cond, List, [], ◌∷◌, length, drop, get_or, Option, Some, None, Result, Ok, Err, IfOk, IfSome, IfNone, slice_get, true≢false, refl, sym, ap, ◌∙◌, subst, inl, inr, arith}
+use Rattle.std.proofs.Common.{◌≡◌, ℕ, ◌<◌, ◌≤◌, zero, suc, Bool, true, false, cond, List, [], ◌∷◌, length, drop, get_or, Option, Some, None, refl, sym, ap, ◌∙◌, subst, inl, inr, arith}
 use Rattle.std.specs.Prelude.{ℤ, pos, negsuc, unsigned_abs, nat_lt, IsUtf8}
 use Rattle.std.specs.Str.{is_utf8}
-use Rattle.std.specs.Option.{option_map, option_map_or, option_or}
+use Rattle.std.specs.Option.{option_map, option_map_or}
 use Rattle.std.proofs.lemmas.Bool.{cases_Bool, ltb-true}
 use Rattle.std.proofs.lemmas.Option.{none-some}
 use Rattle.cube_values.specs.declared.value.Value.{Value}
 use Rattle.cube_values.specs.declared.value.Value.TheVariants.{Text, Int}
 use Rattle.cube_language.specs.RowFaults.{coord_reason, dim_reason, text_reason}
-use Rattle.cube_language.specs.declared.bad_row.BadRow.{BadRow}
 use Rattle.cube_language.specs.declared.bad_row.BadRow.TheVariants.{WrongCount, Column}
 use Rattle.cube_language.specs.declared.bad_row.Reason.{Reason}
-use Rattle.cube_language.specs.declared.bad_row.Reason.TheVariants.{NotNumber, OutOfRange, NotText, DictionaryFull}
+use Rattle.cube_language.specs.declared.bad_row.Reason.TheVariants.{NotNumber, OutOfRange, NotText}
 use Rattle.cube_language.specs.declared.bad_row.TheConstants.{TEXT_BYTES}
 use Rattle.cube_language.specs.declared.decl.Decl.{Decl}
 use Rattle.cube_language.specs.declared.decl.DimDecl.{DimDecl}
@@ -127,7 +126,6 @@ utf8_field (dim ∷ dims) (field ∷ fields) (suc k) texts below there is = utf8
 -- ---- a record that was read and is a row
 
 module _ (d : Decl) (load : LoadState) (read : ReadRow d load) where
-
   pub read_there : (k : ℕ) → k < length d.dims → k < length load.fields
   read_there k below = let w = read.row.width in omega (arith, w, below)
 

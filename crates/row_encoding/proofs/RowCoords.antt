@@ -1,13 +1,13 @@
 -- A row's values and its coordinates, place by place: what follows for the whole row.
-use Rattle.std.proofs.Common.{◌≡◌, ℕ, ◌+◌, ◌<◌, ◌≤◌, zero, suc, Bool, true, false, cond, not, ◌&&◌, List, [], ◌∷◌, length, map, get_or, All, Option, Some, None, nat_lt, nat_le, slice_get, true≢false, refl, sym, ap, ◌∙◌, subst, arith}
-use Rattle.std.specs.Prelude.{ℤ, pos, negsuc, unwrap_or}
-use Rattle.std.specs.List.{AllZip, list_any}
+use Rattle.std.proofs.Common.{◌≡◌, ℕ, ◌<◌, ◌≤◌, zero, suc, Bool, true, false, cond, not, List, [], ◌∷◌, length, get_or, All, Option, Some, None, nat_lt, nat_le, slice_get, true≢false, refl, sym, ap, ◌∙◌, subst, arith}
+use Rattle.std.specs.Prelude.{ℤ, pos, unwrap_or}
+use Rattle.std.specs.List.{list_any}
 use Rattle.std.specs.Str.{bytes_eq}
 use Rattle.std.proofs.lemmas.Bool.{ltb-false, lt-leb, and_left, and_right, not_from_true}
 use Rattle.std.proofs.lemmas.List.{get_or_read}
 use Rattle.std.proofs.lemmas.List.Elements.{All-head, All-tail}
 use Rattle.std.proofs.lemmas.List.Folds.{list_any_at}
-use Rattle.std.proofs.lemmas.Option.{none-some, slice_get-get_or, slice_get_within, get_or_from_slice_get}
+use Rattle.std.proofs.lemmas.Option.{none-some, slice_get_within, get_or_from_slice_get}
 use Rattle.std.proofs.lemmas.Slice.Eq.{bytes_eq-Decides}
 use Rattle.cube_values.specs.Shapes.{IsSoundSize}
 use Rattle.cube_values.specs.declared.value.Value.{Value}
@@ -24,7 +24,7 @@ use Rattle.agg_fold.specs.Coded.{value_for, values_for}
 use Rattle.brick_address.specs.Addresses.{AreCoords}
 use Rattle.condition_spans.specs.Codes.{texts_at}
 use Rattle.row_encoding.specs.FinalCodes.{dim_at}
-use Rattle.row_encoding.specs.CodedValues.{FitDims, HaveText, IsFinalCoord, NumbersHaveNoNames, StandFor, FindsNoPlace}
+use Rattle.row_encoding.specs.CodedValues.{FitDims, HaveText, IsFinalCoord, StandFor}
 use Rattle.row_encoding.proofs.CubeSteps.{zip_length, zip_at, text_inside}
 
 abbrev pub value_at : List Value → ℕ → Value
@@ -44,8 +44,8 @@ one_less dims lists row coord n dim names v h k below = h (suc k) (omega (arith,
 named_has_place : (dim : DimDecl) (names : List (List ℕ)) (text : List ℕ) (n : ℕ) → slice_get names n ≡ Some text → has_no_place_for dim names text ≡ false
 named_has_place dim names text n at =
     let any : list_any (λ name. bytes_eq name text) names ≡ true =
-        list_any_at (λ name. bytes_eq name text) names n [] (slice_get_within names n text at)
-        ((bytes_eq-Decides (get_or names n []) text).1 (get_or_from_slice_get names n text [] at)) in
+    list_any_at (λ name. bytes_eq name text) names n [] (slice_get_within names n text at)
+    ((bytes_eq-Decides (get_or names n []) text).1 (get_or_from_slice_get names n text [] at)) in
     and_right (nat_le dim.cardinality (length names)) (not (list_any (λ name. bytes_eq name text) names)) (not_from_true _ any)
 
 no_names_have_place : (dim : DimDecl) (text : List ℕ) → 0 < dim.cardinality → has_no_place_for dim [] text ≡ true → ⊥
@@ -162,9 +162,9 @@ row_stands d lists row coords fit long h =
     record {
       values = λ numbers. stand_for lists row coords long (λ k below. other_dim (dim_at d.dims k) (dim_at [] k) (texts_at lists k) (value_at row k) (get_or coords k 0) (h k below))
           (λ k n at.
-            let below : k < length d.dims = let w = slice_get_within row k (Int n) at in omega (arith, w, same) in
-            numbers k below (number_fits (dim_at d.dims k) n
-            (ap (dim_reason (dim_at d.dims k)) (sym (get_or_from_slice_get row k (Int n) (Int (pos 0)) at)) ∙ fits_at d.dims row k fit below)).0);
+          let below : k < length d.dims = let w = slice_get_within row k (Int n) at in omega (arith, w, same) in
+          numbers k below (number_fits (dim_at d.dims k) n
+          (ap (dim_reason (dim_at d.dims k)) (sym (get_or_from_slice_get row k (Int n) (Int (pos 0)) at)) ∙ fits_at d.dims row k fit below)).0);
       names = λ k is.
           let below : k < length d.dims = text_inside d.dims k is in
           text_inside_names (dim_at d.dims k) (value_at row k) (texts_at lists k) (get_or coords k 0) (fits_at d.dims row k fit below) is (h k (omega (arith, below, same)));

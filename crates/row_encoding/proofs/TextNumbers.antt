@@ -1,5 +1,5 @@
 -- The number of a text that a dictionary answers, as its code among the names in the end.
-use Rattle.std.proofs.Common.{◌≡◌, ◌⊎◌, ℕ, ◌+◌, ◌<◌, ◌≤◌, zero, suc, Bool, true, false, cond, not, List, [], ◌∷◌, ◌++◌, length, map, get_or, All, Contains, Option, Some, None, Result, Ok, Err, IfOk, nat_le, slice_get, true≢false, refl, sym, ap, ◌∙◌, subst, inl, inr, arith, append_assoc}
+use Rattle.std.proofs.Common.{◌≡◌, ℕ, ◌+◌, ◌<◌, ◌≤◌, zero, suc, false, cond, not, List, [], ◌∷◌, ◌++◌, length, map, get_or, Contains, Option, Some, None, Result, Ok, Err, IfOk, nat_le, slice_get, refl, sym, ap, ◌∙◌, subst, arith, append_assoc}
 use Rattle.std.specs.Prelude.{filter_map, take}
 use Rattle.std.specs.List.{IsDistinct, flat_map, list_any, position_from}
 use Rattle.std.specs.Str.{bytes_eq}
@@ -12,7 +12,7 @@ use Rattle.std.proofs.lemmas.Option.{none-some, same_Some, slice_get_within, get
 use Rattle.std.proofs.lemmas.Slice.Eq.{bytes_eq-Decides}
 use Rattle.cube_values.specs.declared.operation.Condition.{Condition}
 use Rattle.cube_values.specs.declared.value.Value.{Value}
-use Rattle.cube_values.specs.declared.value.Value.TheVariants.{Text, Int}
+use Rattle.cube_values.specs.declared.value.Value.TheVariants.{Text}
 use Rattle.cube_language.specs.declared.bad_row.TheConstants.{TEXT_BYTES}
 use Rattle.cube_language.specs.declared.decl.DimDecl.{DimDecl}
 use Rattle.condition_spans.specs.CodedConditions.{values_of_test}
@@ -30,7 +30,7 @@ place_found (name ∷ names) text zero start distinct at =
 place_found (name ∷ names) text (suc n) start distinct at =
     let there : n < length names = slice_get_within names n text at in
     let apart : bytes_eq name (get_or names n []) ≡ false =
-        All-get_or (λ (other : List ℕ). bytes_eq name other ≡ false) names n [] there (All-from_recursion (λ (other : List ℕ). bytes_eq name other ≡ false) names (IsDistinct-head bytes_eq name names distinct)) in
+    All-get_or (λ (other : List ℕ). bytes_eq name other ≡ false) names n [] there (All-from_recursion (λ (other : List ℕ). bytes_eq name other ≡ false) names (IsDistinct-head bytes_eq name names distinct)) in
     ap (λ t. cond t (Some start) (position_from (bytes_eq text) (start + 1) names))
     (same_test text name ∙ ap (bytes_eq name) (sym (get_or_from_slice_get names n text [] at)) ∙ apart)
     ∙ place_found names text n (start + 1) (IsDistinct-tail bytes_eq name names distinct) at

@@ -22,7 +22,7 @@ HasCoords d row = AreCoords (sizes_of d.dims) row.coords
 
 -- Coded rows stand for the rows of an INSERT, one for each, and each text has a place.
 pub record RowsStandFor (d : Decl) (lists : List (List (List ℕ))) (given : List (List Value)) (coded : List CodedRow)
-  : Type 0 where
+    : Type 0 where
   pub rows : NumbersHaveNoNames d lists → map (row_for lists) coded ≡ map (row_of_values d) given
   pub names : All (λ row. HaveNames d lists row.coords) coded
   pub places : first_without_place d lists given ≡ None

@@ -85,7 +85,7 @@ looked_at_later allowed records ended = []
 -- A batch of a LOAD that allows so many bad records has the rows among the records that it took, the bad ones among
 -- them are told, and with what is looked at later they are what the LOAD looks at.
 pub record TakesBatch (d : Decl) (lists : List (List (List ℕ))) (allowed : ℕ) (old new : LoadState)
-  (before after : BadRecords) (coded : List CodedRow) (ended : BatchEnd) : Type 0 where
+    (before after : BadRecords) (coded : List CodedRow) (ended : BatchEnd) : Type 0 where
   pub rows : NumbersHaveNoNames d lists
       → map (row_for lists) coded ≡ rows_among (final_records d lists (records_between old new))
   pub names : All (λ row. HaveNames d lists row.coords) coded

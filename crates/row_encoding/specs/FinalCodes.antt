@@ -36,8 +36,8 @@ IsTextOf dim text k other = (k ≡ dim) × (other ≡ text)
 -- Dictionaries grow from one state to another, while texts of the cube at a place are given to them, of which the last
 -- relation tells the dimensions.
 pub record Grow {S : Type 0} (may_end : S → List (List (List (List ℕ))) → Type 0) (suits : S → ℕ → Decl → Type 0)
-  (has_name : S → ℕ → ℕ → List ℕ → Type 0) (place : ℕ) (d : Decl) (IsGiven : ℕ → List ℕ → Type 0) (old new : S)
-  : Type 0 where
+    (has_name : S → ℕ → ℕ → List ℕ → Type 0) (place : ℕ) (d : Decl) (IsGiven : ℕ → List ℕ → Type 0) (old new : S)
+    : Type 0 where
   -- no name is taken back
   pub later : (names : List (List (List (List ℕ)))) → may_end new names → may_end old names
   pub here : suits new place d

@@ -9,7 +9,6 @@ pub fn dictionaries_that_are_not_made_suit()
 {}
 
 /// What is said of the names in the end holds of the names that the last dictionaries have.
-#[tactic(auto, using(crate::proofs::CubeEnds::may_end_as_they_are))]
 pub fn dictionaries_may_end_as_they_are()
     ensures { MayEndAsTheyAre }
 {}

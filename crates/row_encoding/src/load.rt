@@ -94,8 +94,10 @@ fn load_record<E: Encoder>(
     ensures found { IfOk result (λ found. InTheEnd (E.may_end encoder.new) place (λ lists.
         IsFoundRecord cube.now lists load.new.fields
         (coded_row coords.new.items load.new.metrics) found)) }
-    ensures rows { IfOk result (λ found. batch.new ≡ record batch.old { rows =
-        rows_then batch.old.rows (coded_row coords.new.items load.new.metrics) found }) }
+    ensures rows { IfOk result (λ found. batch.new ≡ record batch.old {
+      rows =
+          rows_then batch.old.rows (coded_row coords.new.items load.new.metrics) found;
+    }) }
     ensures inside { IfOk result (λ found.
         All (HasCoords cube.now) batch.old.rows → All (HasCoords cube.now) batch.new.rows) }
     ensures grow { Grow E.may_end E.suits E.has_name place cube.now

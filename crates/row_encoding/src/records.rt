@@ -100,8 +100,10 @@ pub fn encode_record<E: Encoder>(
     ensures row { IfOk result (λ fault. InTheEnd (E.may_end encoder.new) place (λ lists.
         IsCodedRecord cube.now lists (record_row cube.now load.now.fields)
         (coded_row coords.new.items load.now.metrics) fault)) }
-    ensures pushed { IfOk result (λ fault. IfNone fault (batch.new ≡ record batch.old { rows =
-        batch.old.rows ++ coded_row coords.new.items load.now.metrics ∷ [] })) }
+    ensures pushed { IfOk result (λ fault. IfNone fault (batch.new ≡ record batch.old {
+      rows =
+          batch.old.rows ++ coded_row coords.new.items load.now.metrics ∷ [];
+    })) }
     ensures same { IfOk result (λ fault. IfSome fault (λ _. batch.new ≡ batch.old)) }
     ensures err { OnErr result (batch.new ≡ batch.old) }
     ensures inside { IfOk result (λ fault.

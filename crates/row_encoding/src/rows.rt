@@ -74,8 +74,10 @@ fn encode_row<E: Encoder>(
         scratch.new.coords.items full)) }
     ensures metrics { IfOk result (λ full. IfNone full
         (scratch.new.metrics.items ≡ map metric_value (drop (length cube.now.dims) values.now))) }
-    ensures pushed { IfOk result (λ full. IfNone full (batch.new ≡ record batch.old { rows =
-        batch.old.rows ++ coded_row scratch.new.coords.items scratch.new.metrics.items ∷ [] })) }
+    ensures pushed { IfOk result (λ full. IfNone full (batch.new ≡ record batch.old {
+      rows =
+          batch.old.rows ++ coded_row scratch.new.coords.items scratch.new.metrics.items ∷ [];
+    })) }
     ensures same { IfOk result (λ full. IfSome full (λ _. batch.new ≡ batch.old)) }
     ensures err { OnErr result (batch.new ≡ batch.old) }
     ensures inside { IfOk result (λ full.

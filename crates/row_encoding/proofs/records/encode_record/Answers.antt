@@ -1,4 +1,4 @@
-use Rattle.std.proofs.Common.{sym, ◌∙◌, arith}
+use Rattle.std.proofs.Common.{sym, ◌∙◌}
 use Rattle.row_encoding.proofs.RowCoords.{coords_long}
 use Rattle.row_encoding.proofs.records.encode_record.Goals as goal
 

@@ -1,7 +1,5 @@
-use Rattle.std.proofs.Common.{◌≡◌, List, take, length, ap, sym, ◌∙◌}
-use Rattle.cube_values.specs.declared.value.Value.{Value}
+use Rattle.std.proofs.Common.{take, length, ap, sym, ◌∙◌}
 use Rattle.cube_language.specs.declared.decl.Decl.{Decl}
-use Rattle.row_encoding.specs.CodedValues.{FitDims}
 use Rattle.row_encoding.proofs.InsertRows.{fit_dims, front_grow, front_has_text}
 use Rattle.row_encoding.proofs.RowCoords.{coords_long}
 use Rattle.row_encoding.proofs.rows.encode_row.Goals as goal

@@ -1,6 +1,5 @@
-use Rattle.std.proofs.Common.{◌≡◌, List, [], get_or, ap, sym, ◌∙◌}
+use Rattle.std.proofs.Common.{[], ap, sym, ◌∙◌}
 use Rattle.std.proofs.lemmas.List.{get_or_read}
-use Rattle.cube_values.specs.declared.value.Value.{Value}
 use Rattle.cube_language.specs.RowFaults.{row_fault}
 use Rattle.row_encoding.proofs.InsertRows.{grown_by_rows, one_row_coded, one_row_lacks, row_fits}
 use Rattle.row_encoding.proofs.rows.encode_rows.Goals as goal

@@ -1,4 +1,3 @@
-use Rattle.std.proofs.Common.{ap, ◌∙◌}
 use Rattle.row_encoding.proofs.CubeSteps.{is_text_dimension, encoded_final, encoded_inside, encoded_grow}
 use Rattle.row_encoding.proofs.of_dicts.DictsEncoder.encode.Goals as goal
 
