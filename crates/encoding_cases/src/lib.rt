@@ -4,6 +4,8 @@
 #[cfg(test)]
 mod cube;
 #[cfg(test)]
+mod deletions;
+#[cfg(test)]
 mod inserts;
 #[cfg(test)]
 mod loads;
