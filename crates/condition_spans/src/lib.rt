@@ -9,4 +9,5 @@ mod span;
 
 pub use codes::{codes_in, lists_at, narrow};
 pub use grow::append;
+pub use part::values_of_test;
 pub use span::span_for;

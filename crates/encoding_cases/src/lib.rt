@@ -1,0 +1,11 @@
+//! Rows and records by coordinates, worked out by hand, with dictionaries that become full.
+#![tactic(auto)]
+
+#[cfg(test)]
+mod cube;
+#[cfg(test)]
+mod deletions;
+#[cfg(test)]
+mod inserts;
+#[cfg(test)]
+mod loads;

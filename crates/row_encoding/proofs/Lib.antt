@@ -1,0 +1,10 @@
+pub mod DictSteps
+pub mod CubeSteps
+pub mod CubeEnds
+pub mod Growing
+pub mod RowCoords
+pub mod CodedFronts
+pub mod InsertRows
+pub mod RecordFields
+pub mod TextNumbers
+pub mod LoadSteps

@@ -1,0 +1,13 @@
+use Rattle.condition_spans.specs.Codes.{lists_at, texts_at}
+use Rattle.row_encoding.proofs.Growing.{grow_more}
+use Rattle.row_encoding.proofs.TextNumbers.{among_values, one_more_value}
+use Rattle.row_encoding.proofs.texts.append_numbers.Goals as goal
+
+pub values-preserved : goal.values-preserved
+values-preserved g c = record {
+  numbers = λ names end are.
+      one_more_value (texts_at (lists_at names c.args.place) c.args.dim) c.args.values.now c.values.value-index c.value-item.result
+      c.args.numbers.now.items c.values.numbers.items c.append_number.new.numbers.items c.values-test.true c.value-item.is
+      (c.values.invariant.numbers names (c.append_number.ensures.grow.later names end) are) (c.in_ok-append_number.ensures.numbers names end are);
+  grow = grow_more c.values.invariant.grow c.append_number.ensures.grow (among_values c.args.dim c.args.values.now c.values.value-index c.value-item.result c.values-test.true c.value-item.is);
+}

@@ -1,0 +1,27 @@
+//! Dictionaries in one memory give texts their codes.
+
+ghost use Rattle.std.specs.Prelude.{◌≡◌, ℕ, ◌<◌, ◌≤◌, true, List, length, IfOk, IfSome};
+ghost use Rattle.row_encoding.specs.DictsAsEncoder.{MayEndWith, Suit, HasName};
+
+use crate::encoder::Encoder;
+use cube_schema::Schema;
+use names_dict::{Code, Dicts};
+use std::alloc::AllocError;
+
+impl Encoder for Dicts {
+    ghost may_end = { MayEndWith };
+
+    ghost suits = { Suit };
+
+    ghost has_name = { HasName };
+
+    fn encode(
+        &mut self,
+        place: u32,
+        cube: &Schema,
+        dim: u32,
+        text: &str,
+    ) -> Result<Code, AllocError> {
+        Dicts::encode(self, place, dim, cube.cube_shape(), text)
+    }
+}
