@@ -1,6 +1,8 @@
 //! Some thousands of drawn statements over a small cube with a dimension of texts and one of numbers, whose last
 //! range is short: spans and answers against a plain reading of the conditions over values.
 
+ghost use Rattle.query_plan.specs.Bindings.{IsSomeDropPlan};
+
 use crate::cubes::{asks_rows, deletes_rows, names_of_three, statement_of, three_cubes};
 use cube_schema::Schema;
 use cube_values::{
@@ -13,34 +15,31 @@ use std::alloc::{AllocError, Global};
 use std::process::Abort;
 use std::test::*;
 
-/// Numbers that look as if drawn by chance, the same in each run.
+/// Numbers that look as if drawn by chance, the same in each run (the quick generator of Numerical Recipes).
 #[derive(Drop)]
 struct Draws {
-    state: u64,
+    state: u32,
 }
 
 impl Draws {
     /// A number below another.
-    fn below(&mut self, n: u64) -> u64 {
-        self.state = self
-            .state
-            .wrapping_mul(6364136223846793005)
-            .wrapping_add(1442695040888963407);
-        let high = self.state >> 33;
+    fn below(&mut self, n: u32) -> u32 {
+        self.state = self.state.wrapping_mul(1664525).wrapping_add(1013904223);
+        let high = self.state >> 16;
         high.checked_rem(n).unwrap_or(0)
     }
 
     /// A number from -1 to 6.
     fn number(&mut self) -> i64 {
-        self.below(8) as i64 - 1
+        i64::from(self.below(8)) - 1
     }
 }
 
 /// A condition: on `r`, whose text has a number below 3, or on `x`.
 #[derive(Clone, Copy)]
 enum Asked {
-    Is(u64),
-    IsOneOf(u64, u64),
+    Is(u32),
+    IsOneOf(u32, u32),
     Equals(i64),
     IsAmong(i64, i64),
     Lies(i64, i64),
@@ -57,7 +56,7 @@ fn drawn(draws: &mut Draws) -> Asked {
 }
 
 /// Whether a row passes whose `r` is the text of a number, and whose `x` is a number.
-fn passes(asked: Asked, r: u64, x: i64) -> bool {
+fn passes(asked: Asked, r: u32, x: i64) -> bool {
     match asked {
         Asked::Is(a) => r == a,
         Asked::IsOneOf(a, b) => r == a || r == b,
@@ -68,13 +67,11 @@ fn passes(asked: Asked, r: u64, x: i64) -> bool {
 }
 
 fn passes_all(asked: &[Asked], r: u32, x: u32) -> bool {
-    asked
-        .iter()
-        .all(|one| passes(*one, u64::from(r), i64::from(x)))
+    asked.iter().all(|one| passes(*one, r, i64::from(x)))
 }
 
 /// The texts of the cube are a and b; z is none of them.
-fn text_of(number: u64) -> &'static str {
+fn text_of(number: u32) -> &'static str {
     match number {
         0 => "a",
         1 => "b",
@@ -126,7 +123,7 @@ fn has_wanted(span: &Span, asked: &[Asked]) -> bool {
 
 fn row_of(alloc: Global, r: u32, x: u32) -> Result<StoredRow, AllocError> {
     let mut dims = Values::new(alloc);
-    dims.push(Value::Text(Text::new(alloc, text_of(u64::from(r)))?))?;
+    dims.push(Value::Text(Text::new(alloc, text_of(r))?))?;
     dims.push(Value::Int(i64::from(x)))?;
     let mut metrics = Numbers::new(alloc);
     metrics.push(i64::from(r) * 100 - i64::from(x) * 7)?;
@@ -159,7 +156,7 @@ struct Grouping {
     places: &'static [u32],
 }
 
-fn grouping_of(number: u64) -> Grouping {
+fn grouping_of(number: u32) -> Grouping {
     match number {
         0 => Grouping {
             items: "",
@@ -221,6 +218,15 @@ fn query_by_hand(rt: &impl Abort, alloc: Global, places: &[u32]) -> Query {
     grouped(rt, alloc, Coords::from_vec(group), items)
 }
 
+fn select_text(rt: &impl Abort, alloc: Global, asked: &[Asked], by: Grouping) -> String {
+    let conditions = where_text(rt, alloc, asked);
+    let items = by.items;
+    let group = by.clause;
+    format!(in alloc; "SELECT {items}COUNT(*), SUM(m) FROM c{conditions}{group}").expect(
+        rt, "memory",
+    )
+}
+
 fn bound_query(
     rt: &impl Abort,
     alloc: Global,
@@ -233,28 +239,26 @@ fn bound_query(
     bind_select(alloc, &statement, cubes, names).expect(rt, "a query")
 }
 
-fn check_select(
+/// Whether a SELECT of these conditions takes the rows that pass and gives their table.
+fn select_agrees(
     rt: &impl Abort,
     alloc: Global,
     cubes: &[Schema],
     names: &NameLists,
     asked: &[Asked],
     by: Grouping,
-) {
-    let conditions = where_text(rt, alloc, asked);
-    let items = by.items;
-    let group = by.clause;
-    let text = format!(in alloc; "SELECT {items}COUNT(*), SUM(m) FROM c{conditions}{group}").expect(
-        rt, "memory",
-    );
+) -> bool {
+    let text = select_text(rt, alloc, asked, by);
     let bound = bound_query(rt, alloc, cubes, names, text.as_str());
-    assert!(rt; has_wanted(&bound.span, asked), "{text}");
+    if !has_wanted(&bound.span, asked) {
+        return false;
+    }
     let rows = rows_of(rt, alloc, asked);
     let by_places = grouped(rt, alloc, bound.group, bound.items);
     let by_hand = query_by_hand(rt, alloc, by.places);
     let found = table_over(rt, alloc, &by_places, rows.as_slice());
     let wanted = table_over(rt, alloc, &by_hand, rows.as_slice());
-    assert!(rt; found == wanted, "{text}");
+    found == wanted
 }
 
 fn is_on_numbers(asked: Asked) -> bool {
@@ -277,12 +281,8 @@ fn cuts_range(asked: &[Asked]) -> bool {
         || numbers_pass(asked, 2) != numbers_pass(asked, 3)
 }
 
-fn push_code(rt: &impl Abort, codes: &mut Vec<Option<u32>>, number: u64) {
-    let code = if number < 2 {
-        Some(number as u32)
-    } else {
-        None
-    };
+fn push_code(rt: &impl Abort, codes: &mut Vec<Option<u32>>, number: u32) {
+    let code = if number < 2 { Some(number) } else { None };
     codes.push(code).expect(rt, "memory");
 }
 
@@ -302,17 +302,6 @@ fn codes_of(rt: &impl Abort, alloc: Global, asked: &[Asked]) -> Vec<Option<u32>>
     codes
 }
 
-fn bound_deletion(
-    rt: &impl Abort,
-    alloc: Global,
-    cubes: &[Schema],
-    text: &str,
-) -> Result<DropPlan, CallError<BindFault>> {
-    let statement = statement_of(rt, alloc, text);
-    assert!(rt; deletes_rows(&statement));
-    bind_delete(alloc, &statement, cubes)
-}
-
 fn cuts_x(fault: &CallError<BindFault>) -> bool {
     match fault {
         CallError::Fault(
@@ -324,19 +313,33 @@ fn cuts_x(fault: &CallError<BindFault>) -> bool {
     }
 }
 
-fn check_delete(rt: &impl Abort, alloc: Global, cubes: &[Schema], asked: &[Asked]) {
+fn delete_text(rt: &impl Abort, alloc: Global, asked: &[Asked]) -> String {
     let conditions = where_text(rt, alloc, asked);
-    let text = format!(in alloc; "DELETE FROM c{conditions}").expect(rt, "memory");
-    match bound_deletion(rt, alloc, cubes, text.as_str()) {
-        Ok(plan) => {
-            assert!(rt; !cuts_range(asked), "{text}");
-            let codes = codes_of(rt, alloc, asked);
-            let span = span_of(alloc, &plan, cubes, codes.as_slice()).expect(rt, "memory");
-            assert!(rt; has_wanted(&span, asked), "{text}");
-        }
-        Err(fault) => {
-            assert!(rt; cuts_range(asked) && cuts_x(&fault), "{text}");
-        }
+    format!(in alloc; "DELETE FROM c{conditions}").expect(rt, "memory")
+}
+
+fn deletes_wanted(
+    rt: &impl Abort,
+    alloc: Global,
+    plan: &DropPlan,
+    cubes: &[Schema],
+    asked: &[Asked],
+) -> bool
+    requires { IsSomeDropPlan cubes.now plan.now }
+{
+    let codes = codes_of(rt, alloc, asked);
+    let span = span_of(alloc, plan, cubes, codes.as_slice()).expect(rt, "memory");
+    has_wanted(&span, asked)
+}
+
+/// Whether a DELETE of these conditions is refused where it cuts a range, and else drops the rows that pass.
+fn delete_agrees(rt: &impl Abort, alloc: Global, cubes: &[Schema], asked: &[Asked]) -> bool {
+    let text = delete_text(rt, alloc, asked);
+    let statement = statement_of(rt, alloc, text.as_str());
+    assert!(rt; deletes_rows(&statement));
+    match bind_delete(alloc, &statement, cubes) {
+        Ok(plan) => !cuts_range(asked) && deletes_wanted(rt, alloc, &plan, cubes, asked),
+        Err(fault) => cuts_range(asked) && cuts_x(&fault),
     }
 }
 
@@ -352,14 +355,19 @@ fn drawn_conditions(rt: &impl Abort, alloc: Global, draws: &mut Draws) -> Vec<As
 fn drawn_statements(rt: HostRuntime) {
     let alloc = rt.alloc();
     let cubes = three_cubes(&rt, alloc);
+    let cubes = cubes.as_slice();
     let names = names_of_three(&rt, alloc);
     let mut draws = Draws { state: 20 };
     for round in 0..2000 {
         let asked = drawn_conditions(&rt, alloc, &mut draws);
+        let asked = asked.as_slice();
         let by = grouping_of(round % 4);
-        check_select(&rt, alloc, cubes.as_slice(), &names, asked.as_slice(), by);
+        assert!(rt;
+            select_agrees(&rt, alloc, cubes, &names, asked, by),
+            "select {round}"
+        );
         if !asked.is_empty() {
-            check_delete(&rt, alloc, cubes.as_slice(), asked.as_slice());
+            assert!(rt; delete_agrees(&rt, alloc, cubes, asked), "delete {round}");
         }
     }
 }

@@ -8,6 +8,7 @@ ghost use Rattle.cube_language.specs.StatementParts.{conds_of};
 ghost use Rattle.cube_run.specs.LoadedRows.{row_of_values};
 ghost use Rattle.statement_check.specs.OwnParts.{inserted_rows};
 ghost use Rattle.cube_run.specs.RunRecords.{cube_needed};
+ghost use Rattle.condition_spans.specs.Codes.{codes_in, lists_at};
 ghost use Rattle.query_plan.specs.Bindings.{AsksRows, DeletesRows, PutsRows, IsBoundAt, IsUnfitFault, IsBindFault, IsDropPlan, IsSomeDropPlan, IsDropSpan, IsRowPlan, IsQueryOn, IsBoundQuery};
 
 use crate::fault::BindFault;
@@ -18,7 +19,7 @@ use crate::rows::rows_of_values;
 use condition_spans::{codes_in, lists_at, narrow, span_for};
 use cube_language::Statement;
 use cube_schema::Schema;
-use cube_values::{BoundQuery, CallError, Conditions, NameLists, Span};
+use cube_values::{BoundQuery, CallError, Condition, Conditions, NameLists, Span};
 use statement_check::{check_statement, conds_of, group_of, inserted_rows, items_of};
 use std::alloc::{AllocError, Global};
 
@@ -154,6 +155,19 @@ pub fn bind_rows(
     Ok(row_plan(alloc, place, &cubes[place as usize], statement)?)
 }
 
+/// The codes of the texts of conditions on the cube at a place.
+fn codes_on(
+    alloc: Global,
+    names: &NameLists,
+    place: u32,
+    conditions: &[Condition],
+) -> Result<Vec<Option<u32>>, AllocError>
+    ensures { IfOk result (λ codes. codes.items
+        ≡ codes_in (lists_at names.now place) conditions.now) }
+{
+    codes_in(alloc, lists_at(names, place), conditions)
+}
+
 /// The query of a statement on the cube at a place.
 fn query_on(
     alloc: Global,
@@ -167,7 +181,7 @@ fn query_on(
     ensures query { IfOk result (IsQueryOn cube.now names.now statement.now) }
 {
     let conditions = conditions_on(alloc, cube, statement)?;
-    let codes = codes_in(alloc, lists_at(names, place), conditions.as_slice())?;
+    let codes = codes_on(alloc, names, place, conditions.as_slice())?;
     let span = span_for(
         alloc,
         shape_of(cube),

@@ -1,7 +1,7 @@
 use Rattle.std.proofs.Common.{ap, sym, ◌∙◌}
 use Rattle.std.specs.Prelude.{filter_map}
 use Rattle.cube_language.specs.ResolvedNames.{dim_place, resolved_item}
-use Rattle.condition_spans.specs.Codes.{codes_in}
+use Rattle.condition_spans.specs.Codes.{codes_in, lists_at}
 use Rattle.query_plan.proofs.Plans.{all_within, made_by, query_on_from}
 use Rattle.query_plan.proofs.bind.query_on.Goals as goal
 
@@ -21,7 +21,7 @@ returns-clause-query c =
     codes conditions c.requires
     (c.as_slice-2.ensures ∙ c.in_ok-conditions.ensures.are)
     (c.as_slice-3.ensures.value ∙ c.in_ok-codes.ensures
-    ∙ (λ i. codes_in (c.lists_at.ensures i) ((c.as_slice.ensures ∙ sym c.as_slice-2.ensures) i)))
+    ∙ ap (codes_in (lists_at c.args.names.now c.args.place)) (c.as_slice.ensures ∙ sym c.as_slice-2.ensures))
     (made_by cube c.shape_of.result.now codes conditions span c.shape_of.ensures.shape (record {
       has = c.in_ok-span.ensures.span;
       are = c.in_ok-span.ensures.parts;
