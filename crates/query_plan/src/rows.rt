@@ -1,6 +1,6 @@
 //! The rows of an INSERT.
 
-ghost use Rattle.std.specs.Prelude.{◌≡◌, length, map, IfOk};
+ghost use Rattle.std.specs.Prelude.{◌≡◌, map, IfOk};
 ghost use Rattle.cube_run.specs.LoadedRows.{metric_value, row_of_values};
 
 use cube_language::Decl;

@@ -75,7 +75,7 @@ fn resolved_keys(
 
 /// What a SELECT asks of the lines of its table: each test of HAVING and each key of ORDER BY by the place of
 /// the first item that is the same, and the limit. Of a statement that `bind_select` binds each has its
-/// place. Every other statement asks for nothing.
+/// place, as `bindings_have_all_parts` says. Every other statement asks for nothing.
 pub fn bind_top(alloc: Global, statement: &Statement) -> Result<TopPlan, AllocError>
     ensures { IfOk result (λ plan. plan ≡ resolved_plan statement.now) }
 {
