@@ -1,5 +1,5 @@
 -- A brick stays whole as rows are appended and taken out.
-use Rattle.std.proofs.Common.{◌≡◌, ℕ, ◌+◌, ◌<◌, ◌≤◌, Bool, true, false, List, [], ◌∷◌, ◌++◌, All, length, map, refl, sym, ap, subst, ◌∙◌, arith, ◌-◌, ◌^◌, cond, Vec, Global}
+use Rattle.std.proofs.Common.{◌≡◌, ℕ, ◌+◌, ◌<◌, ◌≤◌, Bool, true, false, List, [], ◌∷◌, ◌++◌, All, length, map, refl, sym, ap, subst, ◌∙◌, arith, ◌^◌, cond, Vec, Global}
 use Rattle.std.specs.List.{items_where_true}
 use Rattle.std.proofs.lemmas.List.{length-map, map-append}
 use Rattle.std.proofs.lemmas.List.Elements.{All-append, All-nil, All-weaker}
@@ -9,15 +9,14 @@ use Rattle.cube_values.specs.Shapes.{IsSoundSize, IsSoundShape, bricks_of}
 use Rattle.cube_values.specs.declared.shape.Shape.{Shape}
 use Rattle.cube_values.specs.declared.row.CodedRow.{CodedRow}
 use Rattle.cube_values.specs.BitRows.{BitRows}
-use Rattle.cube_values.specs.EpochsVector.{IsVector, rows_of, vector_with_entry}
+use Rattle.cube_values.specs.EpochsVector.{IsVector, rows_of}
 use Rattle.cube_values.specs.declared.entry.Entry.{Entry}
 use Rattle.purge_plan.specs.Purged.{is_spared, spared_bits}
 use Rattle.std.proofs.lemmas.List.FromFn.{length-map-range_with_len}
-use Rattle.cube_values.specs.declared.entry.Entry.TheVariants.{Run, Mark}
 use Rattle.epochs_vector.specs.Entries.{Vector}
-use Rattle.epochs_vector.proofs.Ends.{vector_rows, vector_more}
+use Rattle.epochs_vector.proofs.Ends.{vector_rows}
 use Rattle.brick_columns.specs.Rows.{BrickRow, BrickRows, Layout, LiesFrom, row_from, layout_of}
-use Rattle.brick_columns.proofs.KeptItems.{kept_all, kept_length, kept_map}
+use Rattle.brick_columns.proofs.KeptItems.{kept_all, kept_map}
 use Rattle.brick_store.specs.Bricks.{Home, BrickState, IsRowOf}
 use Rattle.brick_store.specs.Whole.{starts_of, row_with_coords, home_in, contract_view, IsWhole}
 use Rattle.brick_store.specs.declared.brick.Brick.TheInside.{Inside}

@@ -1,6 +1,6 @@
 -- The coordinates of a row, one after another.
-use Rattle.std.proofs.Common.{◌≡◌, ℕ, ◌+◌, ◌^◌, ◌<◌, zero, suc, List, [], ◌∷◌, ◌++◌, All, length, map, take, set, get_or, min, refl, sym, ap, ◌∙◌, arith}
-use Rattle.std.specs.List.{AllZip, zip}
+use Rattle.std.proofs.Common.{◌≡◌, ℕ, ◌+◌, ◌<◌, zero, suc, List, [], ◌∷◌, ◌++◌, length, take, set, get_or, min, refl, sym, ◌∙◌, arith}
+use Rattle.std.specs.List.{zip}
 use Rattle.std.proofs.lemmas.List.{length-map, take_more, take_more_set}
 use Rattle.std.proofs.lemmas.Slice.Zip.{length-zip}
 use Rattle.brick_store.specs.Whole.{coords_from}

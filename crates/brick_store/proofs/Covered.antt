@@ -1,5 +1,5 @@
 -- Rows of a brick that a span has whole, or of which it has nothing.
-use Rattle.std.proofs.Common.{◌≡◌, ℕ, Bool, false, List, [], All, IsTrue, filter, subst, sym, ap}
+use Rattle.std.proofs.Common.{◌≡◌, Bool, false, List, [], All, IsTrue, filter, subst}
 use Rattle.std.specs.List.{items_where_true}
 use Rattle.std.proofs.lemmas.List.Elements.{All-weaker}
 use Rattle.cube_values.specs.declared.row.CodedRow.{CodedRow}

@@ -1,8 +1,10 @@
 -- Rows that a partial gains one after another.
-use Rattle.std.proofs.Common.{◌≡◌, ℕ, ◌+◌, ◌<◌, ◌≤◌, Bool, true, false, List, [], ◌∷◌, ◌++◌, All, IsTrue, length, map, take, drop, filter, get_or, cond, zero, suc, add-one, refl, sym, ap, subst, ◌∙◌, arith}
+use Rattle.std.proofs.Common.{◌≡◌, ℕ, ◌+◌, ◌<◌, ◌≤◌, Bool, true, false, List, [], ◌∷◌, ◌++◌, All, length, map, take, filter, get_or, cond, zero, suc, add-one, refl, sym, ap, subst, ◌∙◌, arith}
 use Rattle.std.specs.List.{items_where_true}
 use Rattle.std.proofs.lemmas.List.{append-nil, append_assoc, length-append, length-take-le, length-map, get_or-map}
 use Rattle.std.proofs.lemmas.List.Elements.{All-head, All-tail, All-get_or, filter-append}
+use Rattle.std.proofs.lemmas.List.Sums.{sum_by-cons}
+use Rattle.cube_values.specs.BitRows.{set_bits}
 use Rattle.cube_values.specs.declared.query.BoundQuery.{BoundQuery}
 use Rattle.cube_values.specs.declared.row.CodedRow.{CodedRow}
 use Rattle.agg_fold.specs.declared.groups.Groups.{Groups}
@@ -92,3 +94,14 @@ gains_row query starts bits rows i seen g h k p q e before now =
     let more = folded_more test bits all i d p (omega (arith, length-map rows (row_with_coords starts))) in
     gains_same query _ _ g k (ap (λ l. filter test (items_where_true (take i bits) (take i all)) ++ filter test l) same ∙ sym more)
     (gains_more query (filter test (items_where_true (take i bits) (take i all))) (filter test (cond seen (row_with_coords starts (row_at rows i) ∷ []) [])) g h k before now)
+
+-- where no bit is set, there is nothing
+pub none_set : {A : Type 0} (bits : List Bool) (xs : List A) → set_bits bits ≡ 0 → items_where_true bits xs ≡ []
+none_set [] xs h = refl
+none_set (b ∷ bits) [] h = refl
+none_set (true ∷ bits) (x ∷ xs) h =
+    let ones = sum_by-cons (λ b. cond b 1 0) true bits in
+    absurd (omega (arith, h, ones))
+none_set (false ∷ bits) (x ∷ xs) h =
+    let ones = sum_by-cons (λ b. cond b 1 0) false bits in
+    none_set bits xs (omega (arith, h, ones))

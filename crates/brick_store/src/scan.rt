@@ -16,7 +16,7 @@ use cube_values::{Bits, BoundQuery};
 use std::alloc::{AllocError, Global};
 
 /// Adds the rows whose bit is set and that the query's span has. It is asked of each row, unless the span
-/// has all.
+/// has all. Where no bit is set, no row is looked at.
 pub fn fold_rows(
     alloc: Global,
     columns: &Columns,
@@ -37,6 +37,9 @@ pub fn fold_rows(
         (items_where_true bits.now.bits (map (row_with_coords starts.now) columns.now.rows)))
         into.old.groups into.new.groups) }
 {
+    if bits.ones() == 0 {
+        return Ok(());
+    }
     let mut coords = vec![in alloc; 0; starts.len()]?;
     let mut metrics = vec![in alloc; 0; columns.width()]?;
     'rows: for row in 0..columns.len() {

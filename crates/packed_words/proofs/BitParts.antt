@@ -4,7 +4,7 @@ use Rattle.std.proofs.lemmas.Bool.{cases_lt}
 use Rattle.std.proofs.lemmas.List.{ext_get_or, append_assoc, length-append, length-take-le, length-drop, get_or_append_left, get_or-append_right, get_or-take, get_or-drop}
 use Rattle.cube_values.specs.BitRows.{has_bit, is_set, bits_of, word_count}
 use Rattle.cube_values.proofs.BitWords.{bits_length, bits_at, bits_are}
-use Rattle.packed_words.specs.Numbers.{number_of, low_bits}
+use Rattle.packed_words.specs.Numbers.{number_of_bits, low_bits}
 use Rattle.packed_words.specs.Words.{ArePacked, IsAppended, IsCut}
 use Rattle.packed_words.proofs.Numbers.{low_length, low_at, number_of_low}
 use Rattle.packed_words.proofs.WordLists.{set_past, appended_front, appended_rest, appended_unused, cut_front, cut_rest}
@@ -53,9 +53,9 @@ packed_appended old new len value width room before after p c a f l e = record {
 }
 
 -- a number that is read
-pub number_read : (words : List ℕ) (len place width n : ℕ) → place + width ≤ len → n < 2 ^ width → ((k : ℕ) → k < width → has_bit n k ≡ is_set words (place + k)) → n ≡ number_of (take width (drop place (bits_of words len)))
+pub number_read : (words : List ℕ) (len place width n : ℕ) → place + width ≤ len → n < 2 ^ width → ((k : ℕ) → k < width → has_bit n k ≡ is_set words (place + k)) → n ≡ number_of_bits (take width (drop place (bits_of words len)))
 number_read words len place width n l f h =
-    sym (number_of_low width n f) ∙ ap number_of (ext_get_or false (low_bits width n) part (low_length width n ∙ sym long) each) where
+    sym (number_of_low width n f) ∙ ap number_of_bits (ext_get_or false (low_bits width n) part (low_length width n ∙ sym long) each) where
       whole : length (bits_of words len) ≡ len
       whole = bits_length words len
 

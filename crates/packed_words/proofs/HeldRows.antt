@@ -7,9 +7,9 @@ use Rattle.std.proofs.lemmas.List.Sums.{sum_by_more_le}
 use Rattle.cube_values.specs.BitRows.{has_bit, is_set, bits_of}
 use Rattle.cube_values.proofs.BitWords.{bits_at}
 use Rattle.packed_words.specs.Words.{PackedBits}
-use Rattle.packed_words.specs.Rows.{NumberRows, HasWidth, HoldRows, place_of, number_at, row_bits, rows_of_bits}
+use Rattle.packed_words.specs.Rows.{NumberRows, HasWidth, HoldRows, lowest_bit_of, number_in_rows, row_bits, rows_of_bits}
 use Rattle.packed_words.specs.declared.packed_rows.PackedRows.TheInside.{Inside}
-use Rattle.packed_words.specs.Numbers.{number_of}
+use Rattle.packed_words.specs.Numbers.{number_of_bits}
 use Rattle.packed_words.proofs.Numbers.{number_below}
 use Rattle.packed_words.proofs.RowLists.{row_at, number_in_row, rows_long, row_length, rows_more, rows_taken, number_within, number_bit}
 
@@ -55,20 +55,20 @@ module _ (widths : List ℕ) (width rows room : ℕ) (packed : PackedBits) (h : 
   rows_within n l = omega (arith, h.long, mul-le-mul_right width l)
 
   -- the words of the bits
-  pub words_of : (words : List ℕ) → bits_of words (length packed.bits) ≡ packed.bits → (t i k : ℕ) → t < rows → i < length widths → k < get_or widths i 0 → is_set words (place_of widths t i + k) ≡ has_bit (number_at (rows_of_bits widths rows packed.bits) t i) k
+  pub words_of : (words : List ℕ) → bits_of words (length packed.bits) ≡ packed.bits → (t i k : ℕ) → t < rows → i < length widths → k < get_or widths i 0 → is_set words (lowest_bit_of widths t i + k) ≡ has_bit (number_in_rows (rows_of_bits widths rows packed.bits) t i) k
   words_of words e t i k ht hi hk =
-      let place : ℕ = place_of widths t i + k in
+      let place : ℕ = lowest_bit_of widths t i + k in
       let inside : place < length packed.bits = omega (arith, long_rows, number_within widths t i k rows ht hi hk) in
       sym (bits_at words (length packed.bits) place false inside)
       ∙ ap (λ bits. get_or bits place false) e
       ∙ number_bit widths rows t i k packed.bits long_rows ht hi hk
 
   -- a number that is read
-  pub number_there : (t i : ℕ) → t < rows → i < length widths → number_of (take (get_or widths i 0) (drop (t * width + sum (take i widths)) packed.bits)) ≡ number_at (rows_of_bits widths rows packed.bits) t i
+  pub number_there : (t i : ℕ) → t < rows → i < length widths → number_of_bits (take (get_or widths i 0) (drop (t * width + sum (take i widths)) packed.bits)) ≡ number_in_rows (rows_of_bits widths rows packed.bits) t i
   number_there t i ht hi =
       let place = ap (λ w. t * w + sum (take i widths)) h.total in
-      ap (λ n. number_of (take (get_or widths i 0) (drop n packed.bits))) place
-      ∙ ap (λ bits. number_of (take (get_or widths i 0) bits)) (sym (drop-drop (sum (take i widths)) (t * sum widths) packed.bits))
+      ap (λ n. number_of_bits (take (get_or widths i 0) (drop n packed.bits))) place
+      ∙ ap (λ bits. number_of_bits (take (get_or widths i 0) bits)) (sym (drop-drop (sum (take i widths)) (t * sum widths) packed.bits))
       ∙ sym (ap (λ row. get_or row i 0) (row_at widths rows t packed.bits ht) ∙ number_in_row widths i (drop (t * sum widths) packed.bits) hi)
 
   -- a number lies within the bits and is small
@@ -80,7 +80,7 @@ module _ (widths : List ℕ) (width rows room : ℕ) (packed : PackedBits) (h : 
   number_narrow i hi = All-get_or (λ w. w ≤ 32) widths i 0 hi h.narrow
 
 -- the number of few bits is small
-pub number_small : (width place : ℕ) (bits : List Bool) → width ≤ 32 → number_of (take width (drop place bits)) < 2 ^ 32
+pub number_small : (width place : ℕ) (bits : List Bool) → width ≤ 32 → number_of_bits (take width (drop place bits)) < 2 ^ 32
 number_small width place bits h =
     let below = number_below (take width (drop place bits)) in
     let most : length (take width (drop place bits)) ≤ 32 = omega (arith, length-take width (drop place bits)) in

@@ -4,7 +4,7 @@ use Rattle.std.specs.List.{AllZip, zip, items_where_true}
 use Rattle.std.proofs.lemmas.Slice.Zip.{length-zip}
 use Rattle.std.proofs.lemmas.List.{length-map, take-append-le, drop-append-le, take_at, drop_at, take-append-drop, drop-drop, length-drop, length-append, length-take, length-take-le, nil_from_length, append-nil, append_assoc, drop_more, drop_all, get_or-take, get_or-drop}
 use Rattle.std.proofs.lemmas.List.Sums.{sum_by-cons, sum_by_more_le}
-use Rattle.packed_words.specs.Numbers.{number_of, low_bits}
+use Rattle.packed_words.specs.Numbers.{number_of_bits, low_bits}
 use Rattle.cube_values.specs.BitRows.{has_bit}
 use Rattle.packed_words.specs.Rows.{HasWidth, differences, row_bits, row_of_bits, rows_of_bits}
 use Rattle.packed_words.proofs.Numbers.{low_length, number_of_low, bit_of_number}
@@ -29,7 +29,7 @@ row_front [] bits more h = refl
 row_front (w ∷ widths) bits more h =
     let within : w ≤ length bits = omega (arith, sum_cons w widths) in
     let rest = row_front widths (drop w bits) more (omega (arith, sum_cons w widths, length-drop w bits)) in
-    λ t. number_of (take-append-le w bits more within t) ∷ (ap (row_of_bits widths) (drop-append-le w bits more within) ∙ rest) t
+    λ t. number_of_bits (take-append-le w bits more within t) ∷ (ap (row_of_bits widths) (drop-append-le w bits more within) ∙ rest) t
 
 pub rows_front : (widths : List ℕ) (n : ℕ) (bits more : List Bool) → n * sum widths ≤ length bits → rows_of_bits widths n (bits ++ more) ≡ rows_of_bits widths n bits
 rows_front widths zero bits more h = refl
@@ -51,7 +51,7 @@ row_back (w ∷ widths) [] more h = absurd h
 row_back (w ∷ widths) (n ∷ numbers) more h =
     let rest : List Bool = row_bits widths numbers ++ more in
     let split : (low_bits w n ++ row_bits widths numbers) ++ more ≡ low_bits w n ++ rest = append_assoc (low_bits w n) (row_bits widths numbers) more in
-    let first = ap (λ b. number_of (take w b)) split ∙ ap number_of (take_at (low_bits w n) rest w (low_length w n)) ∙ number_of_low w n h.0 in
+    let first = ap (λ b. number_of_bits (take w b)) split ∙ ap number_of_bits (take_at (low_bits w n) rest w (low_length w n)) ∙ number_of_low w n h.0 in
     let others = ap (λ b. row_of_bits widths (drop w b)) split ∙ ap (row_of_bits widths) (drop_at (low_bits w n) rest w (low_length w n)) ∙ row_back widths numbers more h.1 in
     λ t. first t ∷ others t
 
@@ -75,12 +75,12 @@ row_at widths (suc n) (suc t) bits h =
     let next : sum widths + t * sum widths ≡ suc t * sum widths = omega (arith, suc-mul t (sum widths)) in
     row_at widths n t (drop (sum widths) bits) (omega arith) ∙ ap (row_of_bits widths) (drop-drop (t * sum widths) (sum widths) bits ∙ ap (λ k. drop k bits) next)
 
-pub number_in_row : (widths : List ℕ) (i : ℕ) (bits : List Bool) → i < length widths → get_or (row_of_bits widths bits) i 0 ≡ number_of (take (get_or widths i 0) (drop (sum (take i widths)) bits))
+pub number_in_row : (widths : List ℕ) (i : ℕ) (bits : List Bool) → i < length widths → get_or (row_of_bits widths bits) i 0 ≡ number_of_bits (take (get_or widths i 0) (drop (sum (take i widths)) bits))
 number_in_row [] i bits h = absurd (omega arith)
 number_in_row (w ∷ widths) zero bits h = refl
 number_in_row (w ∷ widths) (suc i) bits h =
     let start = sum_cons w (take i widths) in
-    number_in_row widths i (drop w bits) (omega arith) ∙ ap (λ b. number_of (take (get_or widths i 0) b)) (drop-drop (sum (take i widths)) w bits ∙ ap (λ k. drop k bits) (sym start))
+    number_in_row widths i (drop w bits) (omega arith) ∙ ap (λ b. number_of_bits (take (get_or widths i 0) b)) (drop-drop (sum (take i widths)) w bits ∙ ap (λ k. drop k bits) (sym start))
 
 -- the place of bit k of a number lies within its rows
 pub number_within : (widths : List ℕ) (t i k n : ℕ) → t < n → i < length widths → k < get_or widths i 0 → t * sum widths + sum (take i widths) + k < n * sum widths
@@ -139,7 +139,7 @@ number_bit widths n t i k bits l ht hi hk =
     let rows : suc t * w ≤ n * w = mul-le-mul_right w ht in
     let part : List Bool = take width (drop place bits) in
     let long : length part ≡ width = length-take-le width (drop place bits) (omega (arith, suc-mul t w, length-drop place bits)) in
-    let number = ap (λ row. get_or row i 0) (row_at widths n t bits ht) ∙ number_in_row widths i (drop (t * w) bits) hi ∙ ap (λ b. number_of (take width b)) (drop-drop start (t * w) bits) in
+    let number = ap (λ row. get_or row i 0) (row_at widths n t bits ht) ∙ number_in_row widths i (drop (t * w) bits) hi ∙ ap (λ b. number_of_bits (take width b)) (drop-drop start (t * w) bits) in
     sym (get_or-drop place bits k false)
     ∙ sym (get_or-take width (drop place bits) k false hk)
     ∙ sym (bit_of_number part k (omega (arith, long)))

@@ -3,9 +3,9 @@ use Rattle.std.specs.Prelude.{ℕ, ◌+◌, ◌*◌, ◌/◌, ◌%◌, ◌==◌,
 use Rattle.std.specs.Int.{from_bool}
 
 -- The number that bits stand for.
-abbrev pub number_of : List Bool → ℕ
-number_of [] = 0
-number_of (bit ∷ bits) = from_bool bit + 2 * number_of bits
+abbrev pub number_of_bits : List Bool → ℕ
+number_of_bits [] = 0
+number_of_bits (bit ∷ bits) = from_bool bit + 2 * number_of_bits bits
 
 -- The lowest bits of a number, so many.
 abbrev pub low_bits : ℕ → ℕ → List Bool

@@ -4,7 +4,7 @@ use Rattle.std.specs.Prelude.{◌≡◌, ℕ, ◌+◌, ◌-◌, ◌*◌, ◌^◌
 use Rattle.std.specs.List.{zip}
 use Rattle.cube_values.specs.BitRows.{has_bit, is_set, word_count}
 use Rattle.packed_words.specs.declared.packed_rows.TheConstants.{MOST_BITS}
-use Rattle.packed_words.specs.Numbers.{number_of, low_bits}
+use Rattle.packed_words.specs.Numbers.{number_of_bits, low_bits}
 use Rattle.packed_words.specs.Words.{PackedBits}
 
 -- Rows of numbers, how many bits each number of a row has, and for how many rows there is memory.
@@ -22,12 +22,12 @@ abbrev pub differences : List ℕ → List ℕ → List ℕ
 differences numbers starts = map (λ p. p.0 - p.1) (zip numbers starts)
 
 -- Number i of row t.
-abbrev pub number_at : List (List ℕ) → ℕ → ℕ → ℕ
-number_at rows t i = slice_index (slice_index_or rows t []) i
+abbrev pub number_in_rows : List (List ℕ) → ℕ → ℕ → ℕ
+number_in_rows rows t i = slice_index (slice_index_or rows t []) i
 
 -- The place of the lowest bit of number i of row t: behind t rows and i numbers.
-abbrev pub place_of : List ℕ → ℕ → ℕ → ℕ
-place_of widths t i = t * sum widths + sum (take i widths)
+abbrev pub lowest_bit_of : List ℕ → ℕ → ℕ → ℕ
+lowest_bit_of widths t i = t * sum widths + sum (take i widths)
 
 -- The words that hold rows: bit k of each number stands k places from that of its lowest bit, there are as many
 -- words as these bits take, and no other bit is set.
@@ -35,7 +35,7 @@ pub record AreWords (widths : List ℕ) (rows : List (List ℕ)) (words : List �
   pub count : length words ≡ word_count (length rows * sum widths)
   pub bits :
       (t i k : ℕ) → t < length rows → i < length widths → k < slice_index widths i
-      → is_set words (place_of widths t i + k) ≡ has_bit (number_at rows t i) k
+      → is_set words (lowest_bit_of widths t i + k) ≡ has_bit (number_in_rows rows t i) k
   pub unused : (i : ℕ) → length rows * sum widths ≤ i → is_set words i ≡ false
 
 -- The bits of a row: those of its numbers, one number after another.
@@ -46,7 +46,7 @@ row_bits widths numbers = []
 -- The numbers that stand at the front of bits.
 abbrev pub row_of_bits : List ℕ → List Bool → List ℕ
 row_of_bits [] bits = []
-row_of_bits (width ∷ widths) bits = number_of (take width bits) ∷ row_of_bits widths (drop width bits)
+row_of_bits (width ∷ widths) bits = number_of_bits (take width bits) ∷ row_of_bits widths (drop width bits)
 
 -- The n rows that stand at the front of bits.
 abbrev pub rows_of_bits : List ℕ → ℕ → List Bool → List (List ℕ)

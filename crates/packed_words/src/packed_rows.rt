@@ -4,7 +4,7 @@ ghost use Rattle.std.specs.Prelude.{◌≡◌, ℕ, List, ◌+◌, ◌*◌, ◌^
 ghost use Rattle.std.specs.Int.{from_bool};
 ghost use Rattle.std.specs.List.{AllZip, items_where_true};
 ghost use Rattle.packed_words.specs.declared.packed_rows.TheConstants.{MOST_BITS};
-ghost use Rattle.packed_words.specs.Rows.{HasWidth, AreWords, differences, number_at, row_bits, rows_of_bits};
+ghost use Rattle.packed_words.specs.Rows.{HasWidth, AreWords, differences, number_in_rows, row_bits, rows_of_bits};
 
 use crate::packed_words::PackedWords;
 use cube_values::Bits;
@@ -113,7 +113,7 @@ impl PackedRows {
     pub fn number(&self, row: u64, i: usize) -> u32
         requires row { row < length self.now.rows }
         requires number { i < length self.now.widths }
-        ensures { result ≡ number_at self.now.rows row i }
+        ensures { result ≡ number_in_rows self.now.rows row i }
     {
         let start = total(&self.widths.as_slice()[..i]);
         self.bits.read(row * self.width + start, self.widths[i]) as u32

@@ -2,7 +2,7 @@
 
 ghost use Rattle.std.specs.Prelude.{◌≡◌, ℕ, ◌+◌, ◌*◌, ◌^◌, ◌<◌, ◌≤◌, false, [], ◌++◌, length, take, drop, max, IsOk, OnOk, OnErr};
 ghost use Rattle.cube_values.specs.BitRows.{is_set, bits_of, word_count};
-ghost use Rattle.packed_words.specs.Numbers.{number_of, low_bits};
+ghost use Rattle.packed_words.specs.Numbers.{number_of_bits, low_bits};
 
 use crate::word_bits::{cut_bits, push_bits, put_bits, read_bits};
 use std::alloc::{AllocError, Global};
@@ -90,7 +90,7 @@ impl PackedWords {
     pub fn read(&self, place: u64, width: u64) -> u64
         requires width { width ≤ 64 }
         requires within { place + width ≤ length self.now.bits }
-        ensures { result ≡ number_of (take width (drop place self.now.bits)) }
+        ensures { result ≡ number_of_bits (take width (drop place self.now.bits)) }
     {
         read_bits(self.words.as_slice(), place, width)
     }

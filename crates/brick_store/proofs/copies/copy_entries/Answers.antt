@@ -1,4 +1,4 @@
-use Rattle.std.proofs.Common.{◌≡◌, ◌-◌, ◌<◌, ◌≤◌, [], ◌∷◌, length, map, take, drop, get_or, refl, sym, subst, ap, ◌∙◌, arith}
+use Rattle.std.proofs.Common.{◌-◌, length, map, take, drop, get_or, refl, sym, subst, ◌∙◌, arith}
 use Rattle.std.proofs.lemmas.List.{length-map, nil_from_length}
 use Rattle.cube_values.specs.declared.entry.Entry.TheVariants.{Run}
 use Rattle.cube_values.specs.EpochsVector.{IsVector, rows_after}

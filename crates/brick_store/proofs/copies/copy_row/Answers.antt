@@ -1,6 +1,4 @@
-use Rattle.std.proofs.Common.{◌≡◌, ◌++◌, ◌∷◌, [], length, ap, sym, ◌∙◌, arith}
-use Rattle.cube_values.specs.Batches.{Batch}
-use Rattle.brick_store.specs.Whole.{row_with_coords}
+use Rattle.std.proofs.Common.{◌++◌, ◌∷◌, [], ◌∙◌}
 use Rattle.brick_store.proofs.copies.copy_row.Goals as goal
 
 pub returns-clause-batch : goal.returns-clause-batch

@@ -1,4 +1,4 @@
-use Rattle.std.proofs.Common.{◌≡◌, ◌<◌, ◌++◌, ◌∷◌, [], length, sym, ap, ◌∙◌, arith}
+use Rattle.std.proofs.Common.{◌++◌, ◌∷◌, [], sym, ◌∙◌, arith}
 use Rattle.std.proofs.lemmas.List.{take_all, take_more}
 use Rattle.brick_store.specs.Whole.{starts_of}
 use Rattle.brick_store.proofs.Starts.{starts_long, start_at, length_there}

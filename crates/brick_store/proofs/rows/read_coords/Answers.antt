@@ -1,4 +1,4 @@
-use Rattle.std.proofs.Common.{◌≡◌, ◌+◌, ◌<◌, ◌^◌, ◌≤◌, [], length, take, get_or, All, sym, ap, ◌∙◌, arith}
+use Rattle.std.proofs.Common.{◌+◌, ◌<◌, ◌^◌, [], get_or, sym, ap, ◌∙◌, arith}
 use Rattle.std.proofs.lemmas.List.{length-set, take_all}
 use Rattle.std.proofs.lemmas.List.Elements.{All-get_or, length_all_zip}
 use Rattle.brick_columns.specs.Rows.{BrickRow, IsBrickRow, row_at}

@@ -1,4 +1,4 @@
-use Rattle.std.proofs.Common.{◌≡◌, length}
+use Rattle.std.proofs.Common.{◌≡◌}
 use Rattle.column_cases.proofs.packed.pack_and_keep.Given as goal
 
 abbrev pub invariant-rows : goal.invariant-rows

@@ -1,4 +1,4 @@
-use Rattle.std.proofs.Common.{◌≡◌, ◌<◌, ◌≤◌, All, IsTrue, [], length, ap, ◌∙◌, subst, sym, rules, arith}
+use Rattle.std.proofs.Common.{◌<◌, ◌≤◌, All, IsTrue, [], length, ap, ◌∙◌, subst, sym, rules, arith}
 use Rattle.std.specs.List.{AllZip}
 use Rattle.std.proofs.lemmas.List.Elements.{All-push}
 use Rattle.cube_values.specs.declared.row.CodedRow.{CodedRow}

@@ -1,6 +1,6 @@
 use Rattle.std.proofs.Common.{length, get_or, sym, ap, ◌∙◌, arith}
 use Rattle.std.proofs.lemmas.List.Elements.{length_all_zip}
-use Rattle.packed_words.specs.Rows.{number_at}
+use Rattle.packed_words.specs.Rows.{number_in_rows}
 use Rattle.brick_columns.specs.Rows.{BrickRows, IsWidth, offset_at, row_at}
 use Rattle.brick_columns.specs.Whole.{rows_in}
 use Rattle.brick_columns.proofs.WholeRows.{seen_length, offset_rows, offsets_of_row}
@@ -20,6 +20,6 @@ pub returns : goal.returns
 returns c =
     let old = c.self.inside in
     c.number.ensures
-    ∙ ap (λ rows. number_at rows c.args.row c.args.dim) (sym (offset_rows old c.self.invariant))
+    ∙ ap (λ rows. number_in_rows rows c.args.row c.args.dim) (sym (offset_rows old c.self.invariant))
     ∙ ap (λ offsets. get_or offsets c.args.dim 0) (offsets_of_row (rows_in old) c.args.row)
     ∙ ap (λ (v : BrickRows). offset_at c.args.dim (row_at v.rows c.args.row)) c.self.view_is

@@ -1,4 +1,4 @@
-use Rattle.std.proofs.Common.{◌≡◌, ◌+◌, ◌-◌, ◌<◌, ◌++◌, All, length, map, sym, subst, ap, refl, ◌∙◌, arith}
+use Rattle.std.proofs.Common.{◌≡◌, ◌+◌, ◌-◌, ◌++◌, All, length, map, sym, subst, ap, refl, ◌∙◌, arith}
 use Rattle.std.proofs.lemmas.List.{length-append, length-map}
 use Rattle.cube_values.specs.EpochsVector.{rows_of, vector_with_entry}
 use Rattle.cube_values.specs.declared.entry.Entry.TheVariants.{Run}

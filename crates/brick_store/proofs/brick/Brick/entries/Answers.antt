@@ -1,4 +1,3 @@
-use Rattle.std.proofs.Common.{arith}
 use Rattle.brick_store.proofs.Readable.{vector_seen}
 use Rattle.brick_store.proofs.brick.Brick.entries.Goals as goal
 

@@ -1,4 +1,4 @@
-use Rattle.std.proofs.Common.{◌≡◌, All, IsTrue, List, OnOk, length, map, filter, sym, subst, ap, ◌∙◌, arith}
+use Rattle.std.proofs.Common.{All, IsTrue, List, OnOk, length, filter, sym, subst, ap, ◌∙◌}
 use Rattle.std.specs.List.{items_where_true}
 use Rattle.cube_values.specs.declared.row.CodedRow.{CodedRow}
 use Rattle.std.proofs.lemmas.List.FromFn.{length-map-range_with_len}
@@ -7,7 +7,7 @@ use Rattle.cube_values.specs.Queries.{IsSoundQuery}
 use Rattle.agg_fold.specs.Standing.{Gains, HasRoom}
 use Rattle.brick_store.specs.Bricks.{BrickState}
 use Rattle.brick_store.specs.Rows.{rows_shown, span_has_row}
-use Rattle.brick_store.specs.Whole.{contract_view, row_with_coords}
+use Rattle.brick_store.specs.Whole.{contract_view}
 use Rattle.brick_store.proofs.Changes.{rows_known, seen_length}
 use Rattle.brick_store.proofs.Readable.{dims_known, rows_readable}
 use Rattle.brick_store.proofs.brick.Brick.fold.Goals as goal

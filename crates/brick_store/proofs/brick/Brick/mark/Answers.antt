@@ -1,4 +1,4 @@
-use Rattle.std.proofs.Common.{◌≡◌, ◌-◌, length, map, sym, ap, refl, ◌∙◌, arith}
+use Rattle.std.proofs.Common.{◌-◌, length, sym, ap, refl, ◌∙◌, arith}
 use Rattle.cube_values.specs.EpochsVector.{vector_with_entry}
 use Rattle.cube_values.specs.declared.entry.Entry.TheVariants.{Mark}
 use Rattle.epochs_vector.proofs.Ends.{vector_more}

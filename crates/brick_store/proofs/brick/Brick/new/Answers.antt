@@ -1,4 +1,4 @@
-use Rattle.std.proofs.Common.{◌≡◌, map, ap, ◌∙◌, arith}
+use Rattle.std.proofs.Common.{map, ap, arith}
 use Rattle.brick_columns.specs.Rows.{Layout}
 use Rattle.brick_store.specs.Whole.{row_with_coords}
 use Rattle.brick_store.proofs.Changes.{made_whole}

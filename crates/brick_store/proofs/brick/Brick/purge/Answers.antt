@@ -1,4 +1,4 @@
-use Rattle.std.proofs.Common.{◌≡◌, length, map, replicate, true, sym, ap, refl, ◌∙◌, arith}
+use Rattle.std.proofs.Common.{◌≡◌, length, map, replicate, true, sym, ap, ◌∙◌, arith}
 use Rattle.std.specs.List.{items_where_true}
 use Rattle.purge_plan.specs.Purged.{spared_bits, purged_entries}
 use Rattle.cube_values.specs.BitRows.{set_bits}

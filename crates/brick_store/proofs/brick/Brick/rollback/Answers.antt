@@ -1,4 +1,4 @@
-use Rattle.std.proofs.Common.{◌≡◌, length, map, replicate, true, sym, ap, refl, ◌∙◌, arith}
+use Rattle.std.proofs.Common.{◌≡◌, length, map, replicate, true, sym, ap, ◌∙◌, arith}
 use Rattle.std.specs.List.{items_where_true}
 use Rattle.epochs_vector.specs.Without.{staying_bits, entries_without}
 use Rattle.epochs_vector.proofs.WhatStays.{length-staying, vector_without}

@@ -1,5 +1,4 @@
-use Rattle.std.proofs.Common.{◌≡◌, All, IsTrue, [], sym, subst, refl, arith}
-use Rattle.std.specs.List.{items_where_true}
+use Rattle.std.proofs.Common.{All, IsTrue, [], sym, subst}
 use Rattle.agg_fold.specs.Standing.{Gains}
 use Rattle.epochs_vector.specs.Seen.{seen_rows}
 use Rattle.brick_store.specs.Bricks.{BrickState}

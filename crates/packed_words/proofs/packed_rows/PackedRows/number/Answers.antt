@@ -1,8 +1,8 @@
 use Rattle.std.proofs.Common.{◌≡◌, ◌+◌, ◌*◌, ◌<◌, length, take, drop, get_or, sum, ap, ◌∙◌, arith}
 use Rattle.std.proofs.lemmas.List.{get_or_default}
 use Rattle.std.proofs.lemmas.List.Sums.{sum_by-take-le}
-use Rattle.packed_words.specs.Numbers.{number_of}
-use Rattle.packed_words.specs.Rows.{NumberRows, number_at}
+use Rattle.packed_words.specs.Numbers.{number_of_bits}
+use Rattle.packed_words.specs.Rows.{NumberRows, number_in_rows}
 use Rattle.packed_words.proofs.HeldRows.{seen_length, number_there, number_inside, number_narrow, number_small, rows_fit}
 use Rattle.packed_words.proofs.packed_rows.PackedRows.number.Goals as goal
 
@@ -67,6 +67,6 @@ returns c =
     let start : c.total-start.result ≡ sum (take c.args.i old.widths.items) = c.total-start.ensures ∙ ap (λ ws. sum (take c.args.i ws)) c.as_slice.ensures.value in
     let width : c.index.result.now ≡ get_or old.widths.items c.args.i 0 = c.index.ensures ∙ get_or_default old.widths.items c.args.i c.index.result.now 0 there in
     c.read.ensures
-    ∙ (λ t. number_of (take (width t) (drop (c.args.row * old.width + start t) old.bits.bits)))
+    ∙ (λ t. number_of_bits (take (width t) (drop (c.args.row * old.width + start t) old.bits.bits)))
     ∙ number_there old.widths.items old.width old.rows old.room old.bits c.self.invariant c.args.row c.args.i (omega (arith, c.requires.row)) there
-    ∙ ap (λ (v : NumberRows). number_at v.rows c.args.row c.args.i) c.self.view_is
+    ∙ ap (λ (v : NumberRows). number_in_rows v.rows c.args.row c.args.i) c.self.view_is

@@ -1,0 +1,328 @@
+//! Bricks and queries for the tests, and the rows that a reader finds.
+
+ghost use Rattle.std.specs.Prelude.{◌≡◌, ◌∷◌, [], ◌+◌, ◌<◌, ◌≤◌, ◌^◌, IfOk, IfSome, IsTrue, All, length};
+ghost use Rattle.cube_values.specs.Queries.{IsSoundItem, IsSoundQuery};
+ghost use Rattle.cube_values.specs.Shapes.{bricks_of, IsSoundShape, IsSoundSize};
+ghost use Rattle.cube_values.specs.Spans.{IsSoundPart};
+ghost use Rattle.brick_address.specs.Addresses.{AreCoords, LieIn};
+ghost use Rattle.brick_columns.specs.Rows.{rows_between};
+ghost use Rattle.brick_store.specs.Bricks.{IsRowOf};
+
+use agg_fold::Partial;
+use brick_address::brick_of;
+use brick_store::Brick;
+use cube_values::{
+    BoundItem, BoundItems, BoundQuery, CodedRows, Coords, EpochList, Field, NameLists, Part, Parts,
+    Shape, Size, Sizes, Snapshot, Span, Table,
+};
+use std::alloc::{AllocError, Global};
+use std::process::Abort;
+
+/// A cube of x below five and y below four, in ranges of two.
+pub fn shape(alloc: Global) -> Result<Shape, AllocError> {
+    let x = Size {
+        cardinality: 5,
+        range: 2,
+    };
+    let y = Size {
+        cardinality: 4,
+        range: 2,
+    };
+    Ok(Shape {
+        sizes: Sizes::from_vec(vec![in alloc; x, y]?),
+    })
+}
+
+// The number of bricks, where each size is sound and the bricks are few enough.
+fn sound_bricks(sizes: &[Size]) -> Option<u64>
+    ensures sound { IfSome result (λ n. All IsSoundSize sizes.now) }
+    ensures bricks { IfSome result (λ n. n ≡ bricks_of sizes.now) }
+    ensures most { IfSome result (λ n. n ≤ 2 ^ 62) }
+{
+    let [size, rest @ ..] = sizes else {
+        return Some(1);
+    };
+    let bricks = sound_bricks(rest)?;
+    if size.range == 0 || size.range > size.cardinality {
+        return None;
+    }
+    let ranges = (u64::from(size.cardinality) + u64::from(size.range - 1)) / u64::from(size.range);
+    let product = ranges.checked_mul(bricks)?;
+    if product <= 1 << 62 {
+        Some(product)
+    } else {
+        None
+    }
+}
+
+// Whether the shape is sound and has the brick.
+fn has_brick(shape: &Shape, number: u64) -> bool
+    ensures sound { IsTrue result → IsSoundShape shape.now }
+    ensures brick { IsTrue result → number < bricks_of shape.now.sizes }
+{
+    if shape.sizes.len() > 16 {
+        return false;
+    }
+    match sound_bricks(shape.sizes.as_slice()) {
+        Some(bricks) => number < bricks,
+        None => false,
+    }
+}
+
+// Whether there is a coordinate for each size, below it.
+fn are_coords(sizes: &[Size], coords: &[u32]) -> bool
+    ensures { IsTrue result → AreCoords sizes.now coords.now }
+{
+    let [size, sizes_rest @ ..] = sizes else {
+        return coords.is_empty();
+    };
+    let [coord, coords_rest @ ..] = coords else {
+        return false;
+    };
+    *coord < size.cardinality && are_coords(sizes_rest, coords_rest)
+}
+
+// Whether coordinates lie in a brick.
+fn lie_in(shape: &Shape, number: u64, coords: &[u32]) -> bool
+    ensures { IsTrue result → LieIn shape.now.sizes number coords.now }
+{
+    has_brick(shape, number)
+        && are_coords(shape.sizes.as_slice(), coords)
+        && brick_of(shape, coords) == number
+}
+
+// Whether the rows from one place up to another are of a brick, with one metric each.
+fn are_rows_of(shape: &Shape, number: u64, batch: &CodedRows, from: usize, to: usize) -> bool
+    requires order { from ≤ to }
+    requires within { to ≤ length batch.now.rows }
+    ensures { IsTrue result → All
+        (IsRowOf (record { sizes = shape.now.sizes; metrics = 1; number = number }))
+        (rows_between from to batch.now.rows) }
+{
+    'rows: for i in from..to {
+        if !lie_in(shape, number, batch.coords_of(i)) || batch.metrics_of(i).len() != 1 {
+            return false;
+        }
+    }
+    true
+}
+
+// A brick without rows, of one metric.
+fn empty_brick(
+    rt: &impl Abort,
+    alloc: Global,
+    shape: &Shape,
+    number: u64,
+) -> Result<Brick, AllocError>
+    ensures { IfOk result (λ made. made.home
+        ≡ record { sizes = shape.now.sizes; metrics = 1; number = number }) }
+{
+    assert!(rt; has_brick(shape, number));
+    Brick::new(alloc, shape, 1, number)
+}
+
+// Appends the rows of a batch from one place up to another. Where there is none, deletes.
+fn step(
+    rt: &impl Abort,
+    brick: &mut Brick,
+    shape: &Shape,
+    number: u64,
+    epoch: u64,
+    batch: &CodedRows,
+    places: (usize, usize),
+) -> Result<(), AllocError>
+    requires { brick.old.home ≡ record { sizes = shape.now.sizes; metrics = 1; number = number } }
+    ensures { brick.new.home ≡ brick.old.home }
+{
+    let (from, to) = places;
+    assert!(rt; from <= to && to <= batch.len());
+    assert!(rt; from == to || are_rows_of(shape, number, batch, from, to));
+    brick.prepare((to - from) as u64, 1)?;
+    if from == to {
+        brick.mark(epoch);
+    } else {
+        brick.append(epoch, batch, from, to);
+    }
+    Ok(())
+}
+
+fn is_sound_item(group: &[u32], metrics: usize, item: BoundItem) -> bool
+    ensures { IsTrue result → IsSoundItem group.now metrics item }
+{
+    match item {
+        BoundItem::Group(dim) => group.contains(&dim),
+        BoundItem::Count => true,
+        BoundItem::Sum(metric) => (metric as usize) < metrics,
+        BoundItem::Min(metric) => (metric as usize) < metrics,
+        BoundItem::Max(metric) => (metric as usize) < metrics,
+        BoundItem::Avg(metric) => (metric as usize) < metrics,
+    }
+}
+
+fn all_below(group: &[u32], dims: usize) -> bool
+    ensures { IsTrue result → All (λ dim. dim < dims) group.now }
+{
+    'dims: for dim in group {
+        if *dim as usize >= dims {
+            return false;
+        }
+    }
+    true
+}
+
+fn all_sound(items: &[BoundItem], group: &[u32], metrics: usize) -> bool
+    ensures { IsTrue result → All (IsSoundItem group.now metrics) items.now }
+{
+    'items: for item in items {
+        if !is_sound_item(group, metrics, *item) {
+            return false;
+        }
+    }
+    true
+}
+
+// Whether the query is sound.
+fn is_sound(query: &BoundQuery, dims: usize, metrics: usize) -> bool
+    ensures { IsTrue result → IsSoundQuery query.now dims metrics }
+{
+    if query.span.parts.len() != dims {
+        return false;
+    }
+    if !all_below(query.group.as_slice(), dims) {
+        return false;
+    }
+    all_sound(query.items.as_slice(), query.group.as_slice(), metrics)
+}
+
+// Whether the part is no list.
+fn is_plain(part: &Part) -> bool
+    ensures { IsTrue result → IsSoundPart part.now }
+{
+    match part {
+        Part::All => true,
+        Part::Between(..) => true,
+        Part::Listed(_) => false,
+    }
+}
+
+// Whether no part is a list.
+fn are_plain(parts: &[Part]) -> bool
+    ensures { IsTrue result → All IsSoundPart parts.now }
+{
+    let [part, rest @ ..] = parts else {
+        return true;
+    };
+    is_plain(part) && are_plain(rest)
+}
+
+/// For each x its number of rows and their sum, of the rows that lie in the parts.
+pub fn by_x(alloc: Global, x: Part, y: Part) -> Result<BoundQuery, AllocError> {
+    Ok(BoundQuery {
+        cube: 0,
+        span: Span {
+            parts: Parts::from_vec(vec![in alloc; x, y]?),
+        },
+        group: Coords::from_vec(vec![in alloc; 0]?),
+        items: BoundItems::from_vec(vec![in alloc;
+            BoundItem::Group(0),
+            BoundItem::Count,
+            BoundItem::Sum(0),
+        ]?),
+    })
+}
+
+/// The table of the rows of a brick that a snapshot sees.
+pub fn table(
+    rt: &impl Abort,
+    alloc: Global,
+    brick: &Brick,
+    shape: &Shape,
+    query: &BoundQuery,
+    snapshot: &Snapshot,
+) -> Result<Table, AllocError>
+    requires shape { brick.now.home.sizes ≡ shape.now.sizes }
+    requires metrics { brick.now.home.metrics ≡ 1 }
+{
+    let mut partial = Partial::new(alloc);
+    assert!(rt; is_sound(query, shape.sizes.len(), 1));
+    assert!(rt; are_plain(query.span.parts.as_slice()));
+    assert!(rt; brick.len() < 1 << 62);
+    brick.scan(query, snapshot, &mut partial)?;
+    let names = NameLists::new(alloc);
+    partial.finish(query, &names)
+}
+
+/// A reader at an epoch.
+pub fn reader(epoch: u64) -> Snapshot {
+    Snapshot {
+        epoch,
+        deps: EpochList::new(),
+        own: false,
+    }
+}
+
+// Whether a field is this number.
+fn is_number(field: &Field, number: i128) -> bool {
+    match field {
+        Field::Whole(whole) => *whole == number,
+        _ => false,
+    }
+}
+
+// The fields of a line are these numbers.
+fn has_numbers(fields: &[Field], numbers: &[i128]) -> bool {
+    if fields.len() != numbers.len() {
+        return false;
+    }
+    for i in 0..fields.len() {
+        if !is_number(&fields[i], numbers[i]) {
+            return false;
+        }
+    }
+    true
+}
+
+/// Whether line `at` of a table has these numbers.
+pub fn has_line(table: &Table, at: usize, numbers: &[i128]) -> bool {
+    match table.as_slice().get(at) {
+        Some(line) => has_numbers(line.as_slice(), numbers),
+        None => false,
+    }
+}
+
+/// A batch of rows of an x, a y and a metric.
+pub fn batch_of(
+    rt: &impl Abort,
+    alloc: Global,
+    rows: &[(u32, u32, i64)],
+) -> Result<CodedRows, AllocError> {
+    let mut batch = CodedRows::new(alloc, 2, 1);
+    batch.reserve(rows.len())?;
+    'rows: for (x, y, metric) in rows {
+        assert!(rt; batch.len() < batch.room());
+        batch.push(&[*x, *y], &[*metric]);
+    }
+    Ok(batch)
+}
+
+/// A brick of the rows of a batch, so many for each step; a step of none deletes.
+pub fn brick_of_steps(
+    rt: &impl Abort,
+    alloc: Global,
+    shape: &Shape,
+    number: u64,
+    batch: &CodedRows,
+    steps: &[(u64, usize)],
+) -> Result<Brick, AllocError>
+    ensures { IfOk result (λ made. made.home
+        ≡ record { sizes = shape.now.sizes; metrics = 1; number = number }) }
+{
+    let mut brick = empty_brick(rt, alloc, shape, number)?;
+    let mut at: usize = 0;
+    'steps: for (epoch, rows) in steps {
+        let to = at.saturating_add(*rows);
+        step(rt, &mut brick, shape, number, *epoch, batch, (at, to))?;
+        at = to;
+    }
+    Ok(brick)
+}
