@@ -56,7 +56,8 @@ fn is_written(alloc: Global, bytes: &[u8]) -> Result<bool, AllocError> {
     }
 }
 
-/// What reading bytes as a header gives: its size, or the place of a broken rule, or 0 where the digest is another.
+/// What reading bytes as a header gives: its size, or the place of a broken rule, or 0 where the
+/// digest is another.
 fn found(alloc: Global, bytes: &[u8]) -> Result<u64, AllocError> {
     match read_header(alloc, bytes) {
         Ok(header) => Ok(header.size),

@@ -54,10 +54,14 @@ byte_from (byte ∷ rest) = Ok (byte, rest)
 
 -- A number in four bytes, in eight, and one with a sign.
 unfoldable pub four_from : List ℕ → ReadOf ℕ
-four_from bytes = if nat_lt (length bytes) 4 then Err (length bytes) else Ok (from_le_bytes w32 (take 4 bytes), drop 4 bytes)
+four_from bytes =
+    if nat_lt (length bytes) 4 then Err (length bytes)
+    else Ok (from_le_bytes w32 (take 4 bytes), drop 4 bytes)
 
 unfoldable pub eight_from : List ℕ → ReadOf ℕ
-eight_from bytes = if nat_lt (length bytes) 8 then Err (length bytes) else Ok (from_le_bytes w64 (take 8 bytes), drop 8 bytes)
+eight_from bytes =
+    if nat_lt (length bytes) 8 then Err (length bytes)
+    else Ok (from_le_bytes w64 (take 8 bytes), drop 8 bytes)
 
 unfoldable pub signed_from : List ℕ → ReadOf ℤ
 signed_from bytes =
@@ -67,4 +71,5 @@ signed_from bytes =
 -- A name behind its length.
 unfoldable pub short_from : List ℕ → ReadOf (List ℕ)
 short_from [] = Err 0
-short_from (size ∷ rest) = if nat_lt (length rest) size then Err (suc (length rest)) else Ok (take size rest, drop size rest)
+short_from (size ∷ rest) =
+    if nat_lt (length rest) size then Err (suc (length rest)) else Ok (take size rest, drop size rest)

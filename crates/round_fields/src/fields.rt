@@ -76,7 +76,8 @@ pub fn number_within(bytes: &[u8], least: u64, end: u64) -> Result<(u64, &[u8]),
 
 /// The first byte of an entry.
 pub fn kind_of(bytes: &[u8]) -> Result<(u8, &[u8]), CallError<usize>>
-    ensures { GivesRead (λ x. (x.0, x.1.now)) result (with_test (λ kind. nat_lt kind 2) byte_from bytes.now) }
+    ensures { GivesRead (λ x. (x.0, x.1.now)) result
+        (with_test (λ kind. nat_lt kind 2) byte_from bytes.now) }
 {
     match bytes {
         [] => Err(CallError::Fault(0)),

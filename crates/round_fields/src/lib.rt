@@ -1,5 +1,5 @@
-//! What headers and rounds of a store's file are made of: numbers, names, digests and texts of cubes, each read
-//! from the front of bytes.
+//! What headers and rounds of a store's file are made of: numbers, names, digests and texts of
+//! cubes, each read from the front of bytes.
 #![tactic(auto)]
 
 mod canonical;

@@ -55,11 +55,13 @@ second_of_size digest told bytes size rest =
     when_read (eight_from rest) (λ g. header_at_text digest told bytes 24 size g.0 (is_right_generation g.0) g.1)
 
 -- A header of version 2, and one of version 1.
-unfoldable pub second_header_from : (List ℕ → List ℕ) → (List ℕ → Option (List Decl)) → List ℕ → Result Header FormatFault
+unfoldable pub second_header_from : (List ℕ → List ℕ) → (List ℕ → Option (List Decl)) → List ℕ
+    → Result Header FormatFault
 second_header_from digest told bytes =
     when_read (four_from (drop 12 bytes)) (λ size. second_of_size digest told bytes size.0 size.1)
 
-unfoldable pub first_header_from : (List ℕ → List ℕ) → (List ℕ → Option (List Decl)) → List ℕ → Result Header FormatFault
+unfoldable pub first_header_from : (List ℕ → List ℕ) → (List ℕ → Option (List Decl)) → List ℕ
+    → Result Header FormatFault
 first_header_from digest told bytes =
     when_read (four_from (drop 12 bytes)) (λ size. header_at_text digest told bytes 16 size.0 0 true size.1)
 

@@ -144,7 +144,8 @@ fn header_in(alloc: Global, bytes: &[u8]) -> Result<Header, CallError<FormatFaul
 
 /// The header at the front of the bytes, of version 1 or 2, behind an open gate.
 ///
-/// Where none stands there, it is `BadDigest` where one lies whole with another digest, else `BadText` at 12.
+/// Where none stands there, it is `BadDigest` where one lies whole with another digest, else
+/// `BadText` at 12.
 pub fn read_header(alloc: Global, bytes: &[u8]) -> Result<Header, CallError<FormatFault>>
     ensures found { IfOk result (λ h.
         BeginsWithHeader sha256 h.generation h.cubes bytes.now) }

@@ -89,7 +89,8 @@ fn put_metrics(out: &mut Vec<u8>, metrics: &[i64]) -> Result<(), AllocError>
 
 fn put_row(out: &mut Vec<u8>, rows: &CodedRows, i: usize) -> Result<(), AllocError>
     requires { i < length rows.now.rows }
-    ensures { OnOk result (out.new.items ≡ out.old.items ++ row_bytes (coded_row_at rows.now.rows i)) }
+    ensures { OnOk result (out.new.items
+        ≡ out.old.items ++ row_bytes (coded_row_at rows.now.rows i)) }
 {
     put_coords(out, rows.coords_of(i))?;
     put_metrics(out, rows.metrics_of(i))
