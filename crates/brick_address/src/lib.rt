@@ -10,3 +10,4 @@ mod sizes;
 pub use address::{brick_of, coord_of, offset_of};
 pub use cover::{Cover, covers};
 pub use law::coords_and_addresses_agree;
+pub use sizes::bricks_of;

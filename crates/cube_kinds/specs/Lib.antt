@@ -41,6 +41,12 @@ pub use Rattle.cube_journal.specs.JournalLines
 pub use Rattle.cube_journal.specs.Refusals
 pub use Rattle.cube_journal.specs.Replies
 pub use Rattle.cube_journal.specs.WholeText
+pub use Rattle.cube_rounds.specs.Bricks
+pub use Rattle.cube_rounds.specs.Bytes
+pub use Rattle.cube_rounds.specs.Demands
+pub use Rattle.cube_rounds.specs.Headers
+pub use Rattle.cube_rounds.specs.Stands
+pub use Rattle.cube_rounds.specs.KeptRows
 pub use Rattle.cube_run.specs.RunRecords
 pub use Rattle.cube_run.specs.SessionStates
 pub use Rattle.cube_run.specs.SessionSteps

@@ -1,5 +1,5 @@
 //! Everything that the definitions and the refusals speak of, from one place: the values of cubes, the
-//! language of declarations and statements, and the journal with its refusals and replies.
+//! language of declarations and statements, the journal with its refusals and replies, and what a store keeps.
 #![tactic(auto)]
 
 pub use cube_journal::AbortCause;
@@ -72,6 +72,14 @@ pub use cube_language::put_u64;
 pub use cube_language::put_u128;
 pub use cube_language::spells;
 pub use cube_language::text_of;
+pub use cube_rounds::NameCounts;
+pub use cube_rounds::Round;
+pub use cube_rounds::RoundBrick;
+pub use cube_rounds::RoundBrickList;
+pub use cube_rounds::RoundBricks;
+pub use cube_rounds::RoundCube;
+pub use cube_rounds::RoundCubes;
+pub use cube_rounds::files_stand_round_by_round;
 pub use cube_run::bounds_never_fall;
 pub use cube_run::entries_tell_the_outcome;
 pub use cube_run::faulty_run_worked;

@@ -7,7 +7,7 @@ use Rattle.cube_rounds.specs.declared.round.Round.{Round}
 use Rattle.cube_rounds.specs.Bytes.{round_bytes}
 use Rattle.cube_rounds.specs.Demands.{FitsRound}
 use Rattle.cube_rounds.specs.Headers.{open_gate, header_bytes, FitsHeader}
-use Rattle.cube_rounds.specs.Stands.{Kept, kept_of_cubes, kept_with, kept_with_all, MayFollow, rounds_bytes, file_bytes, FileStands, HeadersStand, RoundsFollow}
+use Rattle.cube_rounds.specs.Stands.{Kept, kept_of_cubes, kept_with, kept_with_all, RoundsMayFollow, rounds_bytes, file_bytes, FileStands, HeadersStand, RoundsFollow}
 
 pub headers_stand : HeadersStand
 headers_stand digest generation cubes gate rest fits shut =
@@ -28,10 +28,10 @@ kept_more : (kept : Kept) (rounds : List Round) (round : Round)
 kept_more kept [] round = refl
 kept_more kept (first ∷ rounds) round = kept_more (kept_with kept first) rounds round
 
-follow_more : (kept : Kept) (rounds : List Round) (round : Round) → MayFollow kept rounds
+follow_more : (kept : Kept) (rounds : List Round) (round : Round) → RoundsMayFollow kept rounds
     → round.from ≡ (kept_with_all kept rounds).epoch
     → FitsRound (kept_with_all kept rounds).cubes (kept_with_all kept rounds).names round
-    → MayFollow kept (rounds ++ round ∷ [])
+    → RoundsMayFollow kept (rounds ++ round ∷ [])
 follow_more kept [] round chain from fits = (from, fits, tt)
 follow_more kept (first ∷ rounds) round chain from fits =
     (chain.0, chain.1, follow_more (kept_with kept first) rounds round chain.2 from fits)

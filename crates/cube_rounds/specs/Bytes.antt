@@ -38,13 +38,13 @@ abbrev pub row_bytes : CodedRow → List ℕ
 row_bytes row = flat_map four_bytes row.coords ++ flat_map signed_bytes row.metrics
 
 -- A byte that tells a run from a mark, the epoch, and of a run its rows.
-abbrev pub entry_bytes : Entry → List CodedRow → List ℕ
-entry_bytes (Run epoch end) rows = 0 ∷ (eight_bytes epoch ++ counted_bytes row_bytes rows)
-entry_bytes (Mark epoch at) rows = 1 ∷ eight_bytes epoch
+abbrev pub entry_rows_bytes : Entry → List CodedRow → List ℕ
+entry_rows_bytes (Run epoch end) rows = 0 ∷ (eight_bytes epoch ++ counted_bytes row_bytes rows)
+entry_rows_bytes (Mark epoch at) rows = 1 ∷ eight_bytes epoch
 
 -- Entries, each with its rows.
 abbrev pub entries_bytes : List EntryRows → List ℕ
-entries_bytes entries = flat_map (λ e. entry_bytes e.entry e.rows) entries
+entries_bytes entries = flat_map (λ e. entry_rows_bytes e.entry e.rows) entries
 
 -- The brick's number, the number of its entries, and these, each with its rows.
 abbrev pub brick_bytes : BrickPart → List ℕ

@@ -76,7 +76,7 @@ abbrev pub FitNames : DimDecl × List (List ℕ) → List (List ℕ) → Type 0
 FitNames d names = MatchBool d.0.text (AreNewNames d.0.cardinality d.1 names) (names ≡ [])
 
 -- What a round from one epoch up to another may have of a cube with these names.
-pub record FitsCube (from epoch : ℕ) (cube : Decl) (earlier : DimNames) (part : RoundCube) : Type 0 where
+pub record FitsRoundCube (from epoch : ℕ) (cube : Decl) (earlier : DimNames) (part : RoundCube) : Type 0 where
   pub names : AllZip FitNames (zip cube.dims earlier) part.names
   pub rising : AreRising 0 part.bricks
   pub bricks : AllByRecursion
@@ -107,7 +107,7 @@ pub record FitsRound (before : List Decl) (names : List DimNames) (round : Round
   pub small : round.epoch < 2 ^ 63
   pub dims : HaveDims before names
   pub made : MayBeMade before round.made
-  pub cubes : AllZip (λ c part. FitsCube round.from round.epoch c.0 c.1 part)
+  pub cubes : AllZip (λ c part. FitsRoundCube round.from round.epoch c.0 c.1 part)
       (zip (before ++ round.made) (names ++ map no_names round.made)) round.cubes
 
 -- Bytes begin with a round that may stand behind these cubes with these names, and a gate of any value.

@@ -16,8 +16,8 @@ parts_in place brick round =
     option_map_or (λ cube. filter (λ b. b.brick == brick) cube.bricks) (slice_get round.cubes place) []
 
 -- What rounds have of a brick, in order.
-abbrev pub parts_of : ℕ → ℕ → List Round → List BrickPart
-parts_of place brick rounds = flat_map (parts_in place brick) rounds
+abbrev pub parts_of_brick : ℕ → ℕ → List Round → List BrickPart
+parts_of_brick place brick rounds = flat_map (parts_in place brick) rounds
 
 -- Entries with so many rows before them.
 abbrev pub entries_behind : ℕ → List Entry → List Entry
@@ -40,6 +40,6 @@ rows_seen s entries i (row ∷ rows) =
 
 -- The rows that rounds keep of a brick for a snapshot, which is the reader at the last round's epoch: those of the
 -- parts joined that no mark hides.
-abbrev pub kept_rows : Snapshot → ℕ → ℕ → List Round → List CodedRow
-kept_rows s place brick rounds =
-    let parts = parts_of place brick rounds in rows_seen s (entries_joined 0 parts) 0 (rows_joined parts)
+abbrev pub rows_of_brick : Snapshot → ℕ → ℕ → List Round → List CodedRow
+rows_of_brick s place brick rounds =
+    let parts = parts_of_brick place brick rounds in rows_seen s (entries_joined 0 parts) 0 (rows_joined parts)

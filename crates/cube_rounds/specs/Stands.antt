@@ -44,10 +44,10 @@ kept_with_all kept [] = kept
 kept_with_all kept (round ∷ rounds) = kept_with_all (kept_with kept round) rounds
 
 -- The rounds may stand one after the other behind what is kept: each begins where the one before it ended.
-abbrev pub MayFollow : Kept → List Round → Type 0
-MayFollow kept [] = Unit {0}
-MayFollow kept (round ∷ rounds) =
-    (round.from ≡ kept.epoch) × FitsRound kept.cubes kept.names round × MayFollow (kept_with kept round) rounds
+abbrev pub RoundsMayFollow : Kept → List Round → Type 0
+RoundsMayFollow kept [] = Unit {0}
+RoundsMayFollow kept (round ∷ rounds) =
+    (round.from ≡ kept.epoch) × FitsRound kept.cubes kept.names round × RoundsMayFollow (kept_with kept round) rounds
 
 -- The bytes of rounds, each behind an open gate.
 abbrev pub rounds_bytes : (List ℕ → List ℕ) → List Decl → List Round → List ℕ
@@ -66,7 +66,7 @@ pub record FileStands (digest : List ℕ → List ℕ) (generation : ℕ) (kept 
   pub cubes : List Decl
   pub header : FitsHeader generation (cubes_text cubes)
   pub rounds : List Round
-  pub chain : MayFollow (kept_of_cubes cubes) rounds
+  pub chain : RoundsMayFollow (kept_of_cubes cubes) rounds
   pub are : kept ≡ kept_with_all (kept_of_cubes cubes) rounds
   pub gate : ℕ
   pub rest : List ℕ

@@ -7,4 +7,4 @@ mod round;
 
 pub use brick::{RoundBrick, RoundBrickList};
 pub use law::files_stand_round_by_round;
-pub use round::{Decls, NameCounts, Round, RoundBricks, RoundCube, RoundCubes};
+pub use round::{NameCounts, Round, RoundBricks, RoundCube, RoundCubes};

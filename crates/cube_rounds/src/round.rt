@@ -4,9 +4,6 @@ use crate::brick::RoundBrickList;
 use cube_language::Decl;
 use cube_values::{Sequence, TextLists};
 
-/// Declarations of cubes, in order.
-pub type Decls = Sequence<Decl>;
-
 /// For each cube and each of its dimensions how many names there are; 0 for a dimension of numbers.
 pub type NameCounts = Sequence<Sequence<u64>>;
 
@@ -31,7 +28,7 @@ pub type RoundCubes = Sequence<RoundCube>;
 pub struct Round {
     pub from: u64,
     pub epoch: u64,
-    /// The new cubes.
-    pub made: Decls,
+    /// The new cubes, in order.
+    pub made: Sequence<Decl>,
     pub cubes: RoundCubes,
 }

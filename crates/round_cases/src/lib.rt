@@ -1,0 +1,7 @@
+//! Cases of headers and rounds: bytes written by an independent program, read and written again.
+#![tactic(auto)]
+
+#[cfg(test)]
+mod headers;
+#[cfg(test)]
+mod rounds;

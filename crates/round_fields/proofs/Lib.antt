@@ -1,0 +1,3 @@
+pub mod DigestLaws
+pub mod FieldLaws
+pub mod Told

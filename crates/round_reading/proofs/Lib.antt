@@ -1,0 +1,16 @@
+pub mod BrickLaws
+pub mod CubeLaws
+pub mod CubesLeft
+pub mod EntryLaws
+pub mod Loops
+pub mod MadeNames
+pub mod NameLaws
+pub mod NameReads
+pub mod NameSets
+pub mod PayloadLaws
+pub mod RoundLaws
+pub mod RowLaws
+pub mod RowReads
+pub mod Sequences
+pub mod Storable
+pub mod VectorLaws

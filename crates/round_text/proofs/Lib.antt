@@ -1,0 +1,4 @@
+pub mod EntryWrites
+pub mod HeaderLaws
+pub mod Shorts
+pub mod Zips

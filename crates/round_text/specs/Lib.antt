@@ -1,0 +1,2 @@
+pub mod HeaderReading
+pub mod Writing
