@@ -1,5 +1,7 @@
 //! A small cube, and rows of it as text.
 
+ghost use Rattle.std.specs.Prelude.{◌≡◌, [], length};
+
 use cube_schema::{Schema, read_cubes};
 use cube_values::CodedRows;
 use std::alloc::{AllocError, Global};
@@ -7,9 +9,6 @@ use std::alloc::{AllocError, Global};
 /// Two dimensions of texts, with places for two names and for three.
 const SALES: &str = "cube sales\ndim store text 2 1\ndim day int 3 1\ndim item text 3 1\n\
     metric units\nmetric price\n";
-
-/// The place of the cube among others.
-pub const PLACE: u32 = 1;
 
 pub fn sales(alloc: Global) -> Result<Schema, AllocError> {
     match read_cubes(alloc, SALES.as_bytes()) {

@@ -3,7 +3,7 @@
 ghost use Rattle.std.specs.Prelude.{◌≡◌, None, IfSome, IfOk};
 ghost use Rattle.cube_language.specs.RowFaults.{first_bad_row};
 
-use crate::cube::{PLACE, batch_of, put_rows, sales};
+use crate::cube::{batch_of, put_rows, sales};
 use cube_language::Statement;
 use cube_schema::Schema;
 use cube_values::Values;
@@ -36,13 +36,13 @@ fn rows_shown<E: Encoder>(
     cube: &Schema,
     rows: &[Values],
 ) -> Result<String, AllocError>
-    requires suits { E.suits encoder.old PLACE cube.now }
+    requires suits { E.suits encoder.old 1 cube.now }
     requires fit { first_bad_row cube.now rows.now ≡ None }
-    ensures { E.suits encoder.new PLACE cube.now }
+    ensures { E.suits encoder.new 1 cube.now }
 {
     let mut batch = batch_of(alloc, cube);
     let mut shown = String::new(alloc);
-    match encode_rows(alloc, encoder, PLACE, cube, rows, &mut batch)? {
+    match encode_rows(alloc, encoder, 1, cube, rows, &mut batch)? {
         Some(text) => shown.push_str(text.as_str())?,
         None => put_rows(&mut shown, &batch)?,
     }
@@ -55,8 +55,8 @@ fn insert_shown<E: Encoder>(
     cube: &Schema,
     rows: &str,
 ) -> Result<String, AllocError>
-    requires { E.suits encoder.old PLACE cube.now }
-    ensures { E.suits encoder.new PLACE cube.now }
+    requires { E.suits encoder.old 1 cube.now }
+    ensures { E.suits encoder.new 1 cube.now }
 {
     let text = format!(in alloc; "INSERT INTO sales VALUES {rows}")?;
     let Ok(statement) = parse(alloc, text.as_str()) else {
@@ -90,15 +90,13 @@ fn first_other<'a, E: Encoder>(
     cube: &Schema,
     inserts: &[(&str, &'a str)],
 ) -> Result<Option<&'a str>, AllocError>
-    requires { E.suits encoder.old PLACE cube.now }
+    requires { E.suits encoder.old 1 cube.now }
 {
-    let mut left = inserts;
-    while let [(rows, wanted), rest @ ..] = left {
+    'inserts: for (rows, wanted) in inserts {
         let found = insert_shown(alloc, encoder, cube, rows)?;
         if found.as_str() != *wanted {
             return Ok(Some(*wanted));
         }
-        left = rest;
     }
     Ok(None)
 }

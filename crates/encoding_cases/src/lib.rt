@@ -4,8 +4,6 @@
 #[cfg(test)]
 mod cube;
 #[cfg(test)]
-mod deletions;
-#[cfg(test)]
 mod inserts;
 #[cfg(test)]
 mod loads;

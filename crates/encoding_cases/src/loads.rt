@@ -2,7 +2,7 @@
 
 ghost use Rattle.std.specs.Prelude.{OnOk};
 
-use crate::cube::{PLACE, batch_of, put_rows, sales};
+use crate::cube::{batch_of, put_rows, sales};
 use csv_load::Loader;
 use cube_schema::Schema;
 use names_dict::Dicts;
@@ -36,13 +36,13 @@ fn load_shown<E: Encoder>(
     file: &str,
     allowed: u64,
 ) -> Result<String, AllocError>
-    requires { E.suits encoder.old PLACE cube.now }
-    ensures { OnOk result (E.suits encoder.new PLACE cube.now) }
+    requires { E.suits encoder.old 1 cube.now }
+    ensures { OnOk result (E.suits encoder.new 1 cube.now) }
 {
     let mut load = Loader::new(alloc, Vec::from_slice(alloc, file.as_bytes())?, cube)?;
     let mut bad = BadRecords::none(alloc);
     let mut batch = batch_of(alloc, cube);
-    let ended = load_rows(alloc, encoder, PLACE, cube, &mut load, allowed, &mut bad, &mut batch)?;
+    let ended = load_rows(alloc, encoder, 1, cube, &mut load, allowed, &mut bad, &mut batch)?;
     let mut shown = String::new(alloc);
     put_rows(&mut shown, &batch)?;
     put_bad(&mut shown, &bad)?;
@@ -73,15 +73,13 @@ fn first_other<'a, E: Encoder>(
     cube: &Schema,
     files: &[(&str, u64, &'a str)],
 ) -> Result<Option<&'a str>, AllocError>
-    requires { E.suits encoder.old PLACE cube.now }
+    requires { E.suits encoder.old 1 cube.now }
 {
-    let mut left = files;
-    while let [(file, allowed, wanted), rest @ ..] = left {
+    'files: for (file, allowed, wanted) in files {
         let found = load_shown(alloc, encoder, cube, file, *allowed)?;
         if found.as_str() != *wanted {
             return Ok(Some(*wanted));
         }
-        left = rest;
     }
     Ok(None)
 }
@@ -106,9 +104,9 @@ fn rows_of_second(alloc: Global, cube: &Schema, rows: usize) -> Result<Option<us
     let mut load = Loader::new(alloc, file, cube)?;
     let mut bad = BadRecords::none(alloc);
     let mut batch = batch_of(alloc, cube);
-    match load_rows(alloc, &mut dicts, PLACE, cube, &mut load, 1, &mut bad, &mut batch)? {
+    match load_rows(alloc, &mut dicts, 1, cube, &mut load, 1, &mut bad, &mut batch)? {
         BatchEnd::Full => {
-            load_rows(alloc, &mut dicts, PLACE, cube, &mut load, 1, &mut bad, &mut batch)?;
+            load_rows(alloc, &mut dicts, 1, cube, &mut load, 1, &mut bad, &mut batch)?;
             Ok(Some(batch.len()))
         }
         _ => Ok(None),
