@@ -1,5 +1,5 @@
--- The jobs of a client in groups: one batch of rows, one box, one query, one rollback or one purge, with at most one job
--- for each shard.
+-- The jobs of a client in groups: one batch of rows, one box, one query, one rollback or one purge, with at most one
+-- job for each shard.
 -- Source: Cubrick (VLDB 2016), one request that goes to all shards; what a group allows next is this project's own.
 use Rattle.std.specs.Prelude.{ℕ, Bool, true, false, not, ◌&&◌, ◌||◌, ◌==◌, zero, suc, List, [], ◌∷◌, map, filter, if◌then◌else◌}
 use Rattle.std.specs.List.{list_any}
@@ -65,8 +65,8 @@ mails_of answers = map (λ r. r.mail) answers
 abbrev pub has_refusal : List Received → Bool
 has_refusal answers = list_any (λ r. is_refusal r.answer) answers
 
--- A group without open answers is complete where each shard answered or one refused; a batch of rows always is, since it
--- need not have rows for each shard. After a rollback comes nothing but the end of the transaction.
+-- A group without open answers is complete where each shard answered or one refused; a batch of rows always is, since
+-- it need not have rows for each shard. After a rollback comes nothing but the end of the transaction.
 abbrev pub is_complete : ℕ → GroupKind → Bool → List ℕ → Bool
 is_complete shards NoGroup refused mails = true
 is_complete shards Puts refused mails = true

@@ -64,7 +64,8 @@ shows_run sight epoch older = sight.epochs epoch && not (is_below_mark sight.mar
 abbrev pub rows_shown_besides : Sight → Sight → List BrickEntry → List CodedRow
 rows_shown_besides one other [] = []
 rows_shown_besides one other (RowRun epoch rows ∷ older) =
-    rows_shown_besides one other older ++ rows_where (shows_run one epoch older && not (shows_run other epoch older)) rows
+    rows_shown_besides one other older
+    ++ rows_where (shows_run one epoch older && not (shows_run other epoch older)) rows
 rows_shown_besides one other (RowMark epoch ∷ older) =
     rows_shown_besides (sight_before_mark epoch one) (sight_before_mark epoch other) older
 

@@ -41,8 +41,8 @@ pub data CubeOperation : Type 0 where
   PutRows : (rows : List CodedRow) → CubeOperation
   DropRows : (box : Span) → CubeOperation
 
--- The operations of an epoch on a cube, the newest first, by what its session posted: the rows for each shard, and a box
--- where the group of its jobs begins.
+-- The operations of an epoch on a cube, the newest first, by what its session posted: the rows for each shard, and a
+-- box where the group of its jobs begins.
 abbrev pub operations_with : ℕ → ℕ → Bool → CoreJob → List CubeOperation → List CubeOperation
 operations_with cube e begins (Append other epoch rows) operations =
     if other == cube && epoch == e then PutRows rows ∷ operations else operations

@@ -41,8 +41,8 @@ abbrev pub rows_where : Bool → List CodedRow → List CodedRow
 rows_where true rows = rows
 rows_where false rows = []
 
--- The rows of a brick, in the order in which they were appended, for whoever looks for the rows of some epochs and obeys
--- the marks of some epochs. A mark hides the rows of lower epochs, and those of its own epoch that stood before it.
+-- The rows of a brick, in the order in which they were appended, for whoever looks for the rows of some epochs and
+-- obeys the marks of some epochs. A mark hides the rows of lower epochs, and those of its own epoch that stood before it.
 abbrev pub rows_shown_to : Epochs → Epochs → List BrickEntry → List CodedRow
 rows_shown_to epochs marks [] = []
 rows_shown_to epochs marks (RowRun epoch rows ∷ older) =
@@ -100,3 +100,7 @@ entries_of_round from to (RowRun epoch rows ∷ older) =
 entries_of_round from to (RowMark epoch ∷ older) =
     if is_within_round from to epoch then RowMark epoch ∷ entries_of_round from to older
     else entries_of_round from to older
+
+-- The epochs of a set that are in no other.
+abbrev pub epochs_without : Epochs → Epochs → Epochs
+epochs_without set gone e = set e && not (gone e)

@@ -13,8 +13,8 @@ pub fn clients_know_by_their_calls()
         → client_state o a es ≡ state_from_calls o a (calls_of a es) }
 {}
 
-/// Names only grow. A code that was answered keeps its name, and the names that a client was told of are
-/// there.
+/// Names only grow. A code that was answered keeps its name, and the names that a client was told
+/// of are there.
 pub fn names_only_grow()
     ensures grow { (o : Opening) (cube dim : ℕ) (later es : List CoreEvent)
         → (rest : List (List ℕ)) × ((dictionary_of o cube dim (later ++ es)).names

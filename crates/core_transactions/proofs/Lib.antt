@@ -1,0 +1,4 @@
+pub mod Fates
+pub mod PostedJobs
+pub mod PostedRuns
+pub mod CountedRows
