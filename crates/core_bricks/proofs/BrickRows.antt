@@ -1,7 +1,7 @@
 -- What a brick shows after an append, a deletion, a rollback and a purge.
 -- A sight is one test on the epochs of rows and one on those of marks.
-use Rattle.std.proofs.Common.{◌≡◌, ◌∙◌, ℕ, ◌<◌, ◌≤◌, ◌==◌, Bool, true, false, true≢false, not, ◌&&◌, ◌||◌, nat_lt, nat_le, List, [], ◌∷◌, ◌++◌, inl, inr, refl, sym, ap, eqb-true, append-nil, if◌then◌else◌}
-use Rattle.std.proofs.lemmas.Bool.{false≢true, leb-true}
+use Rattle.std.proofs.Common.{◌≡◌, ◌∙◌, ℕ, ◌≤◌, ◌==◌, Bool, true, false, not, ◌&&◌, ◌||◌, nat_lt, nat_le, List, [], ◌∷◌, ◌++◌, refl, sym, ap, eqb-true, append-nil, if◌then◌else◌}
+use Rattle.std.proofs.lemmas.Bool.{leb-true}
 use Rattle.cube_values.specs.declared.row.CodedRow.{CodedRow}
 use Rattle.core_events.specs.ShardView.{BrickEntry, RowRun, RowMark, Epochs, is_below_mark, epochs_above, epochs_before_mark, rows_where, rows_shown_to, entries_without_epoch, is_up_to, entries_after_purge, every_epoch}
 

@@ -1,13 +1,13 @@
 -- What a round copies of a brick, put over the rows that were kept before, shows what a reader at its target sees.
-use Rattle.std.proofs.Common.{◌≡◌, ◌≢◌, ◌⊎◌, ◌∙◌, ℕ, ◌+◌, ◌<◌, ◌≤◌, ◌==◌, Bool, true, false, true≢false, not, ◌&&◌, ◌||◌, nat_lt, nat_le, List, [], ◌∷◌, ◌++◌, if◌then◌else◌, inl, inr, refl, sym, ap, arith, lt-ltb, le-ltb, le-leb, ltb-true}
-use Rattle.std.specs.List.{count_by, list_any}
+use Rattle.std.proofs.Common.{◌≡◌, ◌∙◌, ℕ, ◌+◌, ◌<◌, ◌≤◌, Bool, true, false, not, ◌&&◌, ◌||◌, nat_lt, nat_le, List, [], ◌∷◌, ◌++◌, if◌then◌else◌, inl, inr, refl, sym, ap, arith, lt-ltb, le-ltb, le-leb, ltb-true}
+use Rattle.std.specs.List.{count_by}
 use Rattle.std.proofs.lemmas.Bool.{false≢true, lt-leb}
 use Rattle.cube_values.specs.declared.row.CodedRow.{CodedRow}
 use Rattle.cube_values.specs.Sees.{sees}
 use Rattle.core_events.specs.Clients.{reader_at}
-use Rattle.core_events.specs.ShardView.{BrickEntry, RowRun, RowMark, Epochs, is_below_mark, epochs_above, epochs_before_mark, every_epoch, rows_where, rows_shown_to, brick_rows_seen, is_within_round, entries_of_round}
+use Rattle.core_events.specs.ShardView.{BrickEntry, RowRun, RowMark, Epochs, is_below_mark, epochs_above, epochs_before_mark, every_epoch, rows_shown_to, brick_rows_seen, is_within_round, entries_of_round}
 use Rattle.core_bricks.specs.BrickTransactions.{rows_over_kept}
-use Rattle.core_bricks.proofs.Counts.{number_where, count-append, count-run, where-sum, where-zero, in-order}
+use Rattle.core_bricks.proofs.Counts.{number_where, count-run, where-sum, where-zero, in-order}
 use Rattle.core_bricks.proofs.SerialRows.{or-assoc, or-true, and-assoc, and-true, and-false, low-run, none-run, mark-none}
 
 -- Which epochs a reader sees.
@@ -55,10 +55,10 @@ era p t e = elim (in-order e p) [
   | inl low ↦ Kept (omega (arith, low))
   | inr (inl same) ↦ Kept (omega (arith, same))
   | inr (inr high) ↦ elim (in-order e t) [
-      | inl low ↦ Copied high (omega (arith, low))
-      | inr (inl same) ↦ Copied high (omega (arith, same))
-      | inr (inr later) ↦ Later later
-    ]
+    | inl low ↦ Copied high (omega (arith, low))
+    | inr (inl same) ↦ Copied high (omega (arith, same))
+    | inr (inr later) ↦ Later later
+  ]
 ]
 
 -- What hides the rows of a kept epoch from the later reader hides them from the earlier, or is of the round.
@@ -85,11 +85,11 @@ below-kept-at p t e d older le kept (Later l) rest =
 run-covers : (p t e : ℕ) (rows : List CodedRow) (older : List BrickEntry) → covers_kept p t (RowRun e rows ∷ older) ≡ covers_kept p t older
 run-covers p t e rows older = at-run (is_within_round p t e)
   where
-  at-run : (here : Bool)
-      → is_below_mark every_epoch p (if here then RowRun e rows ∷ entries_of_round p t older else entries_of_round p t older)
-      ≡ covers_kept p t older
-  at-run true = refl
-  at-run false = refl
+    at-run : (here : Bool)
+        → is_below_mark every_epoch p (if here then RowRun e rows ∷ entries_of_round p t older else entries_of_round p t older)
+        ≡ covers_kept p t older
+    at-run true = refl
+    at-run false = refl
 
 below-kept : (p t e : ℕ) (xs : List BrickEntry) → p ≤ t → e ≤ p
     → is_below_mark (sees (reader_at t)) e xs ≡ (is_below_mark (sees (reader_at p)) e xs || covers_kept p t xs)
@@ -105,24 +105,24 @@ below-copied : (p t e : ℕ) (xs : List BrickEntry) → p < e
 below-copied p t e [] l = refl
 below-copied p t e (RowRun j rows ∷ older) l = below-copied p t e older l ∙ at-run (is_within_round p t j)
   where
-  at-run : (here : Bool) → is_below_mark every_epoch e (entries_of_round p t older)
-      ≡ is_below_mark every_epoch e (if here then RowRun j rows ∷ entries_of_round p t older else entries_of_round p t older)
-  at-run true = refl
-  at-run false = refl
+    at-run : (here : Bool) → is_below_mark every_epoch e (entries_of_round p t older)
+        ≡ is_below_mark every_epoch e (if here then RowRun j rows ∷ entries_of_round p t older else entries_of_round p t older)
+    at-run true = refl
+    at-run false = refl
 below-copied p t e (RowMark d ∷ older) l = at-mark (era p t d) (below-copied p t e older l)
   where
-  at-mark : Era p t d → is_below_mark (sees (reader_at t)) e older ≡ is_below_mark every_epoch e (entries_of_round p t older)
-      → is_below_mark (sees (reader_at t)) e (RowMark d ∷ older) ≡ is_below_mark every_epoch e (entries_of_round p t (RowMark d ∷ older))
-  at-mark (Kept k) rest =
-      (λ i. (sees (reader_at t) d && le-ltb e d (omega (arith, l, k)) i) || rest i)
-      ∙ ap (λ (b : Bool). b || is_below_mark every_epoch e (entries_of_round p t older)) (and-false (sees (reader_at t) d))
-      ∙ ap (is_below_mark every_epoch e) (sym (round-mark p t d older false (within-low p t d k)))
-  at-mark (Copied k h) rest =
-      (λ i. (sees-low t d h i && nat_lt e d) || rest i)
-      ∙ ap (is_below_mark every_epoch e) (sym (round-mark p t d older true (within-yes p t d k h)))
-  at-mark (Later k) rest =
-      (λ i. (sees-not t d k i && nat_lt e d) || rest i)
-      ∙ ap (is_below_mark every_epoch e) (sym (round-mark p t d older false (within-high p t d k)))
+    at-mark : Era p t d → is_below_mark (sees (reader_at t)) e older ≡ is_below_mark every_epoch e (entries_of_round p t older)
+        → is_below_mark (sees (reader_at t)) e (RowMark d ∷ older) ≡ is_below_mark every_epoch e (entries_of_round p t (RowMark d ∷ older))
+    at-mark (Kept k) rest =
+        (λ i. (sees (reader_at t) d && le-ltb e d (omega (arith, l, k)) i) || rest i)
+        ∙ ap (λ (b : Bool). b || is_below_mark every_epoch e (entries_of_round p t older)) (and-false (sees (reader_at t) d))
+        ∙ ap (is_below_mark every_epoch e) (sym (round-mark p t d older false (within-low p t d k)))
+    at-mark (Copied k h) rest =
+        (λ i. (sees-low t d h i && nat_lt e d) || rest i)
+        ∙ ap (is_below_mark every_epoch e) (sym (round-mark p t d older true (within-yes p t d k h)))
+    at-mark (Later k) rest =
+        (λ i. (sees-not t d k i && nat_lt e d) || rest i)
+        ∙ ap (is_below_mark every_epoch e) (sym (round-mark p t d older false (within-high p t d k)))
 
 -- Rows are looked for: kept ones where u, by one set, and those of the round, by another.
 record CopyParts (p t : ℕ) (u : Bool) (all new old : Epochs) : Type 0 where
@@ -213,50 +213,49 @@ copy-counts : (c : CodedRow → Bool) (p t : ℕ) (u : Bool) (all new old : Epoc
     → count_by c (rows_shown_to all (sees (reader_at t)) xs)
     ≡ number_where (u && not (covers_kept p t xs)) (count_by c (rows_shown_to old (sees (reader_at p)) xs))
     + count_by c (rows_shown_to new every_epoch (entries_of_round p t xs))
-
 copy-counts c p t u all new old [] le parts = let z = where-zero (u && not false) in omega (arith, z)
 copy-counts c p t u all new old (RowRun e rows ∷ older) le parts =
     copy-run-at c p t e u all new old rows older le parts (era p t e) (copy-counts c p t u all new old older le parts)
     ∙ ap (λ (b : Bool). number_where (u && not b) (count_by c (rows_shown_to old (sees (reader_at p)) (RowRun e rows ∷ older)))
     + count_by c (rows_shown_to new every_epoch (entries_of_round p t (RowRun e rows ∷ older)))) (sym (run-covers p t e rows older))
 copy-counts c p t u all new old (RowMark d ∷ older) le parts = at-mark (era p t d)
-  (λ v l k o q. copy-counts c p t v l k o older le q)
+    (λ v l k o q. copy-counts c p t v l k o older le q)
   where
-  at-mark : Era p t d
-      → ((v : Bool) (l k o : Epochs) → CopyParts p t v l k o
-      → count_by c (rows_shown_to l (sees (reader_at t)) older)
-      ≡ number_where (v && not (covers_kept p t older)) (count_by c (rows_shown_to o (sees (reader_at p)) older))
-      + count_by c (rows_shown_to k every_epoch (entries_of_round p t older)))
-      → count_by c (rows_shown_to all (sees (reader_at t)) (RowMark d ∷ older))
-      ≡ number_where (u && not (covers_kept p t (RowMark d ∷ older))) (count_by c (rows_shown_to old (sees (reader_at p)) (RowMark d ∷ older)))
-      + count_by c (rows_shown_to new every_epoch (entries_of_round p t (RowMark d ∷ older)))
-  at-mark (Kept k) rest =
-      let step = round-mark p t d older false (within-low p t d k) in
-      ap (λ (b : Bool). count_by c (rows_shown_to (epochs_before_mark b d all) (sees (reader_at t)) older)) (sees-low t d (omega (arith, k, le)))
-      ∙ rest u (epochs_above d all) new (epochs_above d old) (copy-kept-mark p t d u all new old k parts)
-      ∙ (λ i. number_where (u && not (is_below_mark every_epoch p (sym step i)))
-      (count_by c (rows_shown_to (epochs_before_mark (sym (sees-low p d k) i) d old) (sees (reader_at p)) older))
-      + count_by c (rows_shown_to new every_epoch (sym step i)))
-  at-mark (Copied k h) rest =
-      let step = round-mark p t d older true (within-yes p t d k h) in
-      let start =
-      ap (λ (b : Bool). count_by c (rows_shown_to (epochs_before_mark b d all) (sees (reader_at t)) older)) (sees-low t d h)
-      ∙ rest false (epochs_above d all) (epochs_above d new) old (copy-round-mark p t d u all new old k parts)
-      in
-      let covered : number_where (u && not (covers_kept p t (RowMark d ∷ older))) (count_by c (rows_shown_to old (sees (reader_at p)) (RowMark d ∷ older))) ≡ 0 =
-      ap (λ (es : List BrickEntry). number_where (u && not (is_below_mark every_epoch p es)) (count_by c (rows_shown_to old (sees (reader_at p)) (RowMark d ∷ older)))) step
-      ∙ ap (λ (b : Bool). number_where (u && not (b || covers_kept p t older)) (count_by c (rows_shown_to old (sees (reader_at p)) (RowMark d ∷ older)))) (lt-ltb p d k)
-      ∙ ap (λ (b : Bool). number_where b (count_by c (rows_shown_to old (sees (reader_at p)) (RowMark d ∷ older)))) (and-false u)
-      in
-      let new-rows = ap (λ (es : List BrickEntry). count_by c (rows_shown_to new every_epoch es)) step in
-      omega (arith, start, covered, new-rows)
-  at-mark (Later k) rest =
-      let step = round-mark p t d older false (within-high p t d k) in
-      ap (count_by c) (mark-none (sees (reader_at t) d) d all (sees (reader_at t)) older (sees-not t d k))
-      ∙ rest u all new old parts
-      ∙ (λ i. number_where (u && not (is_below_mark every_epoch p (sym step i)))
-      (count_by c (sym (mark-none (sees (reader_at p) d) d old (sees (reader_at p)) older (sees-not p d (omega (arith, k, le)))) i))
-      + count_by c (rows_shown_to new every_epoch (sym step i)))
+    at-mark : Era p t d
+        → ((v : Bool) (l k o : Epochs) → CopyParts p t v l k o
+        → count_by c (rows_shown_to l (sees (reader_at t)) older)
+        ≡ number_where (v && not (covers_kept p t older)) (count_by c (rows_shown_to o (sees (reader_at p)) older))
+        + count_by c (rows_shown_to k every_epoch (entries_of_round p t older)))
+        → count_by c (rows_shown_to all (sees (reader_at t)) (RowMark d ∷ older))
+        ≡ number_where (u && not (covers_kept p t (RowMark d ∷ older))) (count_by c (rows_shown_to old (sees (reader_at p)) (RowMark d ∷ older)))
+        + count_by c (rows_shown_to new every_epoch (entries_of_round p t (RowMark d ∷ older)))
+    at-mark (Kept k) rest =
+        let step = round-mark p t d older false (within-low p t d k) in
+        ap (λ (b : Bool). count_by c (rows_shown_to (epochs_before_mark b d all) (sees (reader_at t)) older)) (sees-low t d (omega (arith, k, le)))
+        ∙ rest u (epochs_above d all) new (epochs_above d old) (copy-kept-mark p t d u all new old k parts)
+        ∙ (λ i. number_where (u && not (is_below_mark every_epoch p (sym step i)))
+        (count_by c (rows_shown_to (epochs_before_mark (sym (sees-low p d k) i) d old) (sees (reader_at p)) older))
+        + count_by c (rows_shown_to new every_epoch (sym step i)))
+    at-mark (Copied k h) rest =
+        let step = round-mark p t d older true (within-yes p t d k h) in
+        let start =
+        ap (λ (b : Bool). count_by c (rows_shown_to (epochs_before_mark b d all) (sees (reader_at t)) older)) (sees-low t d h)
+        ∙ rest false (epochs_above d all) (epochs_above d new) old (copy-round-mark p t d u all new old k parts)
+        in
+        let covered : number_where (u && not (covers_kept p t (RowMark d ∷ older))) (count_by c (rows_shown_to old (sees (reader_at p)) (RowMark d ∷ older))) ≡ 0 =
+        ap (λ (es : List BrickEntry). number_where (u && not (is_below_mark every_epoch p es)) (count_by c (rows_shown_to old (sees (reader_at p)) (RowMark d ∷ older)))) step
+        ∙ ap (λ (b : Bool). number_where (u && not (b || covers_kept p t older)) (count_by c (rows_shown_to old (sees (reader_at p)) (RowMark d ∷ older)))) (lt-ltb p d k)
+        ∙ ap (λ (b : Bool). number_where b (count_by c (rows_shown_to old (sees (reader_at p)) (RowMark d ∷ older)))) (and-false u)
+        in
+        let new-rows = ap (λ (es : List BrickEntry). count_by c (rows_shown_to new every_epoch es)) step in
+        omega (arith, start, covered, new-rows)
+    at-mark (Later k) rest =
+        let step = round-mark p t d older false (within-high p t d k) in
+        ap (count_by c) (mark-none (sees (reader_at t) d) d all (sees (reader_at t)) older (sees-not t d k))
+        ∙ rest u all new old parts
+        ∙ (λ i. number_where (u && not (is_below_mark every_epoch p (sym step i)))
+        (count_by c (sym (mark-none (sees (reader_at p) d) d old (sees (reader_at p)) older (sees-not p d (omega (arith, k, le)))) i))
+        + count_by c (rows_shown_to new every_epoch (sym step i)))
 
 -- Kept rows below the copied runs and marks.
 
@@ -276,19 +275,20 @@ round-above : (p t : ℕ) (xs : List BrickEntry) → MarksAbove p (entries_of_ro
 round-above p t [] = tt
 round-above p t (RowRun j rows ∷ older) = at-run (is_within_round p t j) (round-above p t older)
   where
-  at-run : (here : Bool) → MarksAbove p (entries_of_round p t older)
-      → MarksAbove p (if here then RowRun j rows ∷ entries_of_round p t older else entries_of_round p t older)
-  at-run true rest = rest
-  at-run false rest = rest
+    at-run : (here : Bool) → MarksAbove p (entries_of_round p t older)
+        → MarksAbove p (if here then RowRun j rows ∷ entries_of_round p t older else entries_of_round p t older)
+    at-run true rest = rest
+    at-run false rest = rest
 round-above p t (RowMark d ∷ older) = at-mark (is_within_round p t d) refl (round-above p t older)
   where
-  left-of : (a b : Bool) → (a && b) ≡ true → a ≡ true
-  left-of true b e = refl
-  left-of false b e = absurd (false≢true e)
-  at-mark : (here : Bool) → is_within_round p t d ≡ here → MarksAbove p (entries_of_round p t older)
-      → MarksAbove p (if here then RowMark d ∷ entries_of_round p t older else entries_of_round p t older)
-  at-mark true is rest = (ltb-true p d (left-of (nat_lt p d) (nat_le d t) is), rest)
-  at-mark false is rest = rest
+    left-of : (a b : Bool) → (a && b) ≡ true → a ≡ true
+    left-of true b e = refl
+    left-of false b e = absurd (false≢true e)
+
+    at-mark : (here : Bool) → is_within_round p t d ≡ here → MarksAbove p (entries_of_round p t older)
+        → MarksAbove p (if here then RowMark d ∷ entries_of_round p t older else entries_of_round p t older)
+    at-mark true is rest = (ltb-true p d (left-of (nat_lt p d) (nat_le d t) is), rest)
+    at-mark false is rest = rest
 
 over-counts : (c : CodedRow → Bool) (p : ℕ) (set : Epochs) (old : List CodedRow) (ys : List BrickEntry) → MarksAbove p ys
     → count_by c (rows_shown_to set every_epoch (ys ++ RowRun p old ∷ []))

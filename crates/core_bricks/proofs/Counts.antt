@@ -1,5 +1,5 @@
 -- How many rows of a list pass a test.
-use Rattle.std.proofs.Common.{◌≡◌, ◌≢◌, ◌⊎◌, ◌∙◌, ℕ, ◌+◌, ◌<◌, ◌≤◌, Bool, true, false, not, ◌&&◌, ◌||◌, cond, filter, fold, List, [], ◌∷◌, ◌++◌, inl, inr, refl, sym, ap, arith}
+use Rattle.std.proofs.Common.{◌≡◌, ◌⊎◌, ◌∙◌, ℕ, ◌+◌, ◌<◌, Bool, true, false, ◌&&◌, cond, filter, fold, List, [], ◌∷◌, ◌++◌, inl, inr, refl, sym, ap, arith}
 use Rattle.std.specs.List.{count_by}
 use Rattle.std.proofs.lemmas.Bool.Decides.{eqb_tells, leb_tells}
 use Rattle.cube_values.specs.declared.row.CodedRow.{CodedRow}
@@ -57,9 +57,9 @@ pub in-order : (a b : ℕ) → (a < b) ⊎ ((a ≡ b) ⊎ (b < a))
 in-order a b = elim (eqb_tells a b) [
   | inl same ↦ inr (inl same.1)
   | inr other ↦ elim (leb_tells a b) [
-      | inl low ↦ (let l = low.1 in let o = other.1 in inl (omega (arith, l, o)))
-      | inr high ↦ inr (inr high.1)
-    ]
+    | inl low ↦ (let l = low.1 in let o = other.1 in inl (omega (arith, l, o)))
+    | inr high ↦ inr (inr high.1)
+  ]
 ]
 
 -- Of the rows that a filter leaves.

@@ -1,8 +1,8 @@
 -- The rows that one sight shows and another does not, by their number.
-use Rattle.std.proofs.Common.{◌≡◌, ◌∙◌, ℕ, ◌+◌, Bool, true, false, not, ◌&&◌, List, [], ◌∷◌, ◌++◌, refl, ap, arith}
+use Rattle.std.proofs.Common.{◌≡◌, ℕ, ◌+◌, Bool, true, false, not, ◌&&◌, List, [], ◌∷◌, refl, arith}
 use Rattle.std.specs.List.{count_by}
 use Rattle.cube_values.specs.declared.row.CodedRow.{CodedRow}
-use Rattle.core_events.specs.ShardView.{BrickEntry, RowRun, RowMark, rows_shown_to, rows_where}
+use Rattle.core_events.specs.ShardView.{BrickEntry, RowRun, RowMark, rows_shown_to}
 use Rattle.core_events.specs.Runs.{Sight, sight_before_mark, shows_run, rows_shown_besides}
 use Rattle.core_bricks.proofs.Counts.{number_where, count-run}
 

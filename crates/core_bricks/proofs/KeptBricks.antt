@@ -1,6 +1,6 @@
 -- A brick as it is, against all that it was told: what it shows is the same, less what was rolled back.
-use Rattle.std.proofs.Common.{◌≡◌, ◌∙◌, ℕ, ◌<◌, ◌≤◌, ◌==◌, Bool, true, false, true≢false, not, ◌&&◌, ◌||◌, nat_lt, nat_le, List, [], ◌∷◌, ◌++◌, inl, inr, refl, sym, ap, arith, eqb-true, eq-eqb, ne_eqb, le-ltb, leb-true, append-nil, if◌then◌else◌}
-use Rattle.std.proofs.lemmas.Bool.{false≢true, eqb-false}
+use Rattle.std.proofs.Common.{◌≡◌, ◌∙◌, ℕ, ◌<◌, ◌≤◌, ◌==◌, Bool, true, false, not, ◌&&◌, ◌||◌, nat_lt, nat_le, List, [], ◌∷◌, ◌++◌, refl, sym, ap, arith, eqb-true, eq-eqb, ne_eqb, le-ltb, leb-true, append-nil, if◌then◌else◌}
+use Rattle.std.proofs.lemmas.Bool.{eqb-false}
 use Rattle.cube_values.specs.declared.row.CodedRow.{CodedRow}
 use Rattle.core_events.specs.ShardView.{BrickEntry, RowRun, RowMark, Epochs, is_below_mark, epochs_above, epochs_before_mark, rows_where, rows_shown_to, entries_without_epoch, entries_after_purge, every_epoch}
 use Rattle.core_events.specs.ShardView.{epochs_without}

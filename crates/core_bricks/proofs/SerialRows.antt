@@ -1,7 +1,7 @@
 -- What a brick shows is what its transactions leave, run one after the other.
-use Rattle.std.proofs.Common.{◌≡◌, ◌≢◌, ◌⊎◌, ◌∙◌, ℕ, zero, suc, ◌+◌, ◌<◌, ◌≤◌, ◌==◌, Bool, true, false, true≢false, not, ◌&&◌, ◌||◌, nat_lt, nat_le, List, [], ◌∷◌, ◌++◌, if◌then◌else◌, inl, inr, refl, sym, ap, arith, eq-eqb, ne_eqb, lt-ltb, le-ltb}
+use Rattle.std.proofs.Common.{◌≡◌, ◌∙◌, ℕ, zero, suc, ◌+◌, ◌<◌, ◌≤◌, ◌==◌, Bool, true, false, true≢false, not, ◌&&◌, ◌||◌, nat_lt, List, [], ◌∷◌, ◌++◌, if◌then◌else◌, inl, inr, refl, sym, ap, arith, eq-eqb, ne_eqb, lt-ltb, le-ltb}
 use Rattle.std.specs.List.{count_by, list_any}
-use Rattle.std.proofs.lemmas.Bool.{false≢true, lt-leb}
+use Rattle.std.proofs.lemmas.Bool.{lt-leb}
 use Rattle.cube_values.specs.declared.row.CodedRow.{CodedRow}
 use Rattle.cube_values.specs.declared.snapshot.Snapshot.{Snapshot}
 use Rattle.cube_values.specs.Sees.{sees}
@@ -264,9 +264,9 @@ shown-none all marks (RowRun e rows ∷ older) none =
     λ i. shown-none all marks older none i ++ rows_where (none e i && not (is_below_mark marks e older)) rows
 shown-none all marks (RowMark d ∷ older) none = shown-none (epochs_before_mark (marks d) d all) marks older (none-before (marks d) d all none)
   where
-  none-before : (here : Bool) (d : ℕ) (set : Epochs) → ((e : ℕ) → set e ≡ false) → (e : ℕ) → epochs_before_mark here d set e ≡ false
-  none-before true d set n e = ap (λ (b : Bool). b && nat_lt d e) (n e)
-  none-before false d set n e = n e
+    none-before : (here : Bool) (d : ℕ) (set : Epochs) → ((e : ℕ) → set e ≡ false) → (e : ℕ) → epochs_before_mark here d set e ≡ false
+    none-before true d set n e = ap (λ (b : Bool). b && nat_lt d e) (n e)
+    none-before false d set n e = n e
 
 -- One limit more.
 same-limit : (set : Epochs) (m e : ℕ) → set m ≡ false → (set e && nat_lt e m) ≡ (set e && nat_lt e (suc m))

@@ -1,6 +1,6 @@
 -- The transactions of a brick, one after the other.
 -- Source: AOSI (ICDE 2018), serial execution in the order of epochs.
-use Rattle.std.specs.Prelude.{ℕ, zero, suc, Bool, false, ◌||◌, ◌==◌, List, [], ◌∷◌, ◌++◌, if◌then◌else◌}
+use Rattle.std.specs.Prelude.{ℕ, zero, suc, ◌==◌, List, [], ◌∷◌, ◌++◌, if◌then◌else◌}
 use Rattle.cube_values.specs.declared.row.CodedRow.{CodedRow}
 use Rattle.core_events.specs.ShardView.{BrickEntry, RowRun, RowMark, Epochs, every_epoch, rows_shown_to}
 

@@ -9,7 +9,10 @@ ghost use Rattle.core_bricks.specs.BrickTransactions.{brick_rows_left, rows_over
 ghost use Rattle.core_events.specs.Clients.{reader_at};
 ghost use Rattle.core_events.specs.Runs.{Sight, rows_shown_besides};
 ghost use Rattle.core_events.specs.ShardView.{
-    BrickEntry, brick_rows_seen, entries_of_round, rows_shown_to
+  BrickEntry,
+  brick_rows_seen,
+  entries_of_round,
+  rows_shown_to,
 };
 
 /// What a snapshot sees of a brick is, row for row, what the transactions that it sees leave, run

@@ -1,17 +1,16 @@
 -- The small run is a run, and its query is answered.
-use Rattle.std.proofs.Common.{◌≡◌, ◌≢◌, ◌∙◌, ℕ, zero, suc, ◌%◌, ◌≤◌, ◌<◌, ◌==◌, Bool, true, false, true≢false, List, [], ◌∷◌, filter, slice_get, Option, Some, None, All, inl, inr, refl, sym, ap, arith, eq-eqb, if◌then◌else◌}
+use Rattle.std.proofs.Common.{◌≡◌, ℕ, zero, suc, ◌%◌, ◌<◌, ◌==◌, Bool, true, false, List, [], ◌∷◌, slice_get, Some, inl, refl, sym, ap, arith, eq-eqb, if◌then◌else◌}
 use Rattle.std.proofs.lemmas.Bool.{false≢true}
 use Rattle.std.proofs.lemmas.Option.{none-some, same_Some}
 use Rattle.std.proofs.lemmas.List.Elements.{All-cons, All-nil}
 use Rattle.cube_values.specs.declared.query.BoundItem.TheVariants.{Count}
-use Rattle.cube_values.specs.declared.row.CodedRow.{CodedRow}
 use Rattle.cube_values.specs.Queries.{IsSoundItem}
 use Rattle.core_events.specs.ShardView.{BrickEntry, RowRun, brick_rows_seen, rows_where}
-use Rattle.core_events.specs.Jobs.{CoreJob, Append, DropBox, Scan, Delta, Rollback, Purge, CopyRound, Flush, JobAnswer, Done, Found}
-use Rattle.core_events.specs.Events.{Opening, OnDesk, OpenWrite, OpenRead, Post, Fetch, Take, Work, Reply, CoreEvent, By, At}
+use Rattle.core_events.specs.Jobs.{CoreJob, Flush, Done}
+use Rattle.core_events.specs.Events.{OnDesk, OpenWrite, OpenRead, Post, Take, Work, Reply, CoreEvent, By, At}
 use Rattle.core_events.specs.Clients.{ClientState, client_state}
 use Rattle.core_events.specs.Cells.{brick_after_move, rows_of_brick}
-use Rattle.core_events.specs.Fitting.{MayPutRow, HaveNames}
+use Rattle.core_events.specs.Fitting.{MayPutRow}
 use Rattle.core_events.specs.Runs.{IsRun, AreByBrick, rows_in_span}
 use Rattle.core_runs.specs.Queries.{HasAnswered, rows_asked, rows_fetched}
 use Rattle.core_cases.specs.SmallRun.{small_opening, small_row, small_query, small_reader, small_put, small_scan, small_write, small_events}
@@ -33,35 +32,48 @@ put-row k = record {
 }
 
 written : IsRun small_opening small_write
-written =
-    (((((((record { some = omega arith; shards = omega arith; sessions = omega arith; safe = omega arith },
-    record {
-      fits = record { session = record { first = omega arith; last = omega arith }; under = inl refl; free = refl; ready = refl };
-      says = (refl, refl);
-    }),
-    record {
-      fits = record {
-        goes = omega arith;
-        bears = record {
-          session = record { first = omega arith; last = omega arith };
-          writer = (refl, refl);
-          there = omega arith;
-          of_cube = All-cons (MayPutRow small_opening 0 0 (client_state small_opening 1 (By 1 (OnDesk (OpenWrite 1 1 [])) ∷ []))) small_row []
-              (put-row (client_state small_opening 1 (By 1 (OnDesk (OpenWrite 1 1 [])) ∷ [])))
-              (All-nil (MayPutRow small_opening 0 0 (client_state small_opening 1 (By 1 (OnDesk (OpenWrite 1 1 [])) ∷ []))));
-        };
-        group = inl (record { ended = refl; next = refl });
-      };
-      says = tt;
-    }),
-    record { there = omega arith; fits = tt; says = refl }),
-    record { there = omega arith; fits = (refl, λ e. false≢true (ap flushes e)); says = tt }),
-    record { there = omega arith; fits = (refl, refl); says = tt }),
-    record { fits = refl; says = refl }),
-    record {
-      fits = record { session = record { first = omega arith; last = omega arith }; writer = (refl, refl); ready = refl };
-      says = tt;
-    })
+written = (
+  (
+    (
+      (
+        (
+          (
+            (
+              record { some = omega arith; shards = omega arith; sessions = omega arith; safe = omega arith },
+              record {
+                fits = record { session = record { first = omega arith; last = omega arith }; under = inl refl; free = refl; ready = refl };
+                says = (refl, refl);
+              },
+            ),
+            record {
+              fits = record {
+                goes = omega arith;
+                bears = record {
+                  session = record { first = omega arith; last = omega arith };
+                  writer = (refl, refl);
+                  there = omega arith;
+                  of_cube = All-cons (MayPutRow small_opening 0 0 (client_state small_opening 1 (By 1 (OnDesk (OpenWrite 1 1 [])) ∷ []))) small_row []
+                      (put-row (client_state small_opening 1 (By 1 (OnDesk (OpenWrite 1 1 [])) ∷ [])))
+                      (All-nil (MayPutRow small_opening 0 0 (client_state small_opening 1 (By 1 (OnDesk (OpenWrite 1 1 [])) ∷ []))));
+                };
+                group = inl (record { ended = refl; next = refl });
+              };
+              says = tt;
+            },
+          ),
+          record { there = omega arith; fits = tt; says = refl },
+        ),
+        record { there = omega arith; fits = (refl, λ e. false≢true (ap flushes e)); says = tt },
+      ),
+      record { there = omega arith; fits = (refl, refl); says = tt },
+    ),
+    record { fits = refl; says = refl },
+  ),
+  record {
+    fits = record { session = record { first = omega arith; last = omega arith }; writer = (refl, refl); ready = refl };
+    says = tt;
+  },
+)
 
 -- Each brick is of the one shard.
 one-shard : (brick : ℕ) → brick % 1 ≡ 0
@@ -95,35 +107,46 @@ found brick =
     coe 1 0 (i. IsFound (eq-eqb 0 (brick % 1) same i) (eq-eqb (brick % 1) 0 (one-shard brick) i) brick) (taken (1 == brick))
 
 pub small-run : IsRun small_opening small_events
-small-run =
-    ((((((written,
-    record {
-      fits = record { session = record { first = omega arith; last = omega arith }; under = inl refl; free = refl; ready = refl };
-      says = refl;
-    }),
-    record {
-      fits = record {
-        goes = omega arith;
-        bears = record {
-          session = record { first = omega arith; last = omega arith };
-          sound = record {
-            there = omega arith;
-            sound = record {
-              span = refl;
-              group = All-nil (λ (dim : ℕ). dim < 1);
-              items = All-cons (IsSoundItem [] 1) Count [] tt (All-nil (IsSoundItem [] 1));
+small-run = (
+  (
+    (
+      (
+        (
+          (
+            written,
+            record {
+              fits = record { session = record { first = omega arith; last = omega arith }; under = inl refl; free = refl; ready = refl };
+              says = refl;
+            },
+          ),
+          record {
+            fits = record {
+              goes = omega arith;
+              bears = record {
+                session = record { first = omega arith; last = omega arith };
+                sound = record {
+                  there = omega arith;
+                  sound = record {
+                    span = refl;
+                    group = All-nil (λ (dim : ℕ). dim < 1);
+                    items = All-cons (IsSoundItem [] 1) Count [] tt (All-nil (IsSoundItem [] 1));
+                  };
+                };
+                held = inl refl;
+              };
+              group = inl (record { ended = refl; next = refl });
             };
-          };
-          held = inl refl;
-        };
-        group = inl (record { ended = refl; next = refl });
-      };
-      says = tt;
-    }),
-    record { there = omega arith; fits = tt; says = refl }),
-    record { there = omega arith; fits = (refl, λ e. false≢true (ap flushes e)); says = found }),
-    record { there = omega arith; fits = (refl, refl); says = tt }),
-    record { fits = refl; says = refl })
+            says = tt;
+          },
+        ),
+        record { there = omega arith; fits = tt; says = refl },
+      ),
+      record { there = omega arith; fits = (refl, λ e. false≢true (ap flushes e)); says = found },
+    ),
+    record { there = omega arith; fits = (refl, refl); says = tt },
+  ),
+  record { fits = refl; says = refl },
+)
 
 pub small-answer : HasAnswered 1 small_query small_reader (client_state small_opening 1 small_events).group
 small-answer = record { asks = refl; done = record { all = refl; fetched = refl; none = refl } }

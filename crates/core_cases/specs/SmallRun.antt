@@ -1,6 +1,6 @@
 -- A small run: a session puts a row and commits, and then reads it. One shard, one session, one cube with a dimension of
 -- numbers and a metric.
-use Rattle.std.specs.Prelude.{◌≡◌, ℕ, List, [], ◌∷◌, false, true, pos}
+use Rattle.std.specs.Prelude.{List, [], ◌∷◌, false, pos}
 use Rattle.cube_values.specs.declared.query.BoundItem.TheVariants.{Count}
 use Rattle.cube_values.specs.declared.query.BoundQuery.{BoundQuery}
 use Rattle.cube_values.specs.declared.row.CodedRow.{CodedRow}
@@ -9,7 +9,7 @@ use Rattle.cube_values.specs.declared.snapshot.Snapshot.{Snapshot}
 use Rattle.cube_values.specs.declared.span.Part.TheVariants.{All}
 use Rattle.cube_language.specs.declared.decl.Decl.{Decl}
 use Rattle.core_events.specs.Jobs.{CoreJob, Append, Scan, Done, Found}
-use Rattle.core_events.specs.Events.{Opening, OnDesk, OpenWrite, OpenRead, Commit, CloseRead, Post, Fetch, Take, Work, Reply, CoreEvent, By, At}
+use Rattle.core_events.specs.Events.{Opening, OnDesk, OpenWrite, OpenRead, Commit, Post, Fetch, Take, Work, Reply, CoreEvent, By, At}
 
 abbrev pub small_shape : CubeShape
 small_shape = record {

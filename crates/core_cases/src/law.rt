@@ -2,7 +2,11 @@
 
 ghost use Rattle.std.specs.Prelude.{◌≡◌, [], ◌∷◌};
 ghost use Rattle.core_cases.specs.SmallRun.{
-    small_opening, small_events, small_query, small_reader, small_row
+  small_opening,
+  small_events,
+  small_query,
+  small_reader,
+  small_row,
 };
 ghost use Rattle.core_events.specs.Clients.{client_state};
 ghost use Rattle.core_events.specs.Runs.{IsRun};

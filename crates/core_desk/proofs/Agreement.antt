@@ -1,8 +1,7 @@
 -- What sessions hold by their own calls is what the desk has open, and so is the flusher's round.
-use Rattle.std.proofs.Common.{◌≡◌, ◌≢◌, ◌⊎◌, ◌∙◌, ℕ, ◌+◌, ◌≤◌, ◌==◌, Bool, true, false, List, [], ◌∷◌, Option, Some, None, inl, inr, refl, sym, ap, arith, eqb-true, ne_eqb, eq-eqb, if◌then◌else◌}
+use Rattle.std.proofs.Common.{◌≡◌, ◌∙◌, ℕ, ◌≤◌, ◌==◌, Bool, true, false, List, [], ◌∷◌, Option, Some, None, inl, inr, refl, sym, ap, arith, eqb-true, ne_eqb, eq-eqb}
 use Rattle.std.proofs.lemmas.Bool.{false≢true}
 use Rattle.cube_values.specs.declared.snapshot.Snapshot.{Snapshot}
-use Rattle.cube_journal.specs.declared.journal_entry.JournalEntry.{JournalEntry}
 use Rattle.cube_journal.specs.declared.journal_entry.LostCause.TheVariants.{Disk, Memory}
 use Rattle.cube_journal.specs.declared.note.Note.TheVariants as note
 use Rattle.cube_journal.specs.Counters.{JournalState, held_by}
@@ -10,8 +9,8 @@ use Rattle.aosi_register.specs.declared.answer.RoundAnswer.TheVariants.{Target, 
 use Rattle.aosi_register.specs.declared.answer.RoundEnd.TheVariants.{Safe, Lost}
 use Rattle.aosi_desk.specs.declared.cube.CubeAnswer.TheVariants.{Created, Exists, TooMany}
 use Rattle.aosi_desk.specs.declared.cube.CubeFound.TheVariants.{Found, Unknown}
-use Rattle.core_events.specs.Events.{Opening, IsOpening, IsSession, flusher, DeskCall, OpenWrite, OpenRead, Commit, AbortEnd, CloseRead, TakeNote, CreateCube, FindCube, CubesFrom, CountersNow, RoundOpen, RoundClose, StoreFailed, ClientCall, OnDesk, OnNames, Post, Fetch, CloseMail, NoChange, CoreEvent, By, At}
-use Rattle.core_events.specs.Clients.{Holding, OwnRound, ClientState, client_state, client_after_call, held_under, holds_after, own_round_after, round_with_cubes, store_lost_after}
+use Rattle.core_events.specs.Events.{Opening, IsOpening, IsSession, flusher, OpenWrite, OpenRead, Commit, AbortEnd, CloseRead, TakeNote, CreateCube, FindCube, CubesFrom, CountersNow, RoundOpen, RoundClose, StoreFailed, ClientCall, OnDesk, OnNames, Post, Fetch, CloseMail, NoChange, CoreEvent, By, At}
+use Rattle.core_events.specs.Clients.{OwnRound, ClientState, client_state, client_after_call, held_under, round_with_cubes}
 use Rattle.core_events.specs.Cells.{counters_of_run}
 use Rattle.core_events.specs.Fitting.{Fits, IsNumberOf}
 use Rattle.core_events.specs.Runs.{IsRun}

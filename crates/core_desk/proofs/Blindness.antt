@@ -1,12 +1,12 @@
 -- An open snapshot sees no epoch that is pending, but its own; it sees all up to LSE.
-use Rattle.std.proofs.Common.{◌≡◌, ◌≢◌, ◌⊎◌, ◌∙◌, ℕ, ◌+◌, ◌-◌, ◌<◌, ◌≤◌, ◌==◌, Bool, true, false, true≢false, not, ◌&&◌, ◌||◌, nat_le, nat_lt, fold, min, List, [], ◌∷◌, ◌++◌, Option, Some, None, All, IfSome, if◌then◌else◌, inl, inr, refl, sym, ap, subst, arith, eqb-true, eq-eqb, ne_eqb, le-leb, lt-ltb, length}
+use Rattle.std.proofs.Common.{◌≡◌, ◌⊎◌, ◌∙◌, ℕ, ◌<◌, ◌≤◌, ◌==◌, Bool, true, false, not, ◌&&◌, ◌||◌, nat_le, nat_lt, fold, min, List, [], ◌∷◌, Option, Some, None, All, if◌then◌else◌, inl, inr, refl, sym, ap, arith, eqb-true, ne_eqb, le-leb, lt-ltb, length}
 use Rattle.std.specs.List.{list_any, list_all}
 use Rattle.std.proofs.lemmas.Bool.{false≢true, leb-true, ltb-true, false_from_ne_true}
 use Rattle.std.proofs.lemmas.Option.{none-some, same_Some}
 use Rattle.std.proofs.lemmas.Bool.Decides.{leb_tells}
 use Rattle.std.proofs.lemmas.List.Elements.{All-cons, All-head, All-nil, All-tail}
 use Rattle.cube_values.specs.declared.snapshot.Snapshot.{Snapshot}
-use Rattle.cube_values.specs.Sees.{sees, admissible}
+use Rattle.cube_values.specs.Sees.{sees}
 use Rattle.cube_journal.specs.declared.counters.OpenSnapshot.{OpenSnapshot}
 use Rattle.cube_journal.specs.declared.journal_entry.JournalEntry.{JournalEntry}
 use Rattle.cube_journal.specs.declared.journal_entry.JournalEntry.TheVariants as entry
@@ -38,9 +38,9 @@ all-has e (x ∷ xs) all has =
       | inr rest ↦ all-has e xs p.1 rest
     ]
   where
-  both-are : (a b : Bool) → (a && b) ≡ true → (a ≡ true) × (b ≡ true)
-  both-are true b e = (refl, e)
-  both-are false b e = absurd (false≢true e)
+    both-are : (a b : Bool) → (a && b) ≡ true → (a ≡ true) × (b ≡ true)
+    both-are true b e = (refl, e)
+    both-are false b e = absurd (false≢true e)
 
 -- LCE is below each pending epoch.
 pub least-pending : (s : JournalState) (e : ℕ) → has_number s.pending e ≡ true → 0 < e → lce s < e
@@ -51,6 +51,7 @@ least-pending s e has low = elim (dec (fold min s.ec s.pending) e) [
 ] where
   dec : (a b : ℕ) → (a ≤ b) ⊎ (b < a)
   dec a b = elim (leb_tells a b) [ inl low ↦ inl low.1 | inr high ↦ inr high.1 ]
+
   right-of : (a b : Bool) → (a && b) ≡ true → b ≡ true
   right-of true b e = e
   right-of false b e = absurd (false≢true e)
@@ -65,9 +66,9 @@ deps-hide k e deps has = ap (λ (b : Bool). nat_le e k && not b) has ∙ and-non
 sees-up : (t : Snapshot) (e : ℕ) → sees t e ≡ true → e ≤ t.epoch
 sees-up t e is = leb-true e t.epoch (left-of (nat_le e t.epoch) (not (list_any (λ dep. dep == e) t.deps)) is)
   where
-  left-of : (a b : Bool) → (a && b) ≡ true → a ≡ true
-  left-of true b e = refl
-  left-of false b e = absurd (false≢true e)
+    left-of : (a b : Bool) → (a && b) ≡ true → a ≡ true
+    left-of true b e = refl
+    left-of false b e = absurd (false≢true e)
 
 -- A snapshot ends, and pending epochs may end.
 blind-less : (s t : JournalState) (n : ℕ) → ((m : ℕ) → held_by t.snapshots m ≡ without_one (n == m) (held_by s.snapshots m))
@@ -106,19 +107,19 @@ entry-blind s (entry.Begin session statement k deps) h order b = record {
   blind = λ m e t is has other.
       elim (or-is (has_number s.pending e) (k == e) (sym (has-more s.pending k e) ∙ has)) [
         | inl olde ↦ elim (with-one-is (held_by s.snapshots m) (session == m) (writer_at k deps) t (sym (held m) ∙ is)) [
-            | inl old ↦ b.blind m e t old olde other
-            | inr new ↦ sym (ap (λ (x : Snapshot). sees x e) new.1)
-                ∙ deps-hide k e deps (ap (λ (d : List ℕ). has_number d e) h.pending ∙ olde)
-          ]
+          | inl old ↦ b.blind m e t old olde other
+          | inr new ↦ sym (ap (λ (x : Snapshot). sees x e) new.1)
+              ∙ deps-hide k e deps (ap (λ (d : List ℕ). has_number d e) h.pending ∙ olde)
+        ]
         | inr newe ↦ elim (with-one-is (held_by s.snapshots m) (session == m) (writer_at k deps) t (sym (held m) ∙ is)) [
-            | inl old ↦ false_from_ne_true (sees t e) (λ sure.
-                let l = b.past m e t old sure in
-                let same = eqb-true k e newe in
-                let next = h.next in
-                omega (arith, l, same, next))
-            | inr new ↦ absurd (other (sym (ap (λ (x : Snapshot). x.own) new.1))
-                (sym (ap (λ (x : Snapshot). x.epoch) new.1) ∙ eqb-true k e newe))
-          ]
+          | inl old ↦ false_from_ne_true (sees t e) (λ sure.
+              let l = b.past m e t old sure in
+              let same = eqb-true k e newe in
+              let next = h.next in
+              omega (arith, l, same, next))
+          | inr new ↦ absurd (other (sym (ap (λ (x : Snapshot). x.own) new.1))
+              (sym (ap (λ (x : Snapshot). x.epoch) new.1) ∙ eqb-true k e newe))
+        ]
       ];
 } where
   held : (m : ℕ) → held_by (state_after s (entry.Begin session statement k deps)).snapshots m
@@ -179,9 +180,9 @@ all-see at e (x ∷ xs) all le =
     let rest = all-see at e xs (right-part (nat_lt at x) (list_all (λ dep. nat_lt at dep) xs) all) le in
     λ i. ne_eqb x e (λ same. omega (arith, first, le, same)) i || rest i
   where
-  right-part : (a c : Bool) → (a && c) ≡ true → c ≡ true
-  right-part true c e = e
-  right-part false c e = absurd (false≢true e)
+    right-part : (a c : Bool) → (a && c) ≡ true → c ≡ true
+    right-part true c e = e
+    right-part false c e = absurd (false≢true e)
 
 none-deps : (e : ℕ) (deps : List ℕ) → (length deps == 0) ≡ true → list_any (λ dep. dep == e) deps ≡ false
 none-deps e [] is = refl
@@ -196,18 +197,18 @@ admissible-sees true s at e is le =
     let deps = all-see at e s.deps (right-of (nat_lt at s.epoch) (list_all (λ dep. nat_lt at dep) s.deps) is) le in
     λ i. up i && not (deps i)
   where
-  right-of : (a c : Bool) → (a && c) ≡ true → c ≡ true
-  right-of true c e = e
-  right-of false c e = absurd (false≢true e)
+    right-of : (a c : Bool) → (a && c) ≡ true → c ≡ true
+    right-of true c e = e
+    right-of false c e = absurd (false≢true e)
 admissible-sees false s at e is le =
     let first = leb-true at s.epoch (left-part (nat_le at s.epoch) (length s.deps == 0) is) in
     let up : nat_le e s.epoch ≡ true = le-leb e s.epoch (omega (arith, first, le)) in
     let deps = none-deps e s.deps (right-of (nat_le at s.epoch) (length s.deps == 0) is) in
     λ i. up i && not (deps i)
   where
-  right-of : (a c : Bool) → (a && c) ≡ true → c ≡ true
-  right-of true c e = e
-  right-of false c e = absurd (false≢true e)
+    right-of : (a c : Bool) → (a && c) ≡ true → c ≡ true
+    right-of true c e = e
+    right-of false c e = absurd (false≢true e)
 
 -- What holds of each open snapshot holds of one that is held.
 held-at : (P : OpenSnapshot → Type 0) (x : OpenSnapshot) (xs : List OpenSnapshot) (m : ℕ) (t : Snapshot) (here : Bool) → P x

@@ -1,10 +1,8 @@
 -- What a call leaves in the journal, what that makes of the counters, and whose snapshot is opened or ended.
-use Rattle.std.proofs.Common.{◌≡◌, ◌∙◌, ℕ, ◌==◌, Bool, true, false, List, [], ◌∷◌, ◌++◌, Option, Some, None, refl, sym, ap}
+use Rattle.std.proofs.Common.{◌≡◌, ◌∙◌, ℕ, ◌==◌, List, ◌∷◌, Option, Some, None, refl, ap}
 use Rattle.cube_values.specs.declared.snapshot.Snapshot.{Snapshot}
 use Rattle.cube_journal.specs.declared.journal_entry.JournalEntry.{JournalEntry}
 use Rattle.cube_journal.specs.declared.journal_entry.JournalEntry.TheVariants as entry
-use Rattle.cube_journal.specs.declared.journal_entry.LostCause.TheVariants.{Disk, Memory}
-use Rattle.cube_journal.specs.declared.note.Note.{Note}
 use Rattle.cube_journal.specs.declared.note.Note.TheVariants as note
 use Rattle.cube_journal.specs.declared.refusal.Refusal.TheVariants.{UnknownCube, CubeExists, TooManyCubes}
 use Rattle.cube_journal.specs.Counters.{JournalState, state_after, held_by, lce}
@@ -18,8 +16,8 @@ use Rattle.aosi_desk.specs.declared.cube.CubeAnswer.TheVariants.{Created, Exists
 use Rattle.aosi_desk.specs.declared.cube.CubeFound.{CubeFound}
 use Rattle.aosi_desk.specs.declared.cube.CubeFound.TheVariants.{Found, Unknown}
 use Rattle.aosi_desk.specs.Desks.{DeskState, refusal_entry}
-use Rattle.core_events.specs.Events.{Opening, DeskCall, OpenWrite, OpenRead, Commit, AbortEnd, CloseRead, TakeNote, CreateCube, FindCube, CubesFrom, CountersNow, RoundOpen, RoundClose, StoreFailed, ClientCall, OnDesk, OnNames, Post, Fetch, CloseMail, NoChange, CoreEvent, By, At}
-use Rattle.core_events.specs.Clients.{Holding, writer_at, reader_at, held_under, holds_after, holds_with}
+use Rattle.core_events.specs.Events.{Opening, DeskCall, OpenWrite, OpenRead, Commit, AbortEnd, CloseRead, TakeNote, CreateCube, FindCube, CubesFrom, CountersNow, RoundOpen, RoundClose, StoreFailed, ClientCall, OnDesk, OnNames, Post, Fetch, CloseMail, NoChange, CoreEvent, By}
+use Rattle.core_events.specs.Clients.{Holding, writer_at, reader_at, held_under, holds_after}
 use Rattle.core_events.specs.Cells.{desk_after_call, counters_of_run, desk_of}
 use Rattle.core_desk.proofs.Lookups.{with_one, without_one, held-by-append, held-by-without, held-under-append, held-under-without}
 

@@ -1,6 +1,6 @@
 -- Epochs that are committed or aborted are finished: they are not pending, and none is both.
-use Rattle.std.proofs.Common.{◌≡◌, ◌≢◌, ◌⊎◌, ◌∙◌, ℕ, ◌+◌, ◌<◌, ◌≤◌, ◌==◌, Bool, true, false, true≢false, not, ◌&&◌, ◌||◌, nat_le, List, [], ◌∷◌, ◌++◌, filter, Option, Some, None, IsSomeAnd, if◌then◌else◌, inl, inr, refl, sym, ap, subst, arith, eqb-true, eq-eqb, ne_eqb}
-use Rattle.std.proofs.lemmas.Bool.{false≢true, cases_Bool, leb-true, or_parts, or_from, false_from_ne_true}
+use Rattle.std.proofs.Common.{◌≡◌, ◌⊎◌, ◌∙◌, ℕ, ◌<◌, ◌≤◌, ◌==◌, Bool, true, false, true≢false, not, ◌&&◌, ◌||◌, List, [], ◌∷◌, ◌++◌, filter, Option, Some, None, IsSomeAnd, if◌then◌else◌, inl, inr, refl, sym, ap, arith, eqb-true, eq-eqb, ne_eqb}
+use Rattle.std.proofs.lemmas.Bool.{false≢true, leb-true, or_from, false_from_ne_true}
 use Rattle.std.proofs.lemmas.Bool.Decides.{eqb_tells}
 use Rattle.std.proofs.lemmas.Option.{none-some, same_Some}
 use Rattle.cube_values.specs.declared.snapshot.Snapshot.{Snapshot}
@@ -9,14 +9,13 @@ use Rattle.cube_journal.specs.declared.journal_entry.JournalEntry.{JournalEntry}
 use Rattle.cube_journal.specs.declared.journal_entry.JournalEntry.TheVariants as entry
 use Rattle.cube_journal.specs.declared.note.Note.TheVariants as note
 use Rattle.cube_journal.specs.Counters.{JournalState, state_after, held_by, lce}
-use Rattle.cube_journal.specs.Legal.{HoldsWriter}
 use Rattle.aosi_register.specs.declared.answer.RoundAnswer.TheVariants.{Target, Nothing}
 use Rattle.aosi_register.specs.declared.answer.RoundEnd.TheVariants.{Safe, Lost}
 use Rattle.aosi_desk.specs.declared.cube.CubeAnswer.TheVariants.{Created, Exists, TooMany}
 use Rattle.aosi_desk.specs.declared.cube.CubeFound.TheVariants.{Found, Unknown}
-use Rattle.core_events.specs.Events.{Opening, DeskCall, OpenWrite, OpenRead, Commit, AbortEnd, CloseRead, TakeNote, CreateCube, FindCube, CubesFrom, CountersNow, RoundOpen, RoundClose, StoreFailed, ClientCall, OnDesk, OnNames, Post, Fetch, CloseMail, NoChange, CoreEvent, By, At}
+use Rattle.core_events.specs.Events.{Opening, OpenWrite, OpenRead, Commit, AbortEnd, CloseRead, TakeNote, CreateCube, FindCube, CubesFrom, CountersNow, RoundOpen, RoundClose, StoreFailed, ClientCall, OnDesk, OnNames, Post, Fetch, CloseMail, NoChange, CoreEvent, By, At}
 use Rattle.core_events.specs.Groups.{has_number}
-use Rattle.core_events.specs.Clients.{client_state, writer_at, reader_at}
+use Rattle.core_events.specs.Clients.{writer_at, reader_at}
 use Rattle.core_events.specs.Cells.{counters_of_run}
 use Rattle.core_events.specs.Runs.{IsRun}
 use Rattle.core_events.specs.Serial.{commits, is_committed, aborts, is_aborted, counts_for}
@@ -29,14 +28,14 @@ use Rattle.core_desk.proofs.InOrder.{StateAllows, AllowsEntry, run-allowed}
 pub has-more : (xs : List ℕ) (k e : ℕ) → has_number (xs ++ k ∷ []) e ≡ (has_number xs e || (k == e))
 has-more [] k e = or-false (k == e)
   where
-  or-false : (b : Bool) → (b || false) ≡ b
-  or-false true = refl
-  or-false false = refl
+    or-false : (b : Bool) → (b || false) ≡ b
+    or-false true = refl
+    or-false false = refl
 has-more (x ∷ xs) k e = ap (λ b. x == e || b) (has-more xs k e) ∙ or-or (x == e) (has_number xs e) (k == e)
   where
-  or-or : (a b c : Bool) → (a || (b || c)) ≡ ((a || b) || c)
-  or-or true b c = refl
-  or-or false b c = refl
+    or-or : (a b c : Bool) → (a || (b || c)) ≡ ((a || b) || c)
+    or-or true b c = refl
+    or-or false b c = refl
 
 and-true : (b : Bool) → (b && true) ≡ b
 and-true true = refl
@@ -68,9 +67,9 @@ has-without (x ∷ xs) k e =
           (λ first. ne_eqb k e (λ same. other.1 (eqb-true x e first ∙ sym same)))
     ]
   where
-  or-not : (a b : Bool) → (b && not a) ≡ ((a || b) && not a)
-  or-not true b = and-false b
-  or-not false b = refl
+    or-not : (a b : Bool) → (b && not a) ≡ ((a || b) && not a)
+    or-not true b = and-false b
+    or-not false b = refl
 
 -- What is held after a step.
 
@@ -137,16 +136,16 @@ opens s t done gone n v held own next more less rises f = record {
   apart = λ m k epoch a b.
       elim (with-one-is (held_by s.snapshots m) (n == m) v a.snapshot (sym (held m) ∙ a.is)) [
         | inl olda ↦ elim (with-one-is (held_by s.snapshots k) (n == k) v b.snapshot (sym (held k) ∙ b.is)) [
-            | inl oldb ↦ f.apart m k epoch (record { snapshot = a.snapshot; is = olda; own = a.own; at = a.at })
-                (record { snapshot = b.snapshot; is = oldb; own = b.own; at = b.at })
-            | inr newb ↦ absurd (clash a.snapshot m epoch olda a.own a.at
-                (sym (next (ap (λ (y : Snapshot). y.own) newb.1 ∙ b.own)) ∙ ap (λ (y : Snapshot). y.epoch) newb.1 ∙ b.at))
-          ]
+          | inl oldb ↦ f.apart m k epoch (record { snapshot = a.snapshot; is = olda; own = a.own; at = a.at })
+              (record { snapshot = b.snapshot; is = oldb; own = b.own; at = b.at })
+          | inr newb ↦ absurd (clash a.snapshot m epoch olda a.own a.at
+              (sym (next (ap (λ (y : Snapshot). y.own) newb.1 ∙ b.own)) ∙ ap (λ (y : Snapshot). y.epoch) newb.1 ∙ b.at))
+        ]
         | inr newa ↦ elim (with-one-is (held_by s.snapshots k) (n == k) v b.snapshot (sym (held k) ∙ b.is)) [
-            | inl oldb ↦ absurd (clash b.snapshot k epoch oldb b.own b.at
-                (sym (next (ap (λ (y : Snapshot). y.own) newa.1 ∙ a.own)) ∙ ap (λ (y : Snapshot). y.epoch) newa.1 ∙ a.at))
-            | inr newb ↦ sym (eqb-true n m newa.0) ∙ eqb-true n k newb.0
-          ]
+          | inl oldb ↦ absurd (clash b.snapshot k epoch oldb b.own b.at
+              (sym (next (ap (λ (y : Snapshot). y.own) newa.1 ∙ a.own)) ∙ ap (λ (y : Snapshot). y.epoch) newa.1 ∙ a.at))
+          | inr newb ↦ sym (eqb-true n m newa.0) ∙ eqb-true n k newb.0
+        ]
       ];
   below = λ e is. elim (less e is) [
     | inl old ↦ (let l = f.below e old in omega (arith, l, rises))
@@ -160,6 +159,7 @@ opens s t done gone n v held own next more less rises f = record {
 } where
   clash : (x : Snapshot) (m epoch : ℕ) → held_by s.snapshots m ≡ Some x → x.own ≡ true → x.epoch ≡ epoch → s.ec ≡ epoch → ⊥
   clash x m epoch is own at new = let l = f.below x.epoch (f.writers m x is own) in omega (arith, l, at, new)
+
   ended : (e : ℕ) → e < s.ec → has_number s.pending e ≡ false → has_number t.pending e ≡ false
   ended e l past = false_from_ne_true (has_number t.pending e) (λ sure. elim (less e sure) [
     | inl old ↦ true≢false (sym old ∙ past)
@@ -206,8 +206,10 @@ ends s t done gone after lost n k held pending ec w was went both f = record {
   left : (a b : Bool) → (a && b) ≡ true → a ≡ true
   left true b e = refl
   left false b e = absurd (false≢true e)
+
   mine : has_number s.pending k ≡ true
   mine = ap (has_number s.pending) (sym w.at) ∙ f.writers n w.snapshot w.is w.own
+
   before : (m epoch : ℕ) → Held t m epoch → Held s m epoch
   before m epoch h = record {
     snapshot = h.snapshot;
@@ -277,9 +279,9 @@ entry-finished s (entry.Begin session statement epoch deps) done gone h f =
     ])
     (omega arith) f
   where
-  last-is : (a b : Bool) → b ≡ true → (a || b) ≡ true
-  last-is true b is = refl
-  last-is false b is = is
+    last-is : (a b : Bool) → b ≡ true → (a || b) ≡ true
+    last-is true b is = refl
+    last-is false b is = is
 entry-finished s (entry.Read session statement epoch) done gone h f =
     opens s (state_after s (entry.Read session statement epoch)) done gone session (reader_at epoch)
     (λ m. held-by-append s.snapshots (record { session = session; bound = lce s; snapshot = reader_at epoch }) m)

@@ -1,5 +1,5 @@
 -- The counters of a run are in order: those of its journal without its notes, which is legal.
-use Rattle.std.proofs.Common.{◌≡◌, ◌∙◌, ℕ, ◌+◌, ◌<◌, ◌≤◌, ◌==◌, Bool, true, false, true≢false, List, [], ◌∷◌, ◌++◌, length, Option, Some, None, All, IfSome, IsSomeAnd, if◌then◌else◌, inl, inr, refl, sym, ap, subst, arith, eqb-true}
+use Rattle.std.proofs.Common.{◌≡◌, ◌∙◌, ℕ, ◌<◌, ◌≤◌, ◌==◌, Bool, true, false, true≢false, List, [], ◌∷◌, ◌++◌, length, Option, Some, None, All, IfSome, IsSomeAnd, if◌then◌else◌, inl, refl, sym, ap, subst, arith, eqb-true}
 use Rattle.std.proofs.lemmas.Bool.{false≢true, eqb-false}
 use Rattle.std.proofs.lemmas.List.Elements.{All-cons, All-nil}
 use Rattle.cube_values.specs.declared.snapshot.Snapshot.{Snapshot}
@@ -16,18 +16,18 @@ use Rattle.cube_journal.proofs.Orders.{state-with, legal-order, legal-with}
 use Rattle.aosi_register.specs.declared.answer.RoundAnswer.{RoundAnswer}
 use Rattle.aosi_register.specs.declared.answer.RoundAnswer.TheVariants.{Target, Nothing}
 use Rattle.aosi_register.specs.declared.answer.RoundEnd.TheVariants.{Safe, Lost}
-use Rattle.aosi_register.specs.State.{state_of, round_answer}
+use Rattle.aosi_register.specs.State.{state_of}
 use Rattle.aosi_desk.specs.declared.cube.CubeAnswer.{CubeAnswer}
 use Rattle.aosi_desk.specs.declared.cube.CubeAnswer.TheVariants.{Created, Exists, TooMany}
 use Rattle.aosi_desk.specs.declared.cube.CubeFound.TheVariants.{Found, Unknown}
 use Rattle.aosi_desk.specs.Desks.{DeskState, cube_answer, decl_names}
-use Rattle.core_events.specs.Events.{Opening, IsOpening, IsSession, flusher, DeskCall, OpenWrite, OpenRead, Commit, AbortEnd, CloseRead, TakeNote, CreateCube, FindCube, CubesFrom, CountersNow, RoundOpen, RoundClose, StoreFailed, ClientCall, OnDesk, OnNames, Post, Fetch, CloseMail, NoChange, CoreEvent, By, At}
+use Rattle.core_events.specs.Events.{Opening, IsSession, OpenWrite, OpenRead, Commit, AbortEnd, CloseRead, TakeNote, CreateCube, FindCube, CubesFrom, CountersNow, RoundOpen, RoundClose, StoreFailed, ClientCall, OnDesk, OnNames, Post, Fetch, CloseMail, NoChange, CoreEvent, By, At}
 use Rattle.core_events.specs.Clients.{OwnRound, ClientState, client_state, held_under}
 use Rattle.core_events.specs.Cells.{desk_of, counters_of_run}
-use Rattle.core_events.specs.Fitting.{Fits, IsNumberOf, OwnsWriter}
+use Rattle.core_events.specs.Fitting.{Fits, IsNumberOf}
 use Rattle.core_events.specs.Runs.{IsRun, CallSays}
 use Rattle.core_desk.proofs.DeskSteps.{client_entry, state_with_entry, run-step}
-use Rattle.core_desk.proofs.Agreement.{Agrees, agree, RoundAgrees, round-agrees, round_epoch}
+use Rattle.core_desk.proofs.Agreement.{agree, RoundAgrees, round-agrees, round_epoch}
 
 -- An entry that changes no counter.
 abbrev is_note : JournalEntry → Bool

@@ -1,5 +1,5 @@
 -- What a client knows is read off its own calls.
-use Rattle.std.proofs.Common.{◌≡◌, ◌∙◌, ℕ, ◌==◌, Bool, true, false, List, [], ◌∷◌, if◌then◌else◌, refl, ap}
+use Rattle.std.proofs.Common.{◌≡◌, ℕ, ◌==◌, Bool, true, false, List, [], ◌∷◌, if◌then◌else◌, refl, ap}
 use Rattle.core_events.specs.Events.{Opening, ClientCall, CoreEvent, By, At}
 use Rattle.core_events.specs.Clients.{ClientState, client_state, client_after_call, after_client_call, calls_of, state_from_calls}
 

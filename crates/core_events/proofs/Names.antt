@@ -1,19 +1,19 @@
 -- Names and their numbers over events.
-use Rattle.std.proofs.Common.{◌≡◌, ◌∙◌, ℕ, zero, suc, ◌+◌, ◌-◌, ◌<◌, ◌≤◌, max, ◌==◌, Bool, true, false, true≢false, not, ◌&&◌, cond, nat_lt, List, [], ◌∷◌, ◌++◌, length, drop, slice_get, Option, Some, None, refl, sym, ap, subst, arith, append_assoc, append-nil, length-append, length-drop, ltb-true, if◌then◌else◌}
-use Rattle.std.specs.List.{position, position_or_len}
+use Rattle.std.proofs.Common.{◌≡◌, ◌∙◌, ℕ, zero, suc, ◌+◌, ◌-◌, ◌<◌, ◌≤◌, ◌==◌, Bool, true, false, true≢false, not, ◌&&◌, cond, nat_lt, List, [], ◌∷◌, ◌++◌, length, drop, slice_get, Option, Some, None, refl, sym, ap, subst, arith, append_assoc, append-nil, length-append, length-drop, ltb-true, if◌then◌else◌}
+use Rattle.std.specs.List.{position_or_len}
 use Rattle.std.specs.Option.{option_map_or}
 use Rattle.std.specs.Str.{bytes_eq}
-use Rattle.std.proofs.lemmas.Bool.{cases_Bool, eqb-true, eq-eqb}
+use Rattle.std.proofs.lemmas.Bool.{eqb-true, eq-eqb}
 use Rattle.std.proofs.lemmas.Option.{cond_some, none-some, same_Some, slice_get_within}
 use Rattle.std.proofs.lemmas.Slice.Eq.{bytes_eq-Decides}
 use Rattle.names_dict.specs.declared.code.Code.{Code}
 use Rattle.names_dict.specs.declared.code.Code.TheVariants.{Known, Added, Full}
 use Rattle.names_dict.specs.Dictionaries.{Dictionary, number_of, code_of, with_code}
-use Rattle.core_events.specs.Events.{Opening, NamesCall, Encode, FindName, CopyFrom, ClientCall, OnDesk, OnNames, Post, Fetch, CloseMail, NoChange, CoreEvent, By, At}
+use Rattle.core_events.specs.Events.{Opening, NamesCall, Encode, FindName, CopyFrom, ClientCall, OnNames, CoreEvent, By, At}
 use Rattle.core_events.specs.Clients.{ClientState, client_state, client_after_call, after_client_call, number_in, names_by_number, greater_of, greater_where}
 use Rattle.core_events.specs.Cells.{dictionary_of, dictionary_after, dictionary_after_call}
 use Rattle.core_events.specs.Fitting.{Fits, FitsNames}
-use Rattle.core_events.specs.Runs.{IsRun, IsCall, NamesSay, CallSays}
+use Rattle.core_events.specs.Runs.{IsRun, NamesSay, CallSays}
 
 -- Where a test passes first, there is an item that passes it.
 record StandsAt {X : Type 0} (p : X → Bool) (xs : List X) (n : ℕ) : Type 0 where
@@ -176,9 +176,9 @@ after-encode true n name code d le says =
     (by-number-all (number_in code) (with_code d name code).names
     (λ m is. slice_get_within (with_code d name code).names m name (place m is)))
   where
-  by-number-all : (number : Option ℕ) (names : List (List ℕ)) → ((n : ℕ) → number ≡ Some n → n < length names)
-      → (m : ℕ) → names_by_number number ≡ Some m → m ≤ length names
-  by-number-all number names all m e = by-number number names m all e
+    by-number-all : (number : Option ℕ) (names : List (List ℕ)) → ((n : ℕ) → number ≡ Some n → n < length names)
+        → (m : ℕ) → names_by_number number ≡ Some m → m ≤ length names
+    by-number-all number names all m e = by-number number names m all e
 after-encode false n name code d le says = le
 
 own-names-call : (o : Opening) (a : ℕ) (call : NamesCall) (k : ClientState) (es : List CoreEvent) (c d : ℕ)

@@ -1,12 +1,11 @@
 -- What each cell is after a list of events: the desk, the dictionaries, the mails and the bricks. A cell is what the
 -- calls on it made of how it opened.
 -- Source: Cubrick (VLDB 2016) for the cells; AOSI (ICDE 2018) for the desk.
-use Rattle.std.specs.Prelude.{◌≡◌, ℕ, ◌%◌, Bool, true, false, ◌&&◌, ◌||◌, ◌==◌, List, [], ◌∷◌, ◌++◌, length, map, replicate, filter, drop, Option, Some, None, if◌then◌else◌}
+use Rattle.std.specs.Prelude.{ℕ, ◌%◌, Bool, true, false, ◌&&◌, ◌||◌, ◌==◌, List, [], ◌∷◌, ◌++◌, length, replicate, filter, drop, Option, Some, None, if◌then◌else◌}
 use Rattle.cube_values.specs.declared.row.CodedRow.{CodedRow}
 use Rattle.cube_values.specs.declared.shape.Size.{Size}
 use Rattle.cube_values.specs.declared.span.Span.{Span}
 use Rattle.cube_values.specs.Spans.{span_has}
-use Rattle.cube_journal.specs.declared.journal_entry.JournalEntry.{JournalEntry}
 use Rattle.cube_journal.specs.declared.journal_entry.JournalEntry.TheVariants as entry
 use Rattle.cube_journal.specs.Counters.{JournalState}
 use Rattle.cube_journal.specs.Entries.{note_entry}
@@ -15,8 +14,8 @@ use Rattle.aosi_register.specs.State.{state_of, answer_entry, end_entry}
 use Rattle.aosi_desk.specs.Desks.{DeskState, opening_desk, desk_with_entry, desk_after_search, desk_after_answer}
 use Rattle.names_dict.specs.Dictionaries.{Dictionary, with_code}
 use Rattle.core_events.specs.ShardView.{BrickEntry, RowRun, RowMark, ShardView, entries_without_epoch, entries_after_purge, every_epoch}
-use Rattle.core_events.specs.Jobs.{CoreJob, Append, DropBox, Scan, Delta, Rollback, Purge, CopyRound, Flush, JobAnswer, Done}
-use Rattle.core_events.specs.Events.{Opening, DeskCall, OpenWrite, OpenRead, Commit, AbortEnd, CloseRead, TakeNote, CreateCube, FindCube, CubesFrom, CountersNow, RoundOpen, RoundClose, StoreFailed, NamesCall, Encode, FindName, CopyFrom, ClientCall, OnDesk, OnNames, Post, Fetch, CloseMail, NoChange, WorkerMove, Take, NoJob, Work, Reply, CoreEvent, By, At}
+use Rattle.core_events.specs.Jobs.{CoreJob, Append, DropBox, Rollback, Purge, JobAnswer, Done}
+use Rattle.core_events.specs.Events.{Opening, DeskCall, OpenWrite, OpenRead, Commit, AbortEnd, CloseRead, TakeNote, CreateCube, FindCube, CubesFrom, CountersNow, RoundOpen, RoundClose, StoreFailed, NamesCall, Encode, ClientCall, OnDesk, OnNames, Post, Fetch, CloseMail, WorkerMove, Take, NoJob, Work, Reply, CoreEvent, By, At}
 
 -- The desk.
 

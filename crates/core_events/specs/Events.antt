@@ -1,7 +1,7 @@
 -- The events of the core, in one list, the newest first: a client's call on the desk, the names or a mail, or a move of
 -- the worker that serves a mail. Each carries its answer. Nobody but its worker calls a shard.
 -- Source: this project's own; linearizability (Herlihy and Wing, 1990) makes one list of the calls of all threads.
-use Rattle.std.specs.Prelude.{ℕ, ◌+◌, ◌≤◌, ◌<◌, ◌^◌, Bool, List, Option}
+use Rattle.std.specs.Prelude.{ℕ, ◌+◌, ◌≤◌, ◌^◌, Bool, List, Option}
 use Rattle.cube_values.specs.declared.row.CodedRow.{CodedRow}
 use Rattle.cube_values.specs.declared.shape.CubeShape.{CubeShape}
 use Rattle.cube_language.specs.declared.decl.Decl.{Decl}

@@ -1,21 +1,21 @@
 -- Runs of the core: each call and each move fitted, and each answer is that of its cell.
 -- Source: this project's own; linearizability (Herlihy and Wing, 1990).
-use Rattle.std.specs.Prelude.{◌≡◌, ℕ, ◌%◌, ◌≤◌, ◌+◌, Bool, not, ◌&&◌, ◌==◌, List, [], ◌∷◌, ◌++◌, drop, filter, Some, if◌then◌else◌}
+use Rattle.std.specs.Prelude.{◌≡◌, ℕ, ◌%◌, ◌≤◌, Bool, not, ◌&&◌, ◌==◌, List, [], ◌∷◌, ◌++◌, drop, filter, Some}
 use Rattle.cube_values.specs.declared.query.BoundQuery.{BoundQuery}
 use Rattle.cube_values.specs.declared.row.CodedRow.{CodedRow}
 use Rattle.cube_values.specs.declared.snapshot.Snapshot.{Snapshot}
 use Rattle.cube_values.specs.declared.span.Span.{Span}
 use Rattle.cube_values.specs.Sees.{sees}
 use Rattle.cube_values.specs.Spans.{span_has}
-use Rattle.cube_journal.specs.Counters.{JournalState, lce, counters_in}
+use Rattle.cube_journal.specs.Counters.{lce, counters_in}
 use Rattle.aosi_register.specs.State.{state_of, round_answer}
 use Rattle.aosi_desk.specs.Desks.{DeskState, cube_answer, IsFound}
-use Rattle.names_dict.specs.Dictionaries.{Dictionary, code_of, number_of}
+use Rattle.names_dict.specs.Dictionaries.{code_of, number_of}
 use Rattle.core_events.specs.ShardView.{BrickEntry, RowRun, RowMark, ShardView, ShowAlike, Epochs, is_below_mark, epochs_before_mark, rows_where, brick_rows_seen, entries_of_round}
-use Rattle.core_events.specs.Jobs.{CoreJob, Append, DropBox, Scan, Delta, Rollback, Purge, CopyRound, Flush, JobAnswer, Done, ShardFull, Found, Compared, Copied, OutOfMemory}
+use Rattle.core_events.specs.Jobs.{CoreJob, Append, DropBox, Scan, Delta, Rollback, Purge, CopyRound, JobAnswer, Done, ShardFull, Found, Compared, Copied, OutOfMemory}
 use Rattle.core_events.specs.Events.{Opening, IsOpening, DeskCall, OpenWrite, OpenRead, TakeNote, CreateCube, FindCube, CubesFrom, CountersNow, RoundOpen, StoreFailed, NamesCall, Encode, FindName, CopyFrom, ClientCall, OnDesk, OnNames, Fetch, WorkerMove, Take, NoJob, Work, Reply, CoreEvent, By, At}
 use Rattle.core_events.specs.Clients.{client_state, reader_at}
-use Rattle.core_events.specs.Cells.{desk_of, counters_of_run, dictionary_of, Letter, letter, queue_of, reply_for, is_closed, view_of, rows_of_brick}
+use Rattle.core_events.specs.Cells.{desk_of, dictionary_of, Letter, letter, queue_of, reply_for, is_closed, view_of, rows_of_brick}
 use Rattle.core_events.specs.Fitting.{Fits, FitsMove}
 
 -- The answers of the desk.

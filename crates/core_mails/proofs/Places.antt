@@ -1,10 +1,10 @@
 -- Where the one job of a client at a mail is, and how the mail and its worker go with it.
-use Rattle.std.proofs.Common.{◌≡◌, ◌≢◌, ◌⊎◌, ◌∙◌, ℕ, ◌==◌, Bool, true, false, true≢false, not, List, [], ◌∷◌, ◌++◌, Option, Some, None, inl, inr, refl, sym, ap, subst, eqb-true, eq-eqb, ne_eqb, if◌then◌else◌}
+use Rattle.std.proofs.Common.{◌≡◌, ◌∙◌, ℕ, ◌==◌, Bool, true, false, List, [], ◌∷◌, ◌++◌, Option, Some, None, inl, inr, refl, sym, ap}
 use Rattle.std.proofs.lemmas.Bool.{false≢true}
 use Rattle.std.proofs.lemmas.Bool.Decides.{eqb_tells}
 use Rattle.std.proofs.lemmas.Option.{none-some, same_Some}
 use Rattle.core_events.specs.Jobs.{CoreJob, JobAnswer}
-use Rattle.core_events.specs.Events.{ClientCall, OnDesk, OnNames, Post, Fetch, CloseMail, NoChange, WorkerMove, Take, NoJob, Work, Reply, CoreEvent, By, At}
+use Rattle.core_events.specs.Events.{ClientCall, Post, Fetch, WorkerMove, CoreEvent, By, At}
 use Rattle.core_events.specs.Cells.{Letter, letter, WorkerState, Free, Took, Worked, worker_of}
 use Rattle.core_mails.specs.Histories.{DoneJob, job_done}
 
@@ -127,9 +127,10 @@ lacks-more (y ∷ queue) a x other lacks = (lacks.0, lacks-more queue a x other 
 queued-more : (places : ℕ → JobPlace) (queue : List Letter) (x : Letter) → places x.client ≡ Asked x.job
     → Lacks x.client queue → AreQueued places queue → AreQueued places (queue ++ x ∷ [])
 queued-more places [] x asked lacks q = (record { asked = asked; only = tt }, tt)
-queued-more places (y ∷ queue) x asked lacks q =
-    (record { asked = q.0.asked; only = lacks-more queue y.client x (λ same. lacks.0 (sym same)) q.0.only },
-    queued-more places queue x asked lacks.1 q.1)
+queued-more places (y ∷ queue) x asked lacks q = (
+  record { asked = q.0.asked; only = lacks-more queue y.client x (λ same. lacks.0 (sym same)) q.0.only },
+  queued-more places queue x asked lacks.1 q.1,
+)
 
 -- A client posts a job where it has none.
 pub after-post : (old new : ℕ → JobPlace) (queue : List Letter) (replies : ℕ → Option JobAnswer) (worker : WorkerState)
@@ -144,6 +145,7 @@ after-post old new queue replies worker a job free asked stay f = record {
 } where
   none : Lacks a queue
   none = lacks-unasked old queue a f.letters (λ other e. nowhere-asked other (sym free ∙ e))
+
   busy-more : (w : WorkerState) → IsBusy old queue replies w → IsBusy new (queue ++ letter a job ∷ []) replies w
   busy-more Free b = tt
   busy-more (Took c other) b =
@@ -168,8 +170,10 @@ after-fetch old new queue replies less worker a answer there none others stay f 
 } where
   done : (job : CoreJob) × (old a ≡ Answered job answer)
   done = f.held a answer there
+
   gone : Lacks a queue
   gone = lacks-unasked old queue a f.letters (λ job e. asked-answered job done.0 answer (sym e ∙ done.1))
+
   busy-less : (w : WorkerState) → IsBusy old queue replies w → IsBusy new queue less w
   busy-less Free b = tt
   busy-less (Took c job) b =

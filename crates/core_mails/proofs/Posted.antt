@@ -1,18 +1,18 @@
 -- In every run each mail and its worker go with the places of the clients' jobs, and a client waits for just the mails
 -- at which it has a job.
-use Rattle.std.proofs.Common.{◌≡◌, ◌≢◌, ◌⊎◌, ◌∙◌, ℕ, ◌==◌, Bool, true, false, true≢false, not, ◌&&◌, ◌||◌, List, [], ◌∷◌, ◌++◌, Option, Some, None, inl, inr, refl, sym, ap, subst, eqb-true, eq-eqb, ne_eqb, if◌then◌else◌, append_assoc, append-nil}
+use Rattle.std.proofs.Common.{◌≡◌, ◌⊎◌, ◌∙◌, ℕ, ◌==◌, Bool, true, false, true≢false, not, ◌&&◌, ◌||◌, List, [], ◌∷◌, ◌++◌, Option, Some, None, inl, inr, refl, sym, ap, eqb-true, eq-eqb, ne_eqb, if◌then◌else◌, append_assoc, append-nil}
 use Rattle.std.proofs.lemmas.Bool.{false≢true}
 use Rattle.std.proofs.lemmas.Option.{none-some, same_Some}
 use Rattle.aosi_desk.specs.declared.cube.CubeFound.TheVariants.{Found, Unknown}
-use Rattle.core_events.specs.Jobs.{CoreJob, Append, DropBox, Scan, Delta, Rollback, Purge, CopyRound, Flush, JobAnswer}
-use Rattle.core_events.specs.Events.{Opening, flusher, DeskCall, OpenWrite, OpenRead, Commit, AbortEnd, CloseRead, TakeNote, CreateCube, FindCube, CubesFrom, CountersNow, RoundOpen, RoundClose, StoreFailed, ClientCall, OnDesk, OnNames, Post, Fetch, CloseMail, NoChange, WorkerMove, Take, NoJob, Work, Reply, CoreEvent, By, At}
-use Rattle.core_events.specs.Groups.{JobGroup, no_group, kind_of, has_number, is_empty, has_ended, is_ready, is_complete, is_spoiled, has_refusal, mails_of, group_after_post, group_after_fetch}
-use Rattle.core_events.specs.Clients.{ClientState, client_state, client_after_call, after_client_call, ends_group, group_after}
+use Rattle.core_events.specs.Jobs.{CoreJob, JobAnswer}
+use Rattle.core_events.specs.Events.{Opening, flusher, OpenWrite, OpenRead, Commit, AbortEnd, CloseRead, TakeNote, CreateCube, FindCube, CubesFrom, CountersNow, RoundOpen, RoundClose, StoreFailed, ClientCall, OnDesk, OnNames, Post, Fetch, CloseMail, NoChange, WorkerMove, Take, NoJob, Work, Reply, CoreEvent, By, At}
+use Rattle.core_events.specs.Groups.{JobGroup, no_group, kind_of, has_number, is_empty, has_ended, is_ready, is_complete, is_spoiled, has_refusal, mails_of}
+use Rattle.core_events.specs.Clients.{ClientState, client_state, client_after_call, ends_group}
 use Rattle.core_events.specs.Cells.{Letter, letter, queue_of, queue_after_post, queue_after_move, reply_for, reply_after_fetch, reply_after_move, reply_after_reply, WorkerState, Free, Took, Worked, worker_of, worker_after}
-use Rattle.core_events.specs.Fitting.{Fits, FitsDesk, FitsWork, FitsReply, FlushSays, RoundProgress, BeginsGroup, JoinsGroup, round_progress}
+use Rattle.core_events.specs.Fitting.{Fits, FitsWork, RoundProgress, BeginsGroup, JoinsGroup, round_progress}
 use Rattle.core_events.specs.Runs.{IsRun, CallSays, MoveSays, IsOldest}
-use Rattle.core_mails.specs.Histories.{DoneJob, job_done, posts_of, letters_after, takes_of, takes_after, jobs_done, with_done, done_after, letters_of, job_to_come, last_post, last_after_post, done_since_post, since_after_post, since_after_move, with_own_done, IsAnswered}
-use Rattle.core_mails.proofs.Places.{JobPlace, Nowhere, Asked, Answered, is_out, place, place_after_post, place_after_fetch, place_after_call, place_where, place_with_done, place_after_move, AreQueued, FitsPlaces, HasTaken, after-post, after-fetch, after-take, after-work, after-reply, after-flush}
+use Rattle.core_mails.specs.Histories.{DoneJob, job_done, posts_of, letters_after, takes_of, takes_after, jobs_done, done_after, letters_of, job_to_come, last_post, last_after_post, done_since_post, since_after_post, since_after_move, with_own_done, IsAnswered}
+use Rattle.core_mails.proofs.Places.{JobPlace, Nowhere, Asked, Answered, is_out, place, place_after_post, place_after_fetch, place_after_call, place_where, place_with_done, place_after_move, FitsPlaces, after-post, after-fetch, after-take, after-work, after-reply, after-flush}
 use Rattle.core_desk.proofs.Finished.{has-without}
 
 -- A client's calls.
@@ -154,14 +154,14 @@ call-tied o true a (CloseMail other) k mail p fits e = e
 call-tied o true a NoChange k mail p fits e = e
 call-tied o false a (Post other job) k mail p fits e = e ∙ post-other (other == mail)
   where
-  post-other : (here : Bool) → is_out p ≡ is_out (place_after_post here false job p)
-  post-other true = refl
-  post-other false = refl
+    post-other : (here : Bool) → is_out p ≡ is_out (place_after_post here false job p)
+    post-other true = refl
+    post-other false = refl
 call-tied o false a (Fetch other answer) k mail p fits e = e ∙ fetch-other (other == mail)
   where
-  fetch-other : (here : Bool) → is_out p ≡ is_out (place_after_fetch here false p)
-  fetch-other true = refl
-  fetch-other false = refl
+    fetch-other : (here : Bool) → is_out p ≡ is_out (place_after_fetch here false p)
+    fetch-other true = refl
+    fetch-other false = refl
 call-tied o false a (OnDesk call) k mail p fits e = e
 call-tied o false a (OnNames call) k mail p fits e = e
 call-tied o false a (CloseMail other) k mail p fits e = e

@@ -6,7 +6,12 @@ ghost use Rattle.core_events.specs.Events.{Opening, CoreEvent};
 ghost use Rattle.core_events.specs.Jobs.{JobAnswer};
 ghost use Rattle.core_events.specs.Runs.{IsRun};
 ghost use Rattle.core_mails.specs.Histories.{
-    posts_of, takes_of, jobs_done, letters_of, job_to_come, IsAnswered
+  posts_of,
+  takes_of,
+  jobs_done,
+  letters_of,
+  job_to_come,
+  IsAnswered,
 };
 
 /// Jobs are taken in the order in which they were posted, and each is done once, in that order.

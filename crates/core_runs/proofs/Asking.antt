@@ -1,22 +1,20 @@
 -- A job that is out is of its client's group, and the snapshot of a query is held.
-use Rattle.std.proofs.Common.{◌≡◌, ◌≢◌, ◌⊎◌, ◌∙◌, ℕ, ◌==◌, Bool, true, false, true≢false, not, ◌&&◌, ◌||◌, List, [], ◌∷◌, Option, Some, None, IsSomeAnd, inl, inr, refl, sym, ap, eqb-true, eq-eqb, if◌then◌else◌}
+use Rattle.std.proofs.Common.{◌≡◌, ◌⊎◌, ◌∙◌, ℕ, ◌==◌, Bool, true, false, ◌||◌, List, [], ◌∷◌, Option, Some, None, IsSomeAnd, inl, inr, refl, sym, ap, eqb-true, if◌then◌else◌}
 use Rattle.std.specs.Option.{option_map_or}
 use Rattle.std.proofs.lemmas.Bool.{false≢true}
-use Rattle.std.proofs.lemmas.Option.{none-some, same_Some}
 use Rattle.cube_values.specs.declared.query.BoundQuery.{BoundQuery}
 use Rattle.cube_values.specs.declared.snapshot.Snapshot.{Snapshot}
-use Rattle.cube_journal.specs.Counters.{held_by}
 use Rattle.core_events.specs.Jobs.{CoreJob, Append, DropBox, Scan, Delta, Rollback, Purge, CopyRound, Flush, JobAnswer}
-use Rattle.core_events.specs.Events.{Opening, IsSession, flusher, DeskCall, OpenWrite, OpenRead, Commit, AbortEnd, CloseRead, TakeNote, CreateCube, FindCube, CubesFrom, CountersNow, RoundOpen, RoundClose, StoreFailed, ClientCall, OnDesk, OnNames, Post, Fetch, CloseMail, NoChange, WorkerMove, Work, CoreEvent, By, At}
-use Rattle.core_events.specs.Groups.{GroupKind, NoGroup, Puts, Drops, Asks, Compares, RollsBack, Purges, Copies, Flushes, kind_of, Received, JobGroup, no_group, has_number, is_empty, has_ended, mails_of, group_after_post}
+use Rattle.core_events.specs.Events.{Opening, IsSession, flusher, DeskCall, OpenRead, CloseRead, ClientCall, OnDesk, OnNames, Post, Fetch, CloseMail, NoChange, WorkerMove, CoreEvent, By, At}
+use Rattle.core_events.specs.Groups.{GroupKind, Asks, kind_of, Received, JobGroup, no_group, has_number, is_empty, has_ended, mails_of, group_after_post}
 use Rattle.core_events.specs.Clients.{Holding, ClientState, client_state, client_after_call, held_under, leader_after, others_hold, ends_group}
-use Rattle.core_events.specs.Cells.{counters_of_run, WorkerState, worker_of, queue_of, reply_for}
+use Rattle.core_events.specs.Cells.{WorkerState, worker_of, queue_of, reply_for}
 use Rattle.core_events.specs.Fitting.{Fits, IsNumberOf, MayScan, BeginsGroup, JoinsGroup, FitsWork, round_progress}
 use Rattle.core_events.specs.Runs.{IsRun}
 use Rattle.core_mails.specs.Histories.{DoneJob, job_done}
 use Rattle.core_mails.proofs.Places.{JobPlace, Nowhere, Asked, Answered, is_out, place, place_after_post, place_after_fetch, place_after_call, place_where, place_with_done, place_after_move}
 use Rattle.core_mails.proofs.Posted.{run-posted, ended-empty, ends-empty, empty-has-none, none-out, done-asked}
-use Rattle.core_runs.proofs.Isolation.{own-holds, holds-stay}
+use Rattle.core_runs.proofs.Isolation.{holds-stay}
 
 -- A job is of a group that has no answer of its mail.
 pub record Suits (mail : ℕ) (g : JobGroup) (job : CoreJob) : Type 0 where
@@ -210,10 +208,10 @@ scan-held : (o : Opening) (a : ℕ) (k : ClientState) (s : Snapshot) → IsSessi
 scan-held o a k s session l (inl own) = record { number = a; session = session; under = inl refl; held = own }
 scan-held o a k s session l (inr leads) = by-leader k.leader l leads
   where
-  by-leader : (leader : Option ℕ) → LeaderFits a leader → IsSomeAnd leader (λ holder. held_under holder k.holds ≡ Some s)
-      → AsksBy o a k.holds s
-  by-leader None l leads = absurd leads
-  by-leader (Some holder) l leads = record { number = holder; session = session; under = l; held = leads }
+    by-leader : (leader : Option ℕ) → LeaderFits a leader → IsSomeAnd leader (λ holder. held_under holder k.holds ≡ Some s)
+        → AsksBy o a k.holds s
+    by-leader None l leads = absurd leads
+    by-leader (Some holder) l leads = record { number = holder; session = session; under = l; held = leads }
 
 -- A job that begins a query has a snapshot that is held.
 job-held : (o : Opening) (a mail : ℕ) (job : CoreJob) (k : ClientState) (q : BoundQuery) (s : Snapshot) → Fits o a (Post mail job) k

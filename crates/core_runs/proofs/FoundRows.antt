@@ -1,5 +1,5 @@
 -- What a query has fetched, and what waits for it in a mail, is brick by brick what its snapshot sees now.
-use Rattle.std.proofs.Common.{◌≡◌, ◌≢◌, ◌⊎◌, ◌∙◌, ℕ, ◌+◌, ◌%◌, ◌≤◌, ◌<◌, ◌==◌, Bool, true, false, true≢false, not, ◌&&◌, ◌||◌, List, [], ◌∷◌, ◌++◌, filter, Option, Some, None, IsSomeAnd, inl, inr, refl, sym, ap, arith, eqb-true, eq-eqb, ne_eqb, append-nil, mod-lt, zero, suc, if◌then◌else◌}
+use Rattle.std.proofs.Common.{◌≡◌, ◌∙◌, ℕ, ◌%◌, ◌<◌, ◌==◌, Bool, true, false, true≢false, ◌&&◌, ◌||◌, List, [], ◌∷◌, ◌++◌, Option, Some, None, inl, inr, refl, sym, ap, arith, eqb-true, eq-eqb, ne_eqb, append-nil, mod-lt, zero, suc, if◌then◌else◌}
 use Rattle.std.proofs.lemmas.Bool.{false≢true, or_parts}
 use Rattle.std.proofs.lemmas.Bool.Decides.{eqb_tells}
 use Rattle.std.proofs.lemmas.Option.{none-some, same_Some}
@@ -9,23 +9,23 @@ use Rattle.cube_values.specs.declared.row.CodedRow.{CodedRow}
 use Rattle.cube_values.specs.declared.snapshot.Snapshot.{Snapshot}
 use Rattle.cube_journal.specs.Counters.{held_by}
 use Rattle.brick_address.specs.Addresses.{brick_of}
-use Rattle.core_events.specs.ShardView.{BrickEntry, brick_rows_seen, rows_where}
+use Rattle.core_events.specs.ShardView.{brick_rows_seen, rows_where}
 use Rattle.core_events.specs.Jobs.{CoreJob, Append, DropBox, Scan, Delta, Rollback, Purge, CopyRound, Flush, JobAnswer, Done, ShardFull, Found, Compared, Copied, StoreLost, OutOfMemory, is_refusal}
-use Rattle.core_events.specs.Events.{Opening, IsOpening, IsSession, flusher, ClientCall, OnDesk, OnNames, Post, Fetch, CloseMail, NoChange, WorkerMove, Take, NoJob, Work, Reply, CoreEvent, By, At}
-use Rattle.core_events.specs.Groups.{GroupKind, Asks, kind_of, Received, JobGroup, no_group, has_number, has_all_below, has_ended, mails_of, has_refusal, numbers_without}
-use Rattle.core_events.specs.Clients.{ClientState, client_state, client_after_call, ends_group, held_under}
-use Rattle.core_events.specs.Cells.{counters_of_run, view_of, rows_of_brick, brick_after_move, sizes_of_cube, WorkerState, Free, Took, Worked, worker_of, queue_of, reply_for}
-use Rattle.core_events.specs.Fitting.{Fits, OwnsWriter, IsNumberOf, FitsWork, FitsReply, RoundProgress, round_progress, HasDone}
+use Rattle.core_events.specs.Events.{Opening, IsSession, flusher, ClientCall, OnDesk, OnNames, Post, Fetch, CloseMail, NoChange, WorkerMove, Take, NoJob, Work, Reply, CoreEvent, By, At}
+use Rattle.core_events.specs.Groups.{GroupKind, Asks, kind_of, JobGroup, no_group, has_number, has_all_below, has_ended, mails_of, has_refusal, numbers_without}
+use Rattle.core_events.specs.Clients.{client_state, client_after_call, ends_group, held_under}
+use Rattle.core_events.specs.Cells.{counters_of_run, view_of, rows_of_brick, brick_after_move, sizes_of_cube, WorkerState, Free, Took, Worked, worker_of}
+use Rattle.core_events.specs.Fitting.{OwnsWriter, FitsWork, FitsReply, RoundProgress, round_progress}
 use Rattle.core_events.specs.Runs.{IsRun, CallSays, MoveSays, ShardSays, AreByBrick, rows_in_span}
 use Rattle.core_mails.specs.Histories.{DoneJob, job_done}
 use Rattle.core_runs.specs.Isolation.{IsOfOther}
 use Rattle.core_runs.specs.Queries.{rows_in, rows_fetched, rows_asked, HasAnswered}
 use Rattle.core_desk.proofs.Agreement.{agree, opening-of, one-session}
-use Rattle.core_desk.proofs.Finished.{Held, held-writer, run-finished}
-use Rattle.core_mails.proofs.Places.{JobPlace, Nowhere, Asked, Answered, is_out, place, place_after_post, place_after_fetch, place_after_call, place_where, place_with_done, place_after_move, IsBusy, asked-answered, nowhere-answered}
+use Rattle.core_desk.proofs.Finished.{held-writer, run-finished}
+use Rattle.core_mails.proofs.Places.{JobPlace, Nowhere, Asked, Answered, place, place_after_post, place_after_fetch, place_after_call, place_where, place_with_done, place_after_move}
 use Rattle.core_mails.proofs.Posted.{run-posted}
 use Rattle.core_runs.proofs.Isolation.{JobFits, asked-fits, made-asked, isolated}
-use Rattle.core_runs.proofs.Asking.{Suits, SuitsAt, AsksBy, is_asking, run-suits, run-held, own-fits, moved-asked}
+use Rattle.core_runs.proofs.Asking.{SuitsAt, AsksBy, is_asking, run-suits, run-held}
 
 -- What waits in a mail: the answer of a scan is a refusal, or it has the rows of the shard's bricks.
 abbrev AreAsked : Opening → List CoreEvent → ℕ → BoundQuery → Snapshot → List CodedRow → Type 0
@@ -104,22 +104,22 @@ asked-stay o es a other (Work job answer) q s run kind brick =
     (job-other o es a made.0 other job q s run.0 asks kind made.1 (asked-fits o es other made.0 job run.0 made.1)))
 asked-stay o es a other (Take client job) q s run kind brick = move-same (other == brick % o.shards)
   where
-  move-same : (here : Bool) → rows_in_span q.span (brick_rows_seen s (brick_after_move o here q.cube brick (Take client job) (view_of o es q.cube brick)))
-      ≡ rows_asked o es q s brick
-  move-same true = refl
-  move-same false = refl
+    move-same : (here : Bool) → rows_in_span q.span (brick_rows_seen s (brick_after_move o here q.cube brick (Take client job) (view_of o es q.cube brick)))
+        ≡ rows_asked o es q s brick
+    move-same true = refl
+    move-same false = refl
 asked-stay o es a other (NoJob closed) q s run kind brick = move-same (other == brick % o.shards)
   where
-  move-same : (here : Bool) → rows_in_span q.span (brick_rows_seen s (brick_after_move o here q.cube brick (NoJob closed) (view_of o es q.cube brick)))
-      ≡ rows_asked o es q s brick
-  move-same true = refl
-  move-same false = refl
+    move-same : (here : Bool) → rows_in_span q.span (brick_rows_seen s (brick_after_move o here q.cube brick (NoJob closed) (view_of o es q.cube brick)))
+        ≡ rows_asked o es q s brick
+    move-same true = refl
+    move-same false = refl
 asked-stay o es a other (Reply client answer) q s run kind brick = move-same (other == brick % o.shards)
   where
-  move-same : (here : Bool) → rows_in_span q.span (brick_rows_seen s (brick_after_move o here q.cube brick (Reply client answer) (view_of o es q.cube brick)))
-      ≡ rows_asked o es q s brick
-  move-same true = refl
-  move-same false = refl
+    move-same : (here : Bool) → rows_in_span q.span (brick_rows_seen s (brick_after_move o here q.cube brick (Reply client answer) (view_of o es q.cube brick)))
+        ≡ rows_asked o es q s brick
+    move-same true = refl
+    move-same false = refl
 
 -- Both facts, over events.
 
@@ -197,18 +197,18 @@ done-says o es mail q lost (Took c j) (Take client job) d fits says is = absurd 
 done-says o es mail q lost (Took c j) (NoJob closed) d fits says is = absurd fits
 done-says o es mail q lost Free move d fits says is = absurd (free-none move is)
   where
-  free-none : (m : WorkerMove) → job_done Free m ≡ Some d → ⊥
-  free-none (Take client job) e = none-some d e
-  free-none (NoJob closed) e = none-some d e
-  free-none (Work job answer) e = none-some d e
-  free-none (Reply client answer) e = none-some d e
+    free-none : (m : WorkerMove) → job_done Free m ≡ Some d → ⊥
+    free-none (Take client job) e = none-some d e
+    free-none (NoJob closed) e = none-some d e
+    free-none (Work job answer) e = none-some d e
+    free-none (Reply client answer) e = none-some d e
 done-says o es mail q lost (Worked c j x) move d fits says is = absurd (worked-none move is)
   where
-  worked-none : (m : WorkerMove) → job_done (Worked c j x) m ≡ Some d → ⊥
-  worked-none (Take client job) e = none-some d e
-  worked-none (NoJob closed) e = none-some d e
-  worked-none (Work job answer) e = none-some d e
-  worked-none (Reply client answer) e = none-some d e
+    worked-none : (m : WorkerMove) → job_done (Worked c j x) m ≡ Some d → ⊥
+    worked-none (Take client job) e = none-some d e
+    worked-none (NoJob closed) e = none-some d e
+    worked-none (Work job answer) e = none-some d e
+    worked-none (Reply client answer) e = none-some d e
 
 where-place : (own : Bool) (o : Opening) (es : List CoreEvent) (mail : ℕ) (job : CoreJob) (answer : JobAnswer) (p : JobPlace)
     → (own ≡ true → JobAnswerFits o es mail job answer) → PlaceFits o es mail p → PlaceFits o es mail (place_where own (Answered job answer) p)
@@ -231,16 +231,16 @@ call-place : (own : Bool) (o : Opening) (es : List CoreEvent) (mail : ℕ) (call
     → PlaceFits o es mail (place_after_call mail own call p)
 call-place own o es mail (Post other job) p f = post-place (other == mail) own
   where
-  post-place : (here mine : Bool) → PlaceFits o es mail (place_after_post here mine job p)
-  post-place true true = tt
-  post-place true false = f
-  post-place false mine = f
+    post-place : (here mine : Bool) → PlaceFits o es mail (place_after_post here mine job p)
+    post-place true true = tt
+    post-place true false = f
+    post-place false mine = f
 call-place own o es mail (Fetch other answer) p f = fetch-place (other == mail) own
   where
-  fetch-place : (here mine : Bool) → PlaceFits o es mail (place_after_fetch here mine p)
-  fetch-place true true = tt
-  fetch-place true false = f
-  fetch-place false mine = f
+    fetch-place : (here mine : Bool) → PlaceFits o es mail (place_after_fetch here mine p)
+    fetch-place true true = tt
+    fetch-place true false = f
+    fetch-place false mine = f
 call-place own o es mail (OnDesk call) p f = f
 call-place own o es mail (OnNames call) p f = f
 call-place own o es mail (CloseMail other) p f = f
@@ -296,12 +296,13 @@ scan-answer o es mail (DropBox cube epoch box) answer q s e f = absurd (false≢
 scan-answer o es mail (Scan query snapshot) answer q s e f =
     coe 0 1 (i. AnswerFits o es mail (ap (query_asked query) e i) (ap (snapshot_asked snapshot) e i) answer) f
   where
-  query_asked : BoundQuery → GroupKind → BoundQuery
-  query_asked default (Asks x y) = x
-  query_asked default kind = default
-  snapshot_asked : Snapshot → GroupKind → Snapshot
-  snapshot_asked default (Asks x y) = y
-  snapshot_asked default kind = default
+    query_asked : BoundQuery → GroupKind → BoundQuery
+    query_asked default (Asks x y) = x
+    query_asked default kind = default
+
+    snapshot_asked : Snapshot → GroupKind → Snapshot
+    snapshot_asked default (Asks x y) = y
+    snapshot_asked default kind = default
 scan-answer o es mail (Delta query from to) answer q s e f = absurd (false≢true (ap is_asking e))
 scan-answer o es mail (Rollback epoch) answer q s e f = absurd (false≢true (ap is_asking e))
 scan-answer o es mail (Purge epoch) answer q s e f = absurd (false≢true (ap is_asking e))
@@ -316,8 +317,11 @@ swap-test a b = elim (eqb_tells a b) [
 
 fetch-found : (o : Opening) (es : List CoreEvent) (a mail : ℕ) (answer : JobAnswer) (job : CoreJob) → IsRun o es
     → place mail a es ≡ Answered job answer → HasFound o es (client_state o a es).group
-    → HasFound o es (record { kind = (client_state o a es).group.kind; waits = numbers_without mail (client_state o a es).group.waits;
-        answers = record { mail = mail; answer = answer } ∷ (client_state o a es).group.answers })
+    → HasFound o es (record {
+      kind = (client_state o a es).group.kind;
+      waits = numbers_without mail (client_state o a es).group.waits;
+      answers = record { mail = mail; answer = answer } ∷ (client_state o a es).group.answers;
+    })
 fetch-found o es a mail answer job run at found q s kind none brick =
     let g = (client_state o a es).group in
     let parts = or_parts (is_refusal answer) (has_refusal g.answers) none in
@@ -379,9 +383,9 @@ all-below (suc n) m xs all l =
       | inr other ↦ all-below n m xs p.1 (let o = other.1 in omega (arith, l, o))
     ]
   where
-  both-are : (a b : Bool) → (a && b) ≡ true → (a ≡ true) × (b ≡ true)
-  both-are true b e = (refl, e)
-  both-are false b e = absurd (false≢true e)
+    both-are : (a b : Bool) → (a && b) ≡ true → (a ≡ true) × (b ≡ true)
+    both-are true b e = (refl, e)
+    both-are false b e = absurd (false≢true e)
 
 pub answered-rows : (o : Opening) (es : List CoreEvent) (a brick : ℕ) (q : BoundQuery) (s : Snapshot) → IsRun o es
     → HasAnswered o.shards q s (client_state o a es).group

@@ -1,6 +1,5 @@
 -- What an open snapshot sees of a brick is changed by its own transaction alone.
-use Rattle.std.proofs.Common.{◌≡◌, ◌≢◌, ◌⊎◌, ◌∙◌, ℕ, ◌%◌, ◌<◌, ◌≤◌, max, ◌==◌, Bool, true, false, true≢false, not, ◌&&◌, ◌||◌, List, [], ◌∷◌, Option, Some, None, All, IfSome, IsSomeAnd, if◌then◌else◌, inl, inr, refl, sym, ap, subst, arith, eqb-true, eq-eqb}
-use Rattle.std.proofs.lemmas.Bool.{false≢true}
+use Rattle.std.proofs.Common.{◌≡◌, ◌⊎◌, ◌∙◌, ℕ, ◌%◌, ◌<◌, ◌≤◌, ◌==◌, Bool, true, false, true≢false, ◌&&◌, List, [], ◌∷◌, Option, Some, None, IfSome, IsSomeAnd, if◌then◌else◌, inl, inr, refl, sym, ap, arith, eqb-true}
 use Rattle.std.proofs.lemmas.Option.{none-some, same_Some}
 use Rattle.cube_values.specs.declared.row.CodedRow.{CodedRow}
 use Rattle.cube_values.specs.declared.snapshot.Snapshot.{Snapshot}
@@ -8,29 +7,28 @@ use Rattle.cube_values.specs.Sees.{sees}
 use Rattle.cube_journal.specs.declared.journal_entry.JournalEntry.{JournalEntry}
 use Rattle.cube_journal.specs.declared.journal_entry.JournalEntry.TheVariants as entry
 use Rattle.cube_journal.specs.declared.counters.Counters.{Counters}
-use Rattle.cube_journal.specs.Counters.{JournalState, state_after, held_by, counters_in, target}
+use Rattle.cube_journal.specs.Counters.{JournalState, state_after, held_by, target}
 use Rattle.cube_journal.specs.Order.{IsInOrder}
 use Rattle.aosi_register.specs.declared.answer.RoundAnswer.{RoundAnswer}
 use Rattle.aosi_register.specs.declared.answer.RoundAnswer.TheVariants.{Target, Nothing}
-use Rattle.aosi_register.specs.State.{state_of, round_answer}
-use Rattle.core_events.specs.ShardView.{BrickEntry, RowRun, RowMark, brick_rows_seen, entries_without_epoch, entries_after_purge}
+use Rattle.core_events.specs.ShardView.{BrickEntry, RowRun, RowMark, brick_rows_seen}
 use Rattle.core_events.specs.Jobs.{CoreJob, Append, DropBox, Scan, Delta, Rollback, Purge, CopyRound, Flush, JobAnswer, Done, ShardFull, Found, Compared, Copied, StoreLost, OutOfMemory}
-use Rattle.core_events.specs.Events.{Opening, IsSession, flusher, DeskCall, OpenWrite, OpenRead, Commit, AbortEnd, CloseRead, TakeNote, CreateCube, FindCube, CubesFrom, CountersNow, RoundOpen, RoundClose, StoreFailed, ClientCall, OnDesk, OnNames, Post, Fetch, CloseMail, NoChange, WorkerMove, Take, NoJob, Work, Reply, CoreEvent, By, At}
+use Rattle.core_events.specs.Events.{Opening, IsSession, flusher, OpenWrite, OpenRead, Commit, AbortEnd, CloseRead, TakeNote, CreateCube, FindCube, CubesFrom, CountersNow, RoundOpen, RoundClose, StoreFailed, ClientCall, OnDesk, OnNames, Post, Fetch, CloseMail, NoChange, WorkerMove, Work, CoreEvent, By, At}
 use Rattle.core_events.specs.Groups.{has_number}
 use Rattle.core_events.specs.Clients.{Holding, ClientState, client_state, client_after_call, held_under, holds_after, ends_group, lse_in, greater_of}
-use Rattle.core_events.specs.Cells.{counters_of_run, desk_of, view_of, brick_after_job, brick_after_move, rows_of_brick, box_has_brick, WorkerState, Free, Took, Worked, worker_of, queue_of, reply_for}
-use Rattle.core_events.specs.Fitting.{Fits, OwnsWriter, FitsWork, RoundProgress, round_progress}
-use Rattle.core_events.specs.Runs.{IsRun, CallSays, DeskSays}
+use Rattle.core_events.specs.Cells.{counters_of_run, view_of, brick_after_job, brick_after_move, rows_of_brick, box_has_brick, WorkerState, Free, Took, Worked, worker_of, queue_of, reply_for}
+use Rattle.core_events.specs.Fitting.{Fits, OwnsWriter, FitsWork, round_progress}
+use Rattle.core_events.specs.Runs.{IsRun, CallSays}
 use Rattle.core_mails.specs.Histories.{DoneJob, job_done}
 use Rattle.core_runs.specs.Isolation.{IsOfOther}
 use Rattle.core_desk.proofs.DeskSteps.{client_entry, state_with_entry, run-step}
 use Rattle.core_desk.proofs.Agreement.{agree}
 use Rattle.core_desk.proofs.InOrder.{StateAllows, AllowsEntry, run-allowed, run-order}
-use Rattle.core_desk.proofs.Finished.{Held, held-writer, run-finished}
+use Rattle.core_desk.proofs.Finished.{held-writer, run-finished}
 use Rattle.core_desk.proofs.Blindness.{run-blind, sees-safe}
 use Rattle.core_bricks.proofs.BrickRows.{append-unseen, mark-unseen, rollback-unseen, purge-unseen}
-use Rattle.core_mails.proofs.Places.{JobPlace, Nowhere, Asked, Answered, is_out, place, place_after_post, place_after_fetch, place_after_call, place_where, place_with_done, place_after_move, FitsPlaces, IsBusy, nowhere-asked, asked-answered}
-use Rattle.core_mails.proofs.Posted.{IsPosted, ArePosted, run-posted, ends-empty, empty-has-none}
+use Rattle.core_mails.proofs.Places.{JobPlace, Nowhere, Asked, Answered, is_out, place, place_after_post, place_after_fetch, place_after_call, place_where, place_with_done, place_after_move, IsBusy, nowhere-asked, asked-answered}
+use Rattle.core_mails.proofs.Posted.{run-posted, ends-empty, empty-has-none}
 
 -- LSE never falls, and no client was shown a greater one.
 
@@ -179,10 +177,10 @@ own-holds o false a mail call k f out = refl
 same-asked : (job other : CoreJob) → Asked job ≡ Asked other → job ≡ other
 same-asked job other e = ap (job_in job) e
   where
-  job_in : CoreJob → JobPlace → CoreJob
-  job_in default Nowhere = default
-  job_in default (Asked j) = j
-  job_in default (Answered j answer) = default
+    job_in : CoreJob → JobPlace → CoreJob
+    job_in default Nowhere = default
+    job_in default (Asked j) = j
+    job_in default (Answered j answer) = default
 
 -- A job is asked by a post, or it was asked before.
 post-back : (here own : Bool) (job asked : CoreJob) (p : JobPlace) → place_after_post here own job p ≡ Asked asked
@@ -245,10 +243,10 @@ asked-fits o (By b call ∷ es) mail a job run e =
           (asked-fits o es mail a job run.0 old)
     ]
   where
-  posted-holds : (own : Bool) (m : ℕ) (c : ClientCall) (k : ClientState) → c ≡ Post m job
-      → (client_after_call o own a c k).holds ≡ k.holds
-  posted-holds true m c k is = ap (λ (x : ClientCall). (client_after_call o true a x k).holds) is
-  posted-holds false m c k is = refl
+    posted-holds : (own : Bool) (m : ℕ) (c : ClientCall) (k : ClientState) → c ≡ Post m job
+        → (client_after_call o own a c k).holds ≡ k.holds
+    posted-holds true m c k is = ap (λ (x : ClientCall). (client_after_call o true a x k).holds) is
+    posted-holds false m c k is = refl
 asked-fits o (At other move ∷ es) mail a job run e =
     asked-fits o es mail a job run.0 (move-back (other == mail) a (worker_of mail es) move job (place mail a es) e)
 
@@ -257,11 +255,11 @@ pub made-asked : (o : Opening) (es : List CoreEvent) (mail : ℕ) (job : CoreJob
     → IsRun o (At mail (Work job answer) ∷ es) → (a : ℕ) × (place mail a es ≡ Asked job)
 made-asked o es mail job answer run = made (worker_of mail es) run.1.fits ((run-posted o es run.0).posted mail).busy
   where
-  made : (w : WorkerState) → FitsWork (round_progress o es) (client_state o (flusher o) es).store_lost w (Work job answer)
-      → IsBusy (λ a. place mail a es) (queue_of mail es) (λ a. reply_for mail a es) w → (a : ℕ) × (place mail a es ≡ Asked job)
-  made Free fits busy = absurd fits
-  made (Took c j) fits busy = (c, busy.asked ∙ ap Asked (sym fits.0))
-  made (Worked c j x) fits busy = absurd fits
+    made : (w : WorkerState) → FitsWork (round_progress o es) (client_state o (flusher o) es).store_lost w (Work job answer)
+        → IsBusy (λ a. place mail a es) (queue_of mail es) (λ a. reply_for mail a es) w → (a : ℕ) × (place mail a es ≡ Asked job)
+    made Free fits busy = absurd fits
+    made (Took c j) fits busy = (c, busy.asked ∙ ap Asked (sym fits.0))
+    made (Worked c j x) fits busy = absurd fits
 
 -- A snapshot does not see what the job of another transaction changes.
 abbrev IsUnseen : Snapshot → CoreJob → Type 0

@@ -1,5 +1,5 @@
 -- The rows of a query, as the transactions that its snapshot sees leave them.
-use Rattle.std.proofs.Common.{◌≡◌, ◌∙◌, ℕ, ◌+◌, ◌%◌, Bool, true, false, not, ◌&&◌, nat_lt, List, [], ◌∷◌, Some, inl, inr, refl, sym, ap}
+use Rattle.std.proofs.Common.{◌≡◌, ◌∙◌, ℕ, ◌+◌, ◌%◌, Bool, true, false, not, ◌&&◌, nat_lt, List, Some, refl, sym, ap}
 use Rattle.std.specs.List.{count_by}
 use Rattle.cube_values.specs.declared.query.BoundQuery.{BoundQuery}
 use Rattle.cube_values.specs.declared.row.CodedRow.{CodedRow}
@@ -7,16 +7,16 @@ use Rattle.cube_values.specs.declared.snapshot.Snapshot.{Snapshot}
 use Rattle.cube_values.specs.Sees.{sees}
 use Rattle.cube_values.specs.Spans.{span_has}
 use Rattle.cube_journal.specs.Counters.{held_by}
-use Rattle.core_events.specs.ShardView.{BrickEntry, Epochs, epochs_without, rows_shown_to, brick_rows_seen}
+use Rattle.core_events.specs.ShardView.{BrickEntry, Epochs, epochs_without, rows_shown_to}
 use Rattle.core_events.specs.Events.{Opening, CoreEvent}
 use Rattle.core_events.specs.Clients.{client_state}
-use Rattle.core_events.specs.Cells.{counters_of_run, rows_of_brick, view_of}
+use Rattle.core_events.specs.Cells.{counters_of_run, rows_of_brick}
 use Rattle.core_events.specs.Runs.{IsRun, rows_in_span}
 use Rattle.core_bricks.specs.BrickTransactions.{brick_rows_left}
 use Rattle.core_bricks.proofs.Counts.{count-filter}
 use Rattle.core_bricks.proofs.SerialRows.{epochs_below, serial-counts, sees-below}
 use Rattle.core_desk.proofs.Agreement.{agree}
-use Rattle.core_runs.specs.Queries.{HasAnswered, rows_fetched, rows_asked}
+use Rattle.core_runs.specs.Queries.{HasAnswered, rows_fetched}
 use Rattle.core_runs.specs.Told.{rolled_back, told_of}
 use Rattle.core_runs.proofs.Asking.{run-held}
 use Rattle.core_runs.proofs.FoundRows.{answered-rows}

@@ -1,33 +1,33 @@
 -- In every run each brick shows what it was told, less what was rolled back there.
-use Rattle.std.proofs.Common.{◌≡◌, ◌≢◌, ◌⊎◌, ◌∙◌, ℕ, ◌+◌, ◌%◌, ◌<◌, ◌≤◌, ◌==◌, Bool, true, false, true≢false, not, ◌&&◌, ◌||◌, List, [], ◌∷◌, ◌++◌, Option, Some, None, IsSomeAnd, inl, inr, refl, sym, ap, subst, arith, eqb-true, eq-eqb, if◌then◌else◌}
+use Rattle.std.proofs.Common.{◌≡◌, ◌⊎◌, ◌∙◌, ℕ, ◌+◌, ◌%◌, ◌<◌, ◌≤◌, ◌==◌, Bool, true, false, not, ◌&&◌, ◌||◌, List, [], ◌∷◌, Option, Some, None, IsSomeAnd, inl, inr, refl, sym, ap, arith, eqb-true, eq-eqb, if◌then◌else◌}
 use Rattle.std.proofs.lemmas.Bool.{false≢true, false_from_ne_true}
-use Rattle.std.proofs.lemmas.Option.{none-some, same_Some}
+use Rattle.std.proofs.lemmas.Option.{none-some}
 use Rattle.cube_values.specs.declared.snapshot.Snapshot.{Snapshot}
 use Rattle.cube_values.specs.declared.row.CodedRow.{CodedRow}
 use Rattle.cube_values.specs.Sees.{sees}
 use Rattle.cube_journal.specs.declared.counters.OpenSnapshot.{OpenSnapshot}
 use Rattle.cube_journal.specs.declared.journal_entry.JournalEntry.{JournalEntry}
 use Rattle.cube_journal.specs.declared.journal_entry.JournalEntry.TheVariants as entry
-use Rattle.cube_journal.specs.Counters.{JournalState, state_after, held_by, lce}
+use Rattle.cube_journal.specs.Counters.{JournalState, held_by, lce}
 use Rattle.cube_journal.specs.Entries.{takes_epoch}
 use Rattle.cube_journal.specs.Order.{IsInOrder, NeverFalls}
 use Rattle.core_events.specs.ShardView.{BrickEntry, RowRun, RowMark, Epochs, brick_rows_seen, rows_shown_to, epochs_without}
-use Rattle.core_events.specs.Jobs.{CoreJob, Append, DropBox, Scan, Delta, Rollback, Purge, CopyRound, Flush, JobAnswer, Done, ShardFull, Found, Compared, Copied, StoreLost, OutOfMemory}
-use Rattle.core_events.specs.Events.{Opening, IsSession, DeskCall, OpenWrite, OpenRead, Commit, AbortEnd, CloseRead, TakeNote, CreateCube, FindCube, CubesFrom, CountersNow, RoundOpen, RoundClose, StoreFailed, ClientCall, OnDesk, OnNames, Post, Fetch, CloseMail, NoChange, WorkerMove, Take, NoJob, Work, Reply, CoreEvent, By, At}
-use Rattle.core_events.specs.Groups.{GroupKind, RollsBack, kind_of, JobGroup, no_group, has_number, is_empty, has_ended, is_ready, is_complete, is_spoiled, has_refusal, mails_of}
-use Rattle.core_events.specs.Clients.{Holding, ClientState, client_state, client_after_call, held_under, holds_after, holds_without, ends_group, writer_at, reader_at}
+use Rattle.core_events.specs.Jobs.{CoreJob, Append, DropBox, Scan, Delta, Rollback, Purge, CopyRound, Flush, Done, ShardFull, Found, Compared, Copied, StoreLost, OutOfMemory}
+use Rattle.core_events.specs.Events.{Opening, IsSession, OpenWrite, OpenRead, Commit, AbortEnd, CloseRead, TakeNote, CreateCube, FindCube, CubesFrom, CountersNow, RoundOpen, RoundClose, StoreFailed, ClientCall, OnDesk, OnNames, Post, Fetch, CloseMail, NoChange, WorkerMove, Take, NoJob, Work, Reply, CoreEvent, By, At}
+use Rattle.core_events.specs.Groups.{GroupKind, RollsBack, kind_of, JobGroup, has_number, is_empty, has_ended, is_ready, is_complete, is_spoiled, has_refusal, mails_of}
+use Rattle.core_events.specs.Clients.{ClientState, client_state, client_after_call, held_under, holds_without}
 use Rattle.core_events.specs.Cells.{counters_of_run, view_of, rows_of_brick, box_has_brick, brick_after_job, brick_after_move}
-use Rattle.core_events.specs.Fitting.{Fits, OwnsWriter, BeginsGroup, JoinsGroup}
-use Rattle.core_events.specs.Runs.{IsRun, CallSays}
+use Rattle.core_events.specs.Fitting.{Fits, OwnsWriter}
+use Rattle.core_events.specs.Runs.{IsRun}
 use Rattle.core_runs.specs.Told.{told_of, told_after_job, told_after_move, rolled_back, rolled_after_job, rolled_after_move}
-use Rattle.core_desk.proofs.Agreement.{agree, opening-of, one-session}
+use Rattle.core_desk.proofs.Agreement.{agree}
 use Rattle.core_desk.proofs.InOrder.{AllowsEntry, StateAllows, run-allowed, run-order}
 use Rattle.core_desk.proofs.Lookups.{with_one, without_one, held-under-without}
 use Rattle.core_desk.proofs.DeskSteps.{client_entry, state_with_entry, run-step, HoldChange, Opens, Ends, Keeps, change_by, change_by_entry, held_after, client-held}
 use Rattle.core_desk.proofs.Finished.{Held, held-writer, run-finished}
 use Rattle.core_desk.proofs.Blindness.{run-blind, least-pending, sees-safe}
-use Rattle.core_mails.proofs.Places.{JobPlace, Asked, place}
-use Rattle.core_runs.proofs.Isolation.{JobFits, asked-fits, made-asked, lse-rises, holds-stay}
+use Rattle.core_mails.proofs.Places.{Asked, place}
+use Rattle.core_runs.proofs.Isolation.{JobFits, asked-fits, made-asked, lse-rises}
 use Rattle.core_runs.proofs.Asking.{SuitsAt, run-suits, own-fits}
 use Rattle.core_bricks.proofs.KeptBricks.{KeepsTold, keeps-append, keeps-mark, keeps-rollback, keeps-purge, keeps-rise, keeps-same}
 
@@ -79,17 +79,17 @@ rolling-goes-on shards g e =
     ap (λ (k : GroupKind). is_empty g.waits && is_complete shards k (has_refusal g.answers) (mails_of g.answers)) e
     ∙ and-none (is_empty g.waits)
   where
-  and-none : (b : Bool) → (b && false) ≡ false
-  and-none true = refl
-  and-none false = refl
+    and-none : (b : Bool) → (b && false) ≡ false
+    and-none true = refl
+    and-none false = refl
 
 pub rolling-unready : (shards : ℕ) (g : JobGroup) → g.kind ≡ RollsBack → is_ready shards g ≡ true → ⊥
 rolling-unready shards g e ready =
     false≢true (sym (rolling-goes-on shards g e) ∙ left-of (has_ended shards g) (not (is_spoiled g.kind (has_refusal g.answers))) ready)
   where
-  left-of : (a b : Bool) → (a && b) ≡ true → a ≡ true
-  left-of true b e = refl
-  left-of false b e = absurd (false≢true e)
+    left-of : (a b : Bool) → (a && b) ≡ true → a ≡ true
+    left-of true b e = refl
+    left-of false b e = absurd (false≢true e)
 
 -- A call of a client whose group rolls back: it goes on so, or it ends the transaction.
 pub own-rolls : (o : Opening) (a k : ℕ) (call : ClientCall) (s : ClientState) → IsSession o a → Fits o a call s → s.group.kind ≡ RollsBack
@@ -100,12 +100,13 @@ own-rolls o a k (OnDesk (Commit statement epoch)) s session f kind owns = absurd
 own-rolls o a k (OnDesk (AbortEnd statement epoch cause)) s session f kind owns =
     absurd (none-owned (held_under a (holds_without a s.holds)) (held-under-without s.holds a a ∙ own-out (a == a) (held_under a s.holds) (eq-eqb a a refl)) owns)
   where
-  own-out : (here : Bool) (h : Option Snapshot) → here ≡ true → without_one here h ≡ None
-  own-out true h e = refl
-  own-out false h e = absurd (false≢true e)
-  none-owned : (h : Option Snapshot) → h ≡ None → IsSomeAnd h (λ x. (x.own ≡ true) × (x.epoch ≡ k)) → ⊥
-  none-owned None e owns = owns
-  none-owned (Some x) e owns = none-some x (sym e)
+    own-out : (here : Bool) (h : Option Snapshot) → here ≡ true → without_one here h ≡ None
+    own-out true h e = refl
+    own-out false h e = absurd (false≢true e)
+
+    none-owned : (h : Option Snapshot) → h ≡ None → IsSomeAnd h (λ x. (x.own ≡ true) × (x.epoch ≡ k)) → ⊥
+    none-owned None e owns = owns
+    none-owned (Some x) e owns = none-some x (sym e)
 own-rolls o a k (OnDesk (CloseRead number statement)) s session f kind owns = absurd (rolling-unready o.shards s.group kind f.ready)
 own-rolls o a k (OnDesk (TakeNote note counters)) s session f kind owns = absurd (rolling-unready o.shards s.group kind f.ready)
 own-rolls o a k (OnDesk (CreateCube statement decl answer)) s session f kind owns = absurd (rolling-unready o.shards s.group kind f.0.ready)
@@ -185,10 +186,10 @@ pub rolled-new : (here : Bool) (move : WorkerMove) (rolled : Epochs) (k : ℕ) �
     → (rolled k ≡ true) ⊎ ((here ≡ true) × (move ≡ Work (Rollback k) Done))
 rolled-new true (Work (Rollback epoch) Done) rolled k is = new-or-old (epoch == k) refl is
   where
-  new-or-old : (same : Bool) → (epoch == k) ≡ same → (same || rolled k) ≡ true
-      → (rolled k ≡ true) ⊎ ((true ≡ true) × (Work (Rollback epoch) Done ≡ Work (Rollback k) Done))
-  new-or-old true e h = inr (refl, ap (λ (n : ℕ). Work (Rollback n) Done) (eqb-true epoch k e))
-  new-or-old false e h = inl h
+    new-or-old : (same : Bool) → (epoch == k) ≡ same → (same || rolled k) ≡ true
+        → (rolled k ≡ true) ⊎ ((true ≡ true) × (Work (Rollback epoch) Done ≡ Work (Rollback k) Done))
+    new-or-old true e h = inr (refl, ap (λ (n : ℕ). Work (Rollback n) Done) (eqb-true epoch k e))
+    new-or-old false e h = inl h
 rolled-new true (Work (Append cube epoch rows) Done) rolled k is = inl is
 rolled-new true (Work (DropBox cube epoch box) Done) rolled k is = inl is
 rolled-new true (Work (Scan query snapshot) Done) rolled k is = inl is

@@ -1,6 +1,6 @@
 -- What a client has of a query, once it has fetched the answers of all shards.
 -- Source: Cubrick (VLDB 2016), partial answers of shards; that they are of one snapshot is AOSI's (ICDE 2018).
-use Rattle.std.specs.Prelude.{◌≡◌, ℕ, true, List, [], ◌∷◌, ◌++◌}
+use Rattle.std.specs.Prelude.{◌≡◌, ℕ, List, [], ◌∷◌, ◌++◌}
 use Rattle.cube_values.specs.declared.query.BoundQuery.{BoundQuery}
 use Rattle.cube_values.specs.declared.row.CodedRow.{CodedRow}
 use Rattle.cube_values.specs.declared.snapshot.Snapshot.{Snapshot}
@@ -8,7 +8,7 @@ use Rattle.core_events.specs.ShardView.{brick_rows_seen}
 use Rattle.core_events.specs.Jobs.{JobAnswer, Found}
 use Rattle.core_events.specs.Events.{Opening, CoreEvent}
 use Rattle.core_events.specs.Groups.{Asks, Received, JobGroup}
-use Rattle.core_events.specs.Cells.{view_of, rows_of_brick}
+use Rattle.core_events.specs.Cells.{view_of}
 use Rattle.core_events.specs.Fitting.{HasDone}
 use Rattle.core_events.specs.Runs.{rows_in_span}
 

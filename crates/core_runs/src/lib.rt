@@ -5,6 +5,6 @@
 mod law;
 
 pub use law::{
-    bricks_keep_what_they_were_told, purges_stay_safe, queries_are_serial, queries_see_one_snapshot,
-    snapshots_are_isolated,
+    bricks_keep_what_they_were_told, purges_stay_safe, queries_are_serial,
+    queries_see_one_snapshot, snapshots_are_isolated,
 };

@@ -1,35 +1,29 @@
 -- The rows of a query, as the transactions that count for its snapshot leave them, by what they posted.
-use Rattle.std.proofs.Common.{◌≡◌, ◌≢◌, ◌⊎◌, ◌∙◌, ℕ, zero, suc, ◌+◌, ◌%◌, ◌<◌, ◌≤◌, ◌==◌, Bool, true, false, true≢false, not, ◌&&◌, ◌||◌, nat_le, nat_lt, List, [], ◌∷◌, ◌++◌, Option, Some, None, IsSomeAnd, inl, inr, refl, sym, ap, subst, arith, eqb-true, eq-eqb, ne_eqb, le-leb, leb-true, lt-ltb, mod-lt, if◌then◌else◌}
-use Rattle.std.proofs.lemmas.Bool.{false≢true, false_from_ne_true, eqb-false}
-use Rattle.std.proofs.lemmas.Bool.Decides.{eqb_tells}
-use Rattle.std.proofs.lemmas.Option.{none-some, same_Some}
+use Rattle.std.proofs.Common.{◌≡◌, ◌∙◌, ℕ, zero, suc, ◌+◌, ◌%◌, ◌==◌, Bool, true, false, true≢false, not, ◌&&◌, ◌||◌, List, [], ◌∷◌, ◌++◌, Option, Some, IsSomeAnd, inl, inr, refl, sym, ap, arith, eqb-true, eq-eqb, ne_eqb, mod-lt, if◌then◌else◌}
+use Rattle.std.proofs.lemmas.Bool.{false≢true, false_from_ne_true}
+use Rattle.std.proofs.lemmas.Option.{none-some}
 use Rattle.cube_values.specs.declared.row.CodedRow.{CodedRow}
 use Rattle.cube_values.specs.declared.query.BoundQuery.{BoundQuery}
 use Rattle.cube_values.specs.declared.snapshot.Snapshot.{Snapshot}
 use Rattle.cube_values.specs.Sees.{sees}
-use Rattle.cube_journal.specs.declared.journal_entry.JournalEntry.{JournalEntry}
-use Rattle.cube_journal.specs.declared.journal_entry.JournalEntry.TheVariants as entry
-use Rattle.cube_journal.specs.Counters.{JournalState, state_after, held_by}
+use Rattle.cube_journal.specs.Counters.{held_by}
 use Rattle.core_events.specs.ShardView.{BrickEntry, RowRun, RowMark, Epochs, epochs_without}
-use Rattle.core_events.specs.Jobs.{CoreJob, Append, DropBox, Scan, Delta, Rollback, Purge, CopyRound, Flush, JobAnswer, Done, ShardFull, Found, Compared, Copied, StoreLost, OutOfMemory, is_refusal}
-use Rattle.core_events.specs.Events.{Opening, IsSession, flusher, DeskCall, OpenWrite, OpenRead, Commit, AbortEnd, CloseRead, TakeNote, CreateCube, FindCube, CubesFrom, CountersNow, RoundOpen, RoundClose, StoreFailed, ClientCall, OnDesk, OnNames, Post, Fetch, CloseMail, NoChange, WorkerMove, Take, NoJob, Work, Reply, CoreEvent, By, At}
-use Rattle.core_events.specs.Groups.{GroupKind, NoGroup, Puts, Drops, Asks, Compares, RollsBack, Purges, Copies, Flushes, kind_of, Received, JobGroup, no_group, has_number, has_all_below, is_empty, is_complete, has_ended, is_ready, is_spoiled, mails_of, has_refusal, may_begin, group_after_post}
-use Rattle.core_events.specs.Clients.{Holding, ClientState, client_state, client_after_call, held_under, holds_after, ends_group, writer_at}
-use Rattle.core_events.specs.Cells.{counters_of_run, rows_of_brick, box_has_brick, WorkerState, Free, Took, Worked, worker_of, queue_of, reply_for}
-use Rattle.core_events.specs.Fitting.{Fits, OwnsWriter, FitsWork, FitsReply, RoundProgress, round_progress, BeginsGroup, JoinsGroup, HasDone}
-use Rattle.core_events.specs.Runs.{IsRun, CallSays, MoveSays, ShardSays}
-use Rattle.core_events.specs.Serial.{commits, is_committed, aborts, is_aborted, counts_for}
-use Rattle.core_mails.specs.Histories.{DoneJob, job_done}
-use Rattle.core_runs.specs.Told.{told_of, told_after_job, told_after_move, rolled_back, rolled_after_move, rolled_after_job}
+use Rattle.core_events.specs.Jobs.{CoreJob, Append, DropBox, Scan, Delta, Rollback, Purge, CopyRound, Flush, JobAnswer}
+use Rattle.core_events.specs.Events.{Opening, IsSession, OpenWrite, OpenRead, Commit, AbortEnd, CloseRead, TakeNote, CreateCube, FindCube, CubesFrom, CountersNow, RoundOpen, RoundClose, StoreFailed, ClientCall, OnDesk, OnNames, Post, Fetch, CloseMail, NoChange, WorkerMove, Take, NoJob, Work, Reply, CoreEvent, By, At}
+use Rattle.core_events.specs.Groups.{GroupKind, Asks, JobGroup, has_number, is_empty, is_spoiled, has_refusal}
+use Rattle.core_events.specs.Clients.{ClientState, client_state, client_after_call, held_under}
+use Rattle.core_events.specs.Cells.{counters_of_run, rows_of_brick}
+use Rattle.core_events.specs.Fitting.{Fits, OwnsWriter}
+use Rattle.core_events.specs.Runs.{IsRun}
+use Rattle.core_events.specs.Serial.{commits, is_committed, is_aborted, counts_for}
+use Rattle.core_runs.specs.Told.{told_of, told_after_move, rolled_back}
 use Rattle.core_desk.proofs.Agreement.{agree, opening-of}
-use Rattle.core_desk.proofs.Finished.{Held, held-writer, run-finished, has-more, has-without, or-is, done_after, gone_after, done_with, gone_with, done-same, gone-same, epochs_with}
-use Rattle.core_desk.proofs.DeskSteps.{client_entry, state_with_entry, run-step}
-use Rattle.core_mails.proofs.Places.{JobPlace, Nowhere, Asked, Answered, is_out, place, place_after_post, place_after_fetch, place_after_call, place_where, place_with_done, place_after_move}
-use Rattle.core_mails.proofs.Posted.{run-posted, ended-empty, ready-empty, ends-empty, empty-has-none, none-out, done-asked}
-use Rattle.core_runs.proofs.Isolation.{JobFits, job-fits, job-stays, own-holds, holds-stay, lse-rises, shown-within, asked-fits, made-asked}
-use Rattle.core_runs.proofs.Asking.{SuitsAt, run-suits, own-fits, moved-asked}
-use Rattle.core_runs.proofs.FoundRows.{all-below}
-use Rattle.core_runs.proofs.ToldBricks.{HasWriter, writer-of, one-writer, rolled-new, RollbackFits, rollback-fits, rolling-unready, rolling-goes-on, run-rolled, is_rolling}
+use Rattle.core_desk.proofs.Finished.{run-finished, or-is}
+use Rattle.core_desk.proofs.DeskSteps.{client_entry}
+use Rattle.core_mails.proofs.Places.{place}
+use Rattle.core_mails.proofs.Posted.{run-posted, ready-empty, empty-has-none, none-out}
+use Rattle.core_runs.proofs.Isolation.{JobFits, job-fits, shown-within, asked-fits, made-asked}
+use Rattle.core_runs.proofs.ToldBricks.{writer-of, run-rolled, is_rolling}
 use Rattle.std.specs.List.{count_by}
 use Rattle.cube_journal.specs.declared.note.Note.TheVariants as note
 use Rattle.aosi_register.specs.declared.answer.RoundAnswer.TheVariants.{Target, Nothing}
@@ -37,20 +31,18 @@ use Rattle.aosi_register.specs.declared.answer.RoundEnd.TheVariants.{Safe, Lost}
 use Rattle.aosi_desk.specs.declared.cube.CubeAnswer.TheVariants.{Created, Exists, TooMany}
 use Rattle.aosi_desk.specs.declared.cube.CubeFound.TheVariants as cube_found
 use Rattle.aosi_desk.specs.declared.cube.CubeFound.TheVariants.{Unknown}
-use Rattle.core_events.specs.Clients.{reader_at}
 use Rattle.core_events.specs.Runs.{rows_in_span}
 use Rattle.core_bricks.specs.BrickTransactions.{entries_of_epoch, rows_after_entries, brick_rows_left}
-use Rattle.core_desk.proofs.Agreement.{one-session}
 use Rattle.core_desk.proofs.Blindness.{run-blind}
 use Rattle.core_desk.proofs.DeskSteps.{HoldChange, Opens, Ends, Keeps, change_by, held_after, client-held}
 use Rattle.core_desk.proofs.Finished.{with-one-is, without-one-is}
 use Rattle.core_runs.specs.Queries.{HasAnswered, rows_fetched}
-use Rattle.core_runs.proofs.Asking.{AsksBy, is_asking, run-held}
+use Rattle.core_runs.proofs.Asking.{AsksBy, run-held}
 use Rattle.core_runs.proofs.SerialQueries.{answered-serial}
 use Rattle.core_runs.proofs.ToldBricks.{is_opening_change}
 use Rattle.core_transactions.specs.PostedEntries.{entries_of_job, posted_after_post, posted_after, posted_of}
 use Rattle.core_transactions.proofs.Fates.{HasFate, HaveFates, run-fates, commit-of, committed-unrolled, aborted-rolled}
-use Rattle.core_transactions.proofs.PostedJobs.{epoch-append, none-of-job, IsOtherEpoch, IsClean, PlacePosted, nowhere-posted, ready-clean}
+use Rattle.core_transactions.proofs.PostedJobs.{epoch-append, none-of-job, IsOtherEpoch, IsClean, nowhere-posted, ready-clean}
 use Rattle.core_transactions.proofs.PostedRuns.{run-posted-fits, other-told}
 
 -- Writers are held under the session's own number.
@@ -58,14 +50,14 @@ use Rattle.core_transactions.proofs.PostedRuns.{run-posted-fits, other-told}
 call-number : (a : ℕ) (call : ClientCall) (n : ℕ) (v : Snapshot) → change_by (client_entry a call) ≡ Opens n v → v.own ≡ true → n ≡ a
 call-number a (OnDesk (OpenWrite statement epoch deps)) n v is own = ap number_in (sym is)
   where
-  number_in : HoldChange → ℕ
-  number_in (Opens m x) = m
-  number_in change = a
+    number_in : HoldChange → ℕ
+    number_in (Opens m x) = m
+    number_in change = a
 call-number a (OnDesk (OpenRead number statement epoch)) n v is own = absurd (false≢true (ap own_in is ∙ own))
   where
-  own_in : HoldChange → Bool
-  own_in (Opens m x) = x.own
-  own_in change = false
+    own_in : HoldChange → Bool
+    own_in (Opens m x) = x.own
+    own_in change = false
 call-number a (OnDesk (Commit statement epoch)) n v is own = absurd (false≢true (ap is_opening_change is))
 call-number a (OnDesk (AbortEnd statement epoch cause)) n v is own = absurd (false≢true (ap is_opening_change is))
 call-number a (OnDesk (CloseRead number statement)) n v is own = absurd (false≢true (ap is_opening_change is))
@@ -284,10 +276,10 @@ alike-seen false false false true o es a cube brick e q s run h asks seen c w g 
 alike-seen false false false false o es a cube brick e q s run h asks seen c w g p =
     Empty (none-told o es e (told_of o es cube brick) fateless (run-fates o es cube brick run)) (λ i. seen i && (c i || w i))
   where
-  fateless : HasFate o es e → ⊥
-  fateless (inl x) = true≢false (sym x ∙ c)
-  fateless (inr (inl x)) = true≢false (sym x ∙ g)
-  fateless (inr (inr x)) = true≢false (sym x ∙ p)
+    fateless : HasFate o es e → ⊥
+    fateless (inl x) = true≢false (sym x ∙ c)
+    fateless (inr (inl x)) = true≢false (sym x ∙ g)
+    fateless (inr (inr x)) = true≢false (sym x ∙ p)
 
 alike : (seen : Bool) (o : Opening) (es : List CoreEvent) (a cube brick e : ℕ) (q : BoundQuery) (s : Snapshot)
     → IsRun o es → HasAnswered o.shards q s (client_state o a es).group → AsksBy o a (client_state o a es).holds s → sees s e ≡ seen

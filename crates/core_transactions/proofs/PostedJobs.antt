@@ -1,40 +1,23 @@
 -- What was posted to a brick's shard by a transaction that goes on well is what was done there, and the job that is asked.
-use Rattle.std.proofs.Common.{◌≡◌, ◌≢◌, ◌⊎◌, ◌∙◌, ℕ, zero, suc, ◌+◌, ◌%◌, ◌<◌, ◌≤◌, ◌==◌, Bool, true, false, true≢false, not, ◌&&◌, ◌||◌, nat_le, nat_lt, List, [], ◌∷◌, ◌++◌, Option, Some, None, IsSomeAnd, inl, inr, refl, sym, ap, subst, arith, eqb-true, eq-eqb, ne_eqb, le-leb, leb-true, lt-ltb, if◌then◌else◌}
-use Rattle.std.proofs.lemmas.Bool.{false≢true, false_from_ne_true, eqb-false}
-use Rattle.std.proofs.lemmas.Bool.Decides.{eqb_tells}
-use Rattle.std.proofs.lemmas.Option.{none-some, same_Some}
+use Rattle.std.proofs.Common.{◌≡◌, ◌⊎◌, ◌∙◌, ℕ, ◌<◌, ◌≤◌, ◌==◌, Bool, true, false, true≢false, not, ◌&&◌, ◌||◌, List, [], ◌∷◌, ◌++◌, inl, inr, refl, sym, ap, arith, ne_eqb, if◌then◌else◌}
+use Rattle.std.proofs.lemmas.Bool.{false≢true, false_from_ne_true}
 use Rattle.cube_values.specs.declared.row.CodedRow.{CodedRow}
-use Rattle.cube_values.specs.declared.query.BoundQuery.{BoundQuery}
-use Rattle.cube_values.specs.declared.snapshot.Snapshot.{Snapshot}
-use Rattle.cube_values.specs.Sees.{sees}
-use Rattle.cube_journal.specs.declared.journal_entry.JournalEntry.{JournalEntry}
-use Rattle.cube_journal.specs.declared.journal_entry.JournalEntry.TheVariants as entry
-use Rattle.cube_journal.specs.Counters.{JournalState, state_after, held_by}
-use Rattle.core_events.specs.ShardView.{BrickEntry, RowRun, RowMark, Epochs, epochs_without}
-use Rattle.core_events.specs.Jobs.{CoreJob, Append, DropBox, Scan, Delta, Rollback, Purge, CopyRound, Flush, JobAnswer, Done, ShardFull, Found, Compared, Copied, StoreLost, OutOfMemory, is_refusal}
-use Rattle.core_events.specs.Events.{Opening, IsSession, flusher, DeskCall, OpenWrite, OpenRead, Commit, AbortEnd, CloseRead, TakeNote, CreateCube, FindCube, CubesFrom, CountersNow, RoundOpen, RoundClose, StoreFailed, ClientCall, OnDesk, OnNames, Post, Fetch, CloseMail, NoChange, WorkerMove, Take, NoJob, Work, Reply, CoreEvent, By, At}
-use Rattle.core_events.specs.Groups.{GroupKind, NoGroup, Puts, Drops, Asks, Compares, RollsBack, Purges, Copies, Flushes, kind_of, Received, JobGroup, no_group, has_number, has_all_below, is_empty, is_complete, has_ended, is_ready, is_spoiled, mails_of, has_refusal, may_begin, group_after_post}
-use Rattle.core_events.specs.Clients.{Holding, ClientState, client_state, client_after_call, held_under, holds_after, ends_group, writer_at}
-use Rattle.core_events.specs.Cells.{counters_of_run, view_of, rows_of_brick, box_has_brick, WorkerState, Free, Took, Worked, worker_of, queue_of, reply_for}
-use Rattle.core_events.specs.Fitting.{Fits, OwnsWriter, FitsWork, FitsReply, RoundProgress, round_progress, BeginsGroup, JoinsGroup, HasDone}
-use Rattle.core_events.specs.Runs.{IsRun, CallSays, MoveSays, ShardSays}
-use Rattle.core_events.specs.Serial.{commits, is_committed, aborts, is_aborted, counts_for}
-use Rattle.core_mails.specs.Histories.{DoneJob, job_done}
-use Rattle.core_runs.specs.Told.{told_of, told_after_job, told_after_move, rolled_back, rolled_after_move, rolled_after_job}
-use Rattle.core_desk.proofs.Agreement.{agree, opening-of}
-use Rattle.core_desk.proofs.Finished.{Held, held-writer, run-finished, has-more, has-without, or-is, done_after, gone_after, done_with, gone_with, done-same, gone-same, epochs_with}
-use Rattle.core_desk.proofs.DeskSteps.{client_entry, state_with_entry, run-step}
-use Rattle.core_mails.proofs.Places.{JobPlace, Nowhere, Asked, Answered, is_out, place, place_after_post, place_after_fetch, place_after_call, place_where, place_with_done, place_after_move}
-use Rattle.core_mails.proofs.Posted.{run-posted, ended-empty, ready-empty, ends-empty, empty-has-none, none-out, done-asked}
-use Rattle.core_runs.proofs.Isolation.{JobFits, job-fits, job-stays, own-holds, holds-stay, lse-rises, shown-within, asked-fits, made-asked}
-use Rattle.core_runs.proofs.Asking.{SuitsAt, run-suits, own-fits, moved-asked}
-use Rattle.core_runs.proofs.FoundRows.{all-below}
-use Rattle.core_runs.proofs.ToldBricks.{HasWriter, writer-of, one-writer, rolled-new, RollbackFits, rollback-fits, rolling-unready, rolling-goes-on, run-rolled, is_rolling}
+use Rattle.core_events.specs.ShardView.{BrickEntry, RowRun, RowMark}
+use Rattle.core_events.specs.Jobs.{CoreJob, Append, DropBox, Scan, Delta, Rollback, Purge, CopyRound, Flush, is_refusal}
+use Rattle.core_events.specs.Events.{Opening, CoreEvent}
+use Rattle.core_events.specs.Groups.{GroupKind, Puts, Drops, RollsBack, kind_of, JobGroup, has_ended, is_ready, is_spoiled, has_refusal, may_begin}
+use Rattle.core_events.specs.Clients.{client_state}
+use Rattle.core_events.specs.Cells.{counters_of_run, rows_of_brick, box_has_brick}
+use Rattle.core_events.specs.Fitting.{OwnsWriter, BeginsGroup, JoinsGroup}
+use Rattle.core_events.specs.Runs.{IsRun}
+use Rattle.core_runs.specs.Told.{told_after_job}
+use Rattle.core_desk.proofs.Finished.{run-finished}
+use Rattle.core_mails.proofs.Places.{JobPlace, Nowhere, Asked, Answered}
+use Rattle.core_runs.proofs.Isolation.{JobFits}
+use Rattle.core_runs.proofs.ToldBricks.{HasWriter, writer-of, one-writer, rolling-unready, is_rolling}
 use Rattle.core_bricks.specs.BrickTransactions.{entries_of_epoch}
-use Rattle.core_runs.proofs.ToldBricks.{own-back}
-use Rattle.core_desk.proofs.InOrder.{run-allowed}
-use Rattle.core_transactions.specs.PostedEntries.{entries_of_job, posted_after_post, posted_after, posted_of}
-use Rattle.core_transactions.proofs.Fates.{HasFate, HaveFates, run-fates}
+use Rattle.core_transactions.specs.PostedEntries.{entries_of_job}
+use Rattle.core_transactions.proofs.Fates.{HasFate, HaveFates}
 
 -- The entries of an epoch in two lists.
 
@@ -156,6 +139,7 @@ ready-clean shards g ready = record {
   rolls-is : (k : GroupKind) → is_rolling k ≡ true → k ≡ RollsBack
   rolls-is RollsBack e = refl
   rolls-is k e = absurd (false≢true e)
+
   right-not : (a b : Bool) → (a && not b) ≡ true → b ≡ false
   right-not true true e = absurd (false≢true e)
   right-not true false e = refl

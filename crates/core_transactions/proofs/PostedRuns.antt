@@ -1,41 +1,28 @@
 -- In every run, what was posted of a transaction that goes on well or is committed is what was done of it.
-use Rattle.std.proofs.Common.{◌≡◌, ◌≢◌, ◌⊎◌, ◌∙◌, ℕ, zero, suc, ◌+◌, ◌%◌, ◌<◌, ◌≤◌, ◌==◌, Bool, true, false, true≢false, not, ◌&&◌, ◌||◌, nat_le, nat_lt, List, [], ◌∷◌, ◌++◌, Option, Some, None, IsSomeAnd, inl, inr, refl, sym, ap, subst, arith, eqb-true, eq-eqb, ne_eqb, le-leb, leb-true, lt-ltb, if◌then◌else◌}
-use Rattle.std.proofs.lemmas.Bool.{false≢true, false_from_ne_true, eqb-false}
-use Rattle.std.proofs.lemmas.Bool.Decides.{eqb_tells, leb_tells}
-use Rattle.std.proofs.lemmas.Option.{none-some, same_Some}
-use Rattle.cube_values.specs.declared.row.CodedRow.{CodedRow}
-use Rattle.cube_values.specs.declared.query.BoundQuery.{BoundQuery}
-use Rattle.cube_values.specs.declared.snapshot.Snapshot.{Snapshot}
-use Rattle.cube_values.specs.Sees.{sees}
-use Rattle.cube_journal.specs.declared.journal_entry.JournalEntry.{JournalEntry}
-use Rattle.cube_journal.specs.declared.journal_entry.JournalEntry.TheVariants as entry
-use Rattle.cube_journal.specs.Counters.{JournalState, state_after, held_by}
-use Rattle.core_events.specs.ShardView.{BrickEntry, RowRun, RowMark, Epochs, epochs_without}
+use Rattle.std.proofs.Common.{◌≡◌, ◌⊎◌, ◌∙◌, ℕ, ◌%◌, ◌<◌, ◌≤◌, ◌==◌, Bool, true, false, true≢false, ◌&&◌, List, [], ◌∷◌, ◌++◌, Some, IsSomeAnd, inl, inr, refl, sym, ap, arith, eqb-true, eq-eqb, le-leb, if◌then◌else◌}
+use Rattle.std.proofs.lemmas.Bool.{false≢true, eqb-false}
+use Rattle.std.proofs.lemmas.Bool.Decides.{leb_tells}
+use Rattle.core_events.specs.ShardView.{BrickEntry, RowRun, RowMark}
 use Rattle.core_events.specs.Jobs.{CoreJob, Append, DropBox, Scan, Delta, Rollback, Purge, CopyRound, Flush, JobAnswer, Done, ShardFull, Found, Compared, Copied, StoreLost, OutOfMemory, is_refusal}
 use Rattle.core_events.specs.Events.{Opening, IsSession, flusher, DeskCall, OpenWrite, OpenRead, Commit, AbortEnd, CloseRead, TakeNote, CreateCube, FindCube, CubesFrom, CountersNow, RoundOpen, RoundClose, StoreFailed, ClientCall, OnDesk, OnNames, Post, Fetch, CloseMail, NoChange, WorkerMove, Take, NoJob, Work, Reply, CoreEvent, By, At}
-use Rattle.core_events.specs.Groups.{GroupKind, NoGroup, Puts, Drops, Asks, Compares, RollsBack, Purges, Copies, Flushes, kind_of, Received, JobGroup, no_group, has_number, has_all_below, is_empty, is_complete, has_ended, is_ready, is_spoiled, mails_of, has_refusal, may_begin, group_after_post}
-use Rattle.core_events.specs.Clients.{Holding, ClientState, client_state, client_after_call, held_under, holds_after, ends_group, writer_at}
+use Rattle.core_events.specs.Groups.{no_group, has_ended, has_refusal}
+use Rattle.core_events.specs.Clients.{ClientState, client_state, client_after_call, held_under, ends_group}
 use Rattle.core_events.specs.Cells.{counters_of_run, view_of, rows_of_brick, box_has_brick, WorkerState, Free, Took, Worked, worker_of, queue_of, reply_for}
-use Rattle.core_events.specs.Fitting.{Fits, OwnsWriter, FitsWork, FitsReply, RoundProgress, round_progress, BeginsGroup, JoinsGroup, HasDone}
-use Rattle.core_events.specs.Runs.{IsRun, CallSays, MoveSays, ShardSays}
-use Rattle.core_events.specs.Serial.{commits, is_committed, aborts, is_aborted, counts_for}
+use Rattle.core_events.specs.Fitting.{Fits, OwnsWriter, FitsWork, FitsReply, RoundProgress, round_progress}
+use Rattle.core_events.specs.Runs.{IsRun, MoveSays, ShardSays}
 use Rattle.core_mails.specs.Histories.{DoneJob, job_done}
-use Rattle.core_runs.specs.Told.{told_of, told_after_job, told_after_move, rolled_back, rolled_after_move, rolled_after_job}
-use Rattle.core_desk.proofs.Agreement.{agree, opening-of}
-use Rattle.core_desk.proofs.Finished.{Held, held-writer, run-finished, has-more, has-without, or-is, done_after, gone_after, done_with, gone_with, done-same, gone-same, epochs_with}
-use Rattle.core_desk.proofs.DeskSteps.{client_entry, state_with_entry, run-step}
-use Rattle.core_mails.proofs.Places.{JobPlace, Nowhere, Asked, Answered, is_out, place, place_after_post, place_after_fetch, place_after_call, place_where, place_with_done, place_after_move, IsBusy}
-use Rattle.core_mails.proofs.Posted.{run-posted, ended-empty, ready-empty, ends-empty, empty-has-none, none-out, done-asked}
-use Rattle.core_runs.proofs.Isolation.{JobFits, job-fits, job-stays, own-holds, holds-stay, lse-rises, shown-within, asked-fits, made-asked}
-use Rattle.core_runs.proofs.Asking.{SuitsAt, run-suits, own-fits, moved-asked}
-use Rattle.core_runs.proofs.FoundRows.{all-below}
-use Rattle.core_runs.proofs.ToldBricks.{HasWriter, writer-of, one-writer, rolled-new, RollbackFits, rollback-fits, rolling-unready, rolling-goes-on, run-rolled, is_rolling}
+use Rattle.core_runs.specs.Told.{told_of, told_after_move}
+use Rattle.core_mails.proofs.Places.{JobPlace, Nowhere, Asked, Answered, is_out, place, place_after_post, place_after_fetch, place_after_call, place_where, place_after_move, IsBusy}
+use Rattle.core_mails.proofs.Posted.{run-posted, ends-empty, empty-has-none, none-out}
+use Rattle.core_runs.proofs.Isolation.{job-fits, holds-stay, shown-within, asked-fits}
+use Rattle.core_runs.proofs.Asking.{SuitsAt, run-suits, moved-asked}
+use Rattle.core_runs.proofs.ToldBricks.{writer-of, is_rolling}
 use Rattle.core_bricks.specs.BrickTransactions.{entries_of_epoch}
 use Rattle.core_mails.proofs.Posted.{not-out}
 use Rattle.core_desk.proofs.InOrder.{run-allowed}
 use Rattle.core_runs.proofs.ToldBricks.{own-back, own-rolls}
 use Rattle.core_transactions.specs.PostedEntries.{entries_of_job, posted_after_post, posted_after, posted_of}
-use Rattle.core_transactions.proofs.Fates.{HasFate, HaveFates, run-fates, fates-call, PlaceBears, run-bears, committed-unrolled}
+use Rattle.core_transactions.proofs.Fates.{HaveFates, run-fates, fates-call}
 use Rattle.core_transactions.proofs.PostedJobs.{epoch-append, told-job, none-of-job, other-epoch, IsOtherEpoch, IsClean, is_write, PlacePosted, place-same, nowhere-posted, ready-clean, post-clean, spoiled-less, fine-answer, fates-append, none-fresh}
 
 -- What a client posts.
@@ -44,7 +31,7 @@ one-fate : (here : Bool) (o : Opening) (es : List CoreEvent) (x : BrickEntry) �
 one-fate true o es x f = f
 one-fate false o es x f = tt
 
-job-entry-fates : (o : Opening) (es : List CoreEvent) (b other cube brick : ℕ) (job : CoreJob) → IsRun o es
+pub job-entry-fates : (o : Opening) (es : List CoreEvent) (b other cube brick : ℕ) (job : CoreJob) → IsRun o es
     → Fits o b (Post other job) (client_state o b es) → HaveFates o es (entries_of_job o cube brick job)
 job-entry-fates o es b other cube brick (Append c epoch rows) run f =
     one-fate (c == cube) o es (RowRun epoch (rows_of_brick o cube brick rows))
@@ -59,7 +46,7 @@ job-entry-fates o es b other cube brick (Purge epoch) run f = tt
 job-entry-fates o es b other cube brick (CopyRound from to) run f = tt
 job-entry-fates o es b other cube brick Flush run f = tt
 
-post-fates : (here : Bool) (o : Opening) (es : List CoreEvent) (xs ys : List BrickEntry) → HaveFates o es xs → HaveFates o es ys
+pub post-fates : (here : Bool) (o : Opening) (es : List CoreEvent) (xs ys : List BrickEntry) → HaveFates o es xs → HaveFates o es ys
     → HaveFates o es (posted_after_post here xs ys)
 post-fates true o es xs ys f g = fates-append o es xs ys f g
 post-fates false o es xs ys f g = g
@@ -87,7 +74,7 @@ PostedFits o es a e cube brick = IsSession o a → OwnsWriter a e (client_state 
     → PlacePosted o cube brick e (posted_of o es cube brick) (told_of o es cube brick) (place (brick % o.shards) a es)
 
 -- A post of another transaction.
-other-post : (here : Bool) (o : Opening) (cube brick e : ℕ) (job : CoreJob) (posted : List BrickEntry) → IsOtherEpoch e job
+pub other-post : (here : Bool) (o : Opening) (cube brick e : ℕ) (job : CoreJob) (posted : List BrickEntry) → IsOtherEpoch e job
     → entries_of_epoch e (posted_after_post here (entries_of_job o cube brick job) posted) ≡ entries_of_epoch e posted
 other-post true o cube brick e job posted out =
     epoch-append e (entries_of_job o cube brick job) posted ∙ ap (λ xs. xs ++ entries_of_epoch e posted) (none-of-job o cube brick e job out)
@@ -255,45 +242,45 @@ written o es mail cube brick e job Done told posted says f fine =
 written o es mail cube brick e job (ShardFull rows) told posted says f fine =
     f ∙ ap (λ xs. xs ++ entries_of_epoch e told) (unwritten job fine)
   where
-  unwritten : (j : CoreJob) → (is_write j && true) ≡ false → entries_of_epoch e (entries_of_job o cube brick j) ≡ []
-  unwritten (Append c epoch rows) x = absurd (true≢false x)
-  unwritten (DropBox c epoch box) x = absurd (true≢false x)
-  unwritten j x = refl
+    unwritten : (j : CoreJob) → (is_write j && true) ≡ false → entries_of_epoch e (entries_of_job o cube brick j) ≡ []
+    unwritten (Append c epoch rows) x = absurd (true≢false x)
+    unwritten (DropBox c epoch box) x = absurd (true≢false x)
+    unwritten j x = refl
 written o es mail cube brick e job StoreLost told posted says f fine =
     f ∙ ap (λ xs. xs ++ entries_of_epoch e told) (unwritten job fine)
   where
-  unwritten : (j : CoreJob) → (is_write j && true) ≡ false → entries_of_epoch e (entries_of_job o cube brick j) ≡ []
-  unwritten (Append c epoch rows) x = absurd (true≢false x)
-  unwritten (DropBox c epoch box) x = absurd (true≢false x)
-  unwritten j x = refl
+    unwritten : (j : CoreJob) → (is_write j && true) ≡ false → entries_of_epoch e (entries_of_job o cube brick j) ≡ []
+    unwritten (Append c epoch rows) x = absurd (true≢false x)
+    unwritten (DropBox c epoch box) x = absurd (true≢false x)
+    unwritten j x = refl
 written o es mail cube brick e job OutOfMemory told posted says f fine =
     f ∙ ap (λ xs. xs ++ entries_of_epoch e told) (unwritten job fine)
   where
-  unwritten : (j : CoreJob) → (is_write j && true) ≡ false → entries_of_epoch e (entries_of_job o cube brick j) ≡ []
-  unwritten (Append c epoch rows) x = absurd (true≢false x)
-  unwritten (DropBox c epoch box) x = absurd (true≢false x)
-  unwritten j x = refl
+    unwritten : (j : CoreJob) → (is_write j && true) ≡ false → entries_of_epoch e (entries_of_job o cube brick j) ≡ []
+    unwritten (Append c epoch rows) x = absurd (true≢false x)
+    unwritten (DropBox c epoch box) x = absurd (true≢false x)
+    unwritten j x = refl
 written o es mail cube brick e job (Found rows) told posted says f fine =
     f ∙ ap (λ xs. xs ++ entries_of_epoch e told) (unwritten job says)
   where
-  unwritten : (j : CoreJob) → ShardSays o mail (view_of o es) j (Found rows) → entries_of_epoch e (entries_of_job o cube brick j) ≡ []
-  unwritten (Append c epoch more) x = absurd x
-  unwritten (DropBox c epoch box) x = absurd x
-  unwritten j x = refl
+    unwritten : (j : CoreJob) → ShardSays o mail (view_of o es) j (Found rows) → entries_of_epoch e (entries_of_job o cube brick j) ≡ []
+    unwritten (Append c epoch more) x = absurd x
+    unwritten (DropBox c epoch box) x = absurd x
+    unwritten j x = refl
 written o es mail cube brick e job (Compared came went) told posted says f fine =
     f ∙ ap (λ xs. xs ++ entries_of_epoch e told) (unwritten job says)
   where
-  unwritten : (j : CoreJob) → ShardSays o mail (view_of o es) j (Compared came went) → entries_of_epoch e (entries_of_job o cube brick j) ≡ []
-  unwritten (Append c epoch more) x = absurd x
-  unwritten (DropBox c epoch box) x = absurd x
-  unwritten j x = refl
+    unwritten : (j : CoreJob) → ShardSays o mail (view_of o es) j (Compared came went) → entries_of_epoch e (entries_of_job o cube brick j) ≡ []
+    unwritten (Append c epoch more) x = absurd x
+    unwritten (DropBox c epoch box) x = absurd x
+    unwritten j x = refl
 written o es mail cube brick e job (Copied view) told posted says f fine =
     f ∙ ap (λ xs. xs ++ entries_of_epoch e told) (unwritten job says)
   where
-  unwritten : (j : CoreJob) → ShardSays o mail (view_of o es) j (Copied view) → entries_of_epoch e (entries_of_job o cube brick j) ≡ []
-  unwritten (Append c epoch more) x = absurd x
-  unwritten (DropBox c epoch box) x = absurd x
-  unwritten j x = refl
+    unwritten : (j : CoreJob) → ShardSays o mail (view_of o es) j (Copied view) → entries_of_epoch e (entries_of_job o cube brick j) ≡ []
+    unwritten (Append c epoch more) x = absurd x
+    unwritten (DropBox c epoch box) x = absurd x
+    unwritten j x = refl
 
 -- A job of another transaction.
 pub other-told : (o : Opening) (cube brick e : ℕ) (job : CoreJob) (answer : JobAnswer) (told : List BrickEntry) → IsOtherEpoch e job
@@ -325,17 +312,17 @@ flush-posted : (own : Bool) (o : Opening) (cube brick e : ℕ) (q : RoundProgres
 flush-posted true o cube brick e q lost job said posted told p fits asked f =
     λ fine. flushed job fits (coe 0 1 (i. PlacePosted o cube brick e posted told (asked refl i)) f)
   where
-  flushed : (j : CoreJob) → FitsReply q lost j said
-      → entries_of_epoch e posted ≡ entries_of_epoch e (entries_of_job o cube brick j) ++ entries_of_epoch e told
-      → entries_of_epoch e posted ≡ entries_of_epoch e told
-  flushed Flush x g = g
-  flushed (Append c epoch rows) x g = absurd x
-  flushed (DropBox c epoch box) x g = absurd x
-  flushed (Scan query snapshot) x g = absurd x
-  flushed (Delta query from to) x g = absurd x
-  flushed (Rollback epoch) x g = absurd x
-  flushed (Purge epoch) x g = absurd x
-  flushed (CopyRound from to) x g = absurd x
+    flushed : (j : CoreJob) → FitsReply q lost j said
+        → entries_of_epoch e posted ≡ entries_of_epoch e (entries_of_job o cube brick j) ++ entries_of_epoch e told
+        → entries_of_epoch e posted ≡ entries_of_epoch e told
+    flushed Flush x g = g
+    flushed (Append c epoch rows) x g = absurd x
+    flushed (DropBox c epoch box) x g = absurd x
+    flushed (Scan query snapshot) x g = absurd x
+    flushed (Delta query from to) x g = absurd x
+    flushed (Rollback epoch) x g = absurd x
+    flushed (Purge epoch) x g = absurd x
+    flushed (CopyRound from to) x g = absurd x
 flush-posted false o cube brick e q lost job said posted told p fits asked f = f
 
 move-posted : (here : Bool) (o : Opening) (es : List CoreEvent) (mail a cube brick e : ℕ) (q : RoundProgress) (lost : Bool)

@@ -7,13 +7,13 @@ ghost use Rattle.cube_values.specs.declared.row.CodedRow.{CodedRow};
 ghost use Rattle.cube_values.specs.declared.snapshot.Snapshot.{Snapshot};
 ghost use Rattle.core_bricks.specs.BrickTransactions.{brick_rows_left, entries_of_epoch};
 ghost use Rattle.core_events.specs.Cells.{rows_of_brick};
-ghost use Rattle.core_events.specs.Clients.{client_state};
+ghost use Rattle.core_events.specs.Clients.{calls_of, client_state};
 ghost use Rattle.core_events.specs.Events.{Opening, CoreEvent};
 ghost use Rattle.core_events.specs.Runs.{IsRun, rows_in_span};
 ghost use Rattle.core_events.specs.Serial.{counts_for, is_aborted, is_committed};
 ghost use Rattle.core_runs.specs.Queries.{HasAnswered, rows_fetched};
 ghost use Rattle.core_runs.specs.Told.{rolled_back, told_of};
-ghost use Rattle.core_transactions.specs.PostedEntries.{posted_of};
+ghost use Rattle.core_transactions.specs.PostedEntries.{has_opened, posted_by_calls, posted_of};
 
 /// What a committed transaction posted was done, on each brick and in that order, and it was rolled
 /// back nowhere.
@@ -44,4 +44,16 @@ pub fn queries_run_transactions()
         (rows_fetched (client_state o client es).group.answers))
         ≡ count_by test (rows_in_span query.span (brick_rows_left (s.epoch + 1) (counts_for o es s)
         (posted_of o es query.cube brick))) }
+{}
+
+/// A transaction is read off the calls of the session that opened it: what was posted of its epoch is what
+/// these calls posted. One client opens an epoch.
+pub fn transactions_are_own_calls()
+    ensures own { (o : Opening) (es : List CoreEvent) (client epoch cube brick : ℕ) → IsRun o es
+        → has_opened epoch (calls_of client es) ≡ true
+        → entries_of_epoch epoch (posted_of o es cube brick)
+        ≡ entries_of_epoch epoch (posted_by_calls o (calls_of client es) cube brick) }
+    ensures one { (o : Opening) (es : List CoreEvent) (client other epoch : ℕ) → IsRun o es
+        → has_opened epoch (calls_of client es) ≡ true → has_opened epoch (calls_of other es) ≡ true
+        → client ≡ other }
 {}

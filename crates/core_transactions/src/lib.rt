@@ -6,4 +6,5 @@ mod law;
 
 pub use law::{
     aborted_transactions_leave_nothing, committed_transactions_are_done, queries_run_transactions,
+    transactions_are_own_calls,
 };
