@@ -1,0 +1,6 @@
+//! A small run of the core, worked out event by event.
+#![tactic(auto)]
+
+mod law;
+
+pub use law::a_small_run_fits;

@@ -1,0 +1,6 @@
+pub mod Lookups
+pub mod DeskSteps
+pub mod Agreement
+pub mod InOrder
+pub mod Finished
+pub mod Blindness

@@ -1,0 +1,6 @@
+//! What the desk has come to after any list of events of the core in which each call fits.
+#![tactic(auto)]
+
+mod law;
+
+pub use law::{bounds_stay_safe, nothing_aborted_counts};

@@ -1,0 +1,97 @@
+-- The events of the core, in one list, the newest first: a client's call on the desk, the names or a mail, or a move of
+-- the worker that serves a mail. Each carries its answer. Nobody but its worker calls a shard.
+-- Source: this project's own; linearizability (Herlihy and Wing, 1990) makes one list of the calls of all threads.
+use Rattle.std.specs.Prelude.{ℕ, ◌+◌, ◌≤◌, ◌^◌, Bool, List, Option}
+use Rattle.cube_values.specs.declared.row.CodedRow.{CodedRow}
+use Rattle.cube_values.specs.declared.shape.CubeShape.{CubeShape}
+use Rattle.cube_language.specs.declared.decl.Decl.{Decl}
+use Rattle.cube_journal.specs.declared.counters.Counters.{Counters}
+use Rattle.cube_journal.specs.declared.journal_entry.AbortCause.{AbortCause}
+use Rattle.cube_journal.specs.declared.note.Note.{Note}
+use Rattle.aosi_register.specs.declared.answer.RoundAnswer.{RoundAnswer}
+use Rattle.aosi_register.specs.declared.answer.RoundEnd.{RoundEnd}
+use Rattle.aosi_desk.specs.declared.cube.CubeAnswer.{CubeAnswer}
+use Rattle.aosi_desk.specs.declared.cube.CubeFound.{CubeFound}
+use Rattle.names_dict.specs.declared.code.Code.{Code}
+use Rattle.names_dict.specs.Dictionaries.{Dictionary}
+use Rattle.core_events.specs.Jobs.{CoreJob, JobAnswer}
+
+-- How a run opens: the numbers of shards and of sessions, the epoch up to which its store keeps all, the cubes, the
+-- dictionary of each dimension, and the kept rows of each cube. Each cube has one shape, also one that is made later.
+pub record Opening : Type 0 where
+  pub shards : ℕ
+  pub sessions : ℕ
+  pub safe : ℕ
+  pub cubes : List Decl
+  pub shapes : ℕ → CubeShape
+  pub names : ℕ → ℕ → Dictionary
+  pub rows : ℕ → List CodedRow
+
+-- The limits.
+pub record IsOpening (o : Opening) : Type 0 where
+  pub some : 1 ≤ o.shards
+  pub shards : o.shards ≤ 64
+  pub sessions : o.sessions ≤ 16
+  pub safe : o.safe ≤ 2 ^ 61
+
+-- A call on the desk. A session's calls carry its own number but where they say the number of a holder.
+pub data DeskCall : Type 0 where
+  OpenWrite : (statement epoch : ℕ) (deps : List ℕ) → DeskCall
+  OpenRead : (holder statement epoch : ℕ) → DeskCall
+  Commit : (statement epoch : ℕ) → DeskCall
+  AbortEnd : (statement epoch : ℕ) (cause : AbortCause) → DeskCall
+  CloseRead : (holder statement : ℕ) → DeskCall
+  TakeNote : (note : Note) (counters : Counters) → DeskCall
+  CreateCube : (statement : ℕ) (decl : Decl) (answer : CubeAnswer) → DeskCall
+  FindCube : (statement : ℕ) (name : List ℕ) (answer : CubeFound) → DeskCall
+  CubesFrom : (place : ℕ) (cubes : List Decl) → DeskCall
+  CountersNow : (counters : Counters) → DeskCall
+  RoundOpen : (answer : RoundAnswer) → DeskCall
+  RoundClose : (epoch : ℕ) (end : RoundEnd) → DeskCall
+  StoreFailed : (failed : Bool) → DeskCall
+
+-- A call on the names.
+pub data NamesCall : Type 0 where
+  Encode : (cube dim : ℕ) (name : List ℕ) (code : Code) → NamesCall
+  FindName : (cube dim : ℕ) (name : List ℕ) (number : Option ℕ) → NamesCall
+  CopyFrom : (cube dim from : ℕ) (names : List (List ℕ)) → NamesCall
+
+-- A client's call. One that was answered out of memory, or that there is no answer yet, changes nothing.
+pub data ClientCall : Type 0 where
+  OnDesk : (call : DeskCall) → ClientCall
+  OnNames : (call : NamesCall) → ClientCall
+  Post : (mail : ℕ) (job : CoreJob) → ClientCall
+  Fetch : (mail : ℕ) (answer : JobAnswer) → ClientCall
+  CloseMail : (mail : ℕ) → ClientCall
+  NoChange : ClientCall
+
+-- A worker's move: it takes a client's job from its mail, does it on its shard, and replies to the client. Or there is
+-- no job to take, and the mail is closed or not.
+pub data WorkerMove : Type 0 where
+  Take : (client : ℕ) (job : CoreJob) → WorkerMove
+  NoJob : (closed : Bool) → WorkerMove
+  Work : (job : CoreJob) (answer : JobAnswer) → WorkerMove
+  Reply : (client : ℕ) (answer : JobAnswer) → WorkerMove
+
+-- The mails of the shards have the numbers of the shards, and the flusher's mail comes next.
+pub data CoreEvent : Type 0 where
+  By : (client : ℕ) (call : ClientCall) → CoreEvent
+  At : (mail : ℕ) (move : WorkerMove) → CoreEvent
+
+-- The clients: main is 0, the sessions follow, and then the flusher.
+abbrev pub flusher : Opening → ℕ
+flusher o = o.sessions + 1
+
+pub record IsSession (o : Opening) (client : ℕ) : Type 0 where
+  pub first : 1 ≤ client
+  pub last : client ≤ o.sessions
+
+abbrev pub flush_mail : Opening → ℕ
+flush_mail o = o.shards
+
+-- The two numbers under which a session holds readers besides its own snapshot.
+abbrev pub first_holder : ℕ → ℕ
+first_holder session = 16 + session
+
+abbrev pub second_holder : ℕ → ℕ
+second_holder session = 32 + session

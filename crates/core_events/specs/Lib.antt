@@ -1,0 +1,9 @@
+pub mod ShardView
+pub mod Jobs
+pub mod Events
+pub mod Groups
+pub mod Clients
+pub mod Cells
+pub mod Fitting
+pub mod Runs
+pub mod Serial

@@ -1,0 +1,30 @@
+//! Laws of the mails, over every run of the core.
+
+ghost use Rattle.std.specs.Prelude.{◌≡◌, ℕ, List, ◌++◌, Some};
+ghost use Rattle.core_events.specs.Cells.{queue_of, reply_for, worker_of};
+ghost use Rattle.core_events.specs.Events.{Opening, CoreEvent};
+ghost use Rattle.core_events.specs.Jobs.{JobAnswer};
+ghost use Rattle.core_events.specs.Runs.{IsRun};
+ghost use Rattle.core_mails.specs.Histories.{
+  posts_of,
+  takes_of,
+  jobs_done,
+  letters_of,
+  job_to_come,
+  IsAnswered,
+};
+
+/// Jobs are taken in the order in which they were posted, and each is done once, in that order.
+pub fn workers_do_what_they_take()
+    ensures order { (o : Opening) (es : List CoreEvent) (mail : ℕ) → IsRun o es
+        → posts_of mail es ≡ takes_of mail es ++ queue_of mail es }
+    ensures once { (o : Opening) (es : List CoreEvent) (mail : ℕ) → IsRun o es
+        → takes_of mail es ≡ letters_of (jobs_done mail es) ++ job_to_come (worker_of mail es) }
+{}
+
+/// What a mail holds for a client is the answer of the one job that was done for its last post.
+pub fn fetches_serve_posts()
+    ensures { (o : Opening) (es : List CoreEvent) (mail client : ℕ) (answer : JobAnswer)
+        → IsRun o es
+        → reply_for mail client es ≡ Some answer → IsAnswered mail client answer es }
+{}

@@ -1,0 +1,5 @@
+pub mod Isolation
+pub mod Asking
+pub mod FoundRows
+pub mod ToldBricks
+pub mod SerialQueries

@@ -1,0 +1,302 @@
+-- The rows of a query, as the transactions that count for its snapshot leave them, by what they posted.
+use Rattle.std.proofs.Common.{◌≡◌, ◌∙◌, ℕ, zero, suc, ◌+◌, ◌%◌, ◌==◌, Bool, true, false, true≢false, not, ◌&&◌, ◌||◌, List, [], ◌∷◌, ◌++◌, Option, Some, IsSomeAnd, inl, inr, refl, sym, ap, arith, eqb-true, eq-eqb, ne_eqb, mod-lt, if◌then◌else◌}
+use Rattle.std.proofs.lemmas.Bool.{false≢true, false_from_ne_true}
+use Rattle.std.proofs.lemmas.Option.{none-some}
+use Rattle.cube_values.specs.declared.row.CodedRow.{CodedRow}
+use Rattle.cube_values.specs.declared.query.BoundQuery.{BoundQuery}
+use Rattle.cube_values.specs.declared.snapshot.Snapshot.{Snapshot}
+use Rattle.cube_values.specs.Sees.{sees}
+use Rattle.cube_journal.specs.Counters.{held_by}
+use Rattle.core_events.specs.ShardView.{BrickEntry, RowRun, RowMark, Epochs, epochs_without}
+use Rattle.core_events.specs.Jobs.{CoreJob, Append, DropBox, Scan, Delta, Rollback, Purge, CopyRound, Flush, JobAnswer}
+use Rattle.core_events.specs.Events.{Opening, IsSession, OpenWrite, OpenRead, Commit, AbortEnd, CloseRead, TakeNote, CreateCube, FindCube, CubesFrom, CountersNow, RoundOpen, RoundClose, StoreFailed, ClientCall, OnDesk, OnNames, Post, Fetch, CloseMail, NoChange, WorkerMove, Take, NoJob, Work, Reply, CoreEvent, By, At}
+use Rattle.core_events.specs.Groups.{GroupKind, Asks, JobGroup, has_number, is_empty, is_spoiled, has_refusal}
+use Rattle.core_events.specs.Clients.{ClientState, client_state, client_after_call, held_under}
+use Rattle.core_events.specs.Cells.{counters_of_run, rows_of_brick}
+use Rattle.core_events.specs.Fitting.{Fits, OwnsWriter}
+use Rattle.core_events.specs.Runs.{IsRun}
+use Rattle.core_events.specs.Serial.{commits, is_committed, is_aborted, counts_for}
+use Rattle.core_runs.specs.Told.{told_of, told_after_move, rolled_back}
+use Rattle.core_desk.proofs.Agreement.{agree, opening-of}
+use Rattle.core_desk.proofs.Finished.{run-finished, or-is}
+use Rattle.core_desk.proofs.DeskSteps.{client_entry}
+use Rattle.core_mails.proofs.Places.{place}
+use Rattle.core_mails.proofs.Posted.{run-posted, ready-empty, empty-has-none, none-out}
+use Rattle.core_runs.proofs.Isolation.{JobFits, job-fits, shown-within, asked-fits, made-asked}
+use Rattle.core_runs.proofs.ToldBricks.{writer-of, run-rolled, is_rolling}
+use Rattle.std.specs.List.{count_by}
+use Rattle.cube_journal.specs.declared.note.Note.TheVariants as note
+use Rattle.aosi_register.specs.declared.answer.RoundAnswer.TheVariants.{Target, Nothing}
+use Rattle.aosi_register.specs.declared.answer.RoundEnd.TheVariants.{Safe, Lost}
+use Rattle.aosi_desk.specs.declared.cube.CubeAnswer.TheVariants.{Created, Exists, TooMany}
+use Rattle.aosi_desk.specs.declared.cube.CubeFound.TheVariants as cube_found
+use Rattle.aosi_desk.specs.declared.cube.CubeFound.TheVariants.{Unknown}
+use Rattle.core_events.specs.Runs.{rows_in_span}
+use Rattle.core_bricks.specs.BrickTransactions.{entries_of_epoch, rows_after_entries, brick_rows_left}
+use Rattle.core_desk.proofs.Blindness.{run-blind}
+use Rattle.core_desk.proofs.DeskSteps.{HoldChange, Opens, Ends, Keeps, change_by, held_after, client-held}
+use Rattle.core_desk.proofs.Finished.{with-one-is, without-one-is}
+use Rattle.core_runs.specs.Queries.{HasAnswered, rows_fetched}
+use Rattle.core_runs.proofs.Asking.{AsksBy, run-held}
+use Rattle.core_runs.proofs.SerialQueries.{answered-serial}
+use Rattle.core_runs.proofs.ToldBricks.{is_opening_change}
+use Rattle.core_transactions.specs.PostedEntries.{entries_of_job, posted_after_post, posted_after, posted_of}
+use Rattle.core_transactions.proofs.Fates.{HasFate, HaveFates, run-fates, commit-of, committed-unrolled, aborted-rolled}
+use Rattle.core_transactions.proofs.PostedJobs.{epoch-append, none-of-job, IsOtherEpoch, IsClean, nowhere-posted, ready-clean}
+use Rattle.core_transactions.proofs.PostedRuns.{run-posted-fits, other-told}
+
+-- Writers are held under the session's own number.
+
+call-number : (a : ℕ) (call : ClientCall) (n : ℕ) (v : Snapshot) → change_by (client_entry a call) ≡ Opens n v → v.own ≡ true → n ≡ a
+call-number a (OnDesk (OpenWrite statement epoch deps)) n v is own = ap number_in (sym is)
+  where
+    number_in : HoldChange → ℕ
+    number_in (Opens m x) = m
+    number_in change = a
+call-number a (OnDesk (OpenRead number statement epoch)) n v is own = absurd (false≢true (ap own_in is ∙ own))
+  where
+    own_in : HoldChange → Bool
+    own_in (Opens m x) = x.own
+    own_in change = false
+call-number a (OnDesk (Commit statement epoch)) n v is own = absurd (false≢true (ap is_opening_change is))
+call-number a (OnDesk (AbortEnd statement epoch cause)) n v is own = absurd (false≢true (ap is_opening_change is))
+call-number a (OnDesk (CloseRead number statement)) n v is own = absurd (false≢true (ap is_opening_change is))
+call-number a (OnDesk (TakeNote (note.Refused session statement code) counters)) n v is own = absurd (false≢true (ap is_opening_change is))
+call-number a (OnDesk (TakeNote (note.Cleared session statement) counters)) n v is own = absurd (false≢true (ap is_opening_change is))
+call-number a (OnDesk (TakeNote (note.Show session statement) counters)) n v is own = absurd (false≢true (ap is_opening_change is))
+call-number a (OnDesk (TakeNote (note.Flushed session statement) counters)) n v is own = absurd (false≢true (ap is_opening_change is))
+call-number a (OnDesk (TakeNote (note.Purged session statement epoch) counters)) n v is own = absurd (false≢true (ap is_opening_change is))
+call-number a (OnDesk (CreateCube statement decl (Created epoch place))) n v is own = absurd (false≢true (ap is_opening_change is))
+call-number a (OnDesk (CreateCube statement decl Exists)) n v is own = absurd (false≢true (ap is_opening_change is))
+call-number a (OnDesk (CreateCube statement decl TooMany)) n v is own = absurd (false≢true (ap is_opening_change is))
+call-number a (OnDesk (FindCube statement name (cube_found.Found place decl))) n v is own = absurd (false≢true (ap is_opening_change is))
+call-number a (OnDesk (FindCube statement name Unknown)) n v is own = absurd (false≢true (ap is_opening_change is))
+call-number a (OnDesk (CubesFrom place cubes)) n v is own = absurd (false≢true (ap is_opening_change is))
+call-number a (OnDesk (CountersNow counters)) n v is own = absurd (false≢true (ap is_opening_change is))
+call-number a (OnDesk (RoundOpen (Target from epoch))) n v is own = absurd (false≢true (ap is_opening_change is))
+call-number a (OnDesk (RoundOpen (Nothing epoch))) n v is own = absurd (false≢true (ap is_opening_change is))
+call-number a (OnDesk (RoundClose epoch Safe)) n v is own = absurd (false≢true (ap is_opening_change is))
+call-number a (OnDesk (RoundClose epoch (Lost cause))) n v is own = absurd (false≢true (ap is_opening_change is))
+call-number a (OnDesk (StoreFailed failed)) n v is own = absurd (false≢true (ap is_opening_change is))
+call-number a (OnNames call) n v is own = absurd (false≢true (ap is_opening_change is))
+call-number a (Post mail job) n v is own = absurd (false≢true (ap is_opening_change is))
+call-number a (Fetch mail answer) n v is own = absurd (false≢true (ap is_opening_change is))
+call-number a (CloseMail mail) n v is own = absurd (false≢true (ap is_opening_change is))
+call-number a NoChange n v is own = absurd (false≢true (ap is_opening_change is))
+
+change-number : (change : HoldChange) (h : Option Snapshot) (a n : ℕ) (t : Snapshot) → held_after change n h ≡ Some t → t.own ≡ true
+    → ((m : ℕ) (v : Snapshot) → change ≡ Opens m v → v.own ≡ true → m ≡ a) → (h ≡ Some t → n ≡ a) → n ≡ a
+change-number (Opens m v) h a n t is own new old = elim (with-one-is h (m == n) v t is) [
+  | inl before ↦ old before
+  | inr fresh ↦ sym (eqb-true m n fresh.0) ∙ new m v refl (ap (λ (x : Snapshot). x.own) fresh.1 ∙ own)
+]
+change-number (Ends m) h a n t is own new old = old (without-one-is (m == n) h t is).1
+change-number Keeps h a n t is own new old = old is
+
+call-own-number : (own : Bool) (o : Opening) (a n : ℕ) (call : ClientCall) (k : ClientState) (t : Snapshot)
+    → held_under n (client_after_call o own a call k).holds ≡ Some t → t.own ≡ true → (held_under n k.holds ≡ Some t → n ≡ a) → n ≡ a
+call-own-number true o a n call k t is writes before =
+    change-number (change_by (client_entry a call)) (held_under n k.holds) a n t (sym (client-held a call k.holds n) ∙ is) writes
+    (call-number a call) before
+call-own-number false o a n call k t is writes before = before is
+
+run-own-number : (o : Opening) (es : List CoreEvent) (a n : ℕ) (t : Snapshot) → held_under n (client_state o a es).holds ≡ Some t
+    → t.own ≡ true → n ≡ a
+run-own-number o [] a n t is own = absurd (none-some t is)
+run-own-number o (By b call ∷ es) a n t is own =
+    call-own-number (b == a) o a n call (client_state o a es) t is own (λ before. run-own-number o es a n t before own)
+run-own-number o (At mail move ∷ es) a n t is own = run-own-number o es a n t is own
+
+-- Nothing more is posted or done of an epoch that is not pending.
+
+ended-epoch : (o : Opening) (es : List CoreEvent) (c e lse : ℕ) (job : CoreJob) → IsRun o es
+    → has_number (counters_of_run o es).pending e ≡ false → JobFits o c job (client_state o c es) lse → IsOtherEpoch e job
+ended-epoch o es c e lse (Append cube epoch rows) run past f = λ same.
+    true≢false (sym (writer-of o es c epoch run f.0 f.1).pending ∙ ap (has_number (counters_of_run o es).pending) same ∙ past)
+ended-epoch o es c e lse (DropBox cube epoch box) run past f = λ same.
+    true≢false (sym (writer-of o es c epoch run f.0 f.1).pending ∙ ap (has_number (counters_of_run o es).pending) same ∙ past)
+ended-epoch o es c e lse (Scan query snapshot) run past f = tt
+ended-epoch o es c e lse (Delta query from to) run past f = tt
+ended-epoch o es c e lse (Rollback epoch) run past f = tt
+ended-epoch o es c e lse (Purge epoch) run past f = tt
+ended-epoch o es c e lse (CopyRound from to) run past f = tt
+ended-epoch o es c e lse Flush run past f = tt
+
+same-post : (here : Bool) (o : Opening) (cube brick e : ℕ) (job : CoreJob) (posted : List BrickEntry) → IsOtherEpoch e job
+    → entries_of_epoch e (posted_after_post here (entries_of_job o cube brick job) posted) ≡ entries_of_epoch e posted
+same-post true o cube brick e job posted out =
+    epoch-append e (entries_of_job o cube brick job) posted ∙ ap (λ xs. xs ++ entries_of_epoch e posted) (none-of-job o cube brick e job out)
+same-post false o cube brick e job posted out = refl
+
+call-same : (o : Opening) (b : ℕ) (call : ClientCall) (es : List CoreEvent) (cube brick e : ℕ) → IsRun o (By b call ∷ es)
+    → has_number (counters_of_run o es).pending e ≡ false
+    → entries_of_epoch e (posted_after o cube brick call (posted_of o es cube brick)) ≡ entries_of_epoch e (posted_of o es cube brick)
+call-same o b (Post other job) es cube brick e run past =
+    same-post (other == brick % o.shards) o cube brick e job (posted_of o es cube brick)
+    (ended-epoch o es b e (counters_of_run o es).lse job run.0 past
+    (job-fits o b other job (client_state o b es) (counters_of_run o es).lse run.1.fits (shown-within o es b run.0)))
+call-same o b (OnDesk call) es cube brick e run past = refl
+call-same o b (OnNames call) es cube brick e run past = refl
+call-same o b (Fetch mail answer) es cube brick e run past = refl
+call-same o b (CloseMail mail) es cube brick e run past = refl
+call-same o b NoChange es cube brick e run past = refl
+
+move-same : (here : Bool) (o : Opening) (cube brick e : ℕ) (move : WorkerMove) (told : List BrickEntry)
+    → ((job : CoreJob) (answer : JobAnswer) → move ≡ Work job answer → IsOtherEpoch e job)
+    → entries_of_epoch e (told_after_move o here cube brick move told) ≡ entries_of_epoch e told
+move-same true o cube brick e (Work job answer) told out = other-told o cube brick e job answer told (out job answer refl)
+move-same true o cube brick e (Take client job) told out = refl
+move-same true o cube brick e (NoJob closed) told out = refl
+move-same true o cube brick e (Reply client answer) told out = refl
+move-same false o cube brick e move told out = refl
+
+-- What was posted of a transaction whose group is complete was done.
+group-posted : (o : Opening) (es : List CoreEvent) (a e cube brick : ℕ) → IsRun o es → IsSession o a → OwnsWriter a e (client_state o a es)
+    → IsClean (client_state o a es).group → is_empty (client_state o a es).group.waits ≡ true
+    → entries_of_epoch e (posted_of o es cube brick) ≡ entries_of_epoch e (told_of o es cube brick)
+group-posted o es a e cube brick run session owns clean empty =
+    let mail = brick % o.shards in
+    let out = sym ((run-posted o es run).tied a mail) ∙ empty-has-none (client_state o a es).group.waits mail empty in
+    nowhere-posted o cube brick e (posted_of o es cube brick) (told_of o es cube brick) (place mail a es) (none-out (place mail a es) out)
+    (run-posted-fits o es a e cube brick run session owns clean)
+
+pub committed-posted : (o : Opening) (es : List CoreEvent) (e cube brick : ℕ) → IsRun o es → is_committed o es e ≡ true
+    → entries_of_epoch e (posted_of o es cube brick) ≡ entries_of_epoch e (told_of o es cube brick)
+committed-posted o [] e cube brick run is = refl
+committed-posted o (By b call ∷ es) e cube brick run is = elim (or-is (commits call e) (is_committed o es e) is) [
+  | inl new ↦
+      (let x = commit-of call e new in
+      let f = coe 0 1 (i. Fits o b (x.is i) (client_state o b es)) run.1.fits in
+      let g = (client_state o b es).group in
+      ap (λ (c : ClientCall). entries_of_epoch e (posted_after o cube brick c (posted_of o es cube brick))) x.is
+      ∙ group-posted o es b e cube brick run.0 f.session f.writer (ready-clean o.shards g f.ready) (ready-empty o.shards g f.ready))
+  | inr old ↦
+      call-same o b call es cube brick e run ((run-finished o es run.0).done_ended e old)
+      ∙ committed-posted o es e cube brick run.0 old
+]
+committed-posted o (At mail move ∷ es) e cube brick run is =
+    committed-posted o es e cube brick run.0 is
+    ∙ sym (move-same (mail == brick % o.shards) o cube brick e move (told_of o es cube brick)
+    (λ job answer at.
+    let made = made-asked o es mail job answer (coe 0 1 (i. IsRun o (At mail (at i) ∷ es)) run) in
+    ended-epoch o es made.0 e (counters_of_run o es).lse job run.0 ((run-finished o es run.0).done_ended e is)
+    (asked-fits o es mail made.0 job run.0 made.1)))
+
+-- An epoch with no fate has no entries.
+none-told : (o : Opening) (es : List CoreEvent) (e : ℕ) (xs : List BrickEntry) → (HasFate o es e → ⊥) → HaveFates o es xs → entries_of_epoch e xs ≡ []
+none-told o es e [] fateless f = refl
+none-told o es e (RowRun j rows ∷ xs) fateless f =
+    ap (λ (b : Bool). if b then RowRun j rows ∷ entries_of_epoch e xs else entries_of_epoch e xs)
+    (ne_eqb j e (λ same. fateless (coe 0 1 (i. HasFate o es (same i)) f.0)))
+    ∙ none-told o es e xs fateless f.1
+none-told o es e (RowMark j ∷ xs) fateless f =
+    ap (λ (b : Bool). if b then RowMark j ∷ entries_of_epoch e xs else entries_of_epoch e xs)
+    (ne_eqb j e (λ same. fateless (coe 0 1 (i. HasFate o es (same i)) f.0)))
+    ∙ none-told o es e xs fateless f.1
+
+-- An epoch counts by what was done and by what was posted, or by neither.
+data CountsAlike (done counts : Epochs) (told posted : List BrickEntry) (e : ℕ) : Type 0 where
+  Both : done e ≡ true → counts e ≡ true → entries_of_epoch e posted ≡ entries_of_epoch e told → CountsAlike done counts told posted e
+  Neither : done e ≡ false → counts e ≡ false → CountsAlike done counts told posted e
+  Empty : entries_of_epoch e told ≡ [] → counts e ≡ false → CountsAlike done counts told posted e
+
+no-entries : (b : Bool) (entries : List BrickEntry) (rows : List CodedRow) → entries ≡ [] → (if b then rows_after_entries entries rows else rows) ≡ rows
+no-entries true entries rows e = ap (λ xs. rows_after_entries xs rows) e
+no-entries false entries rows e = refl
+
+left-step : (done counts : Epochs) (told posted : List BrickEntry) (m : ℕ) → CountsAlike done counts told posted m
+    → brick_rows_left m done told ≡ brick_rows_left m counts posted
+    → brick_rows_left (suc m) done told ≡ brick_rows_left (suc m) counts posted
+left-step done counts told posted m (Both d c same) rest =
+    (λ i. if d i then rows_after_entries (sym same i) (rest i) else rest i)
+    ∙ (λ i. if sym c i then rows_after_entries (entries_of_epoch m posted) (brick_rows_left m counts posted) else brick_rows_left m counts posted)
+left-step done counts told posted m (Neither d c) rest =
+    (λ i. if d i then rows_after_entries (entries_of_epoch m told) (brick_rows_left m done told) else brick_rows_left m done told)
+    ∙ rest
+    ∙ (λ i. if sym c i then rows_after_entries (entries_of_epoch m posted) (brick_rows_left m counts posted) else brick_rows_left m counts posted)
+left-step done counts told posted m (Empty none c) rest =
+    no-entries (done m) (entries_of_epoch m told) (brick_rows_left m done told) none
+    ∙ rest
+    ∙ (λ i. if sym c i then rows_after_entries (entries_of_epoch m posted) (brick_rows_left m counts posted) else brick_rows_left m counts posted)
+
+left-same : (done counts : Epochs) (told posted : List BrickEntry) (limit : ℕ) → ((e : ℕ) → CountsAlike done counts told posted e)
+    → brick_rows_left limit done told ≡ brick_rows_left limit counts posted
+left-same done counts told posted zero alike = refl
+left-same done counts told posted (suc m) alike = left-step done counts told posted m (alike m) (left-same done counts told posted m alike)
+
+-- Which epochs count for a query.
+
+asking-clean : (g : JobGroup) (q : BoundQuery) (s : Snapshot) → g.kind ≡ Asks q s → IsClean g
+asking-clean g q s is = record {
+  goes_on = ap is_rolling is;
+  unspoiled = ap (λ (k : GroupKind). is_spoiled k (has_refusal g.answers)) is;
+}
+
+-- The writer of a query's snapshot.
+asks-writer : (o : Opening) (es : List CoreEvent) (a : ℕ) (s : Snapshot) → AsksBy o a (client_state o a es).holds s → s.own ≡ true
+    → OwnsWriter a s.epoch (client_state o a es)
+asks-writer o es a s asks own =
+    let number = run-own-number o es a asks.number s asks.held own in
+    let held : held_under a (client_state o a es).holds ≡ Some s =
+    ap (λ (n : ℕ). held_under n (client_state o a es).holds) (sym number) ∙ asks.held
+    in
+    coe 1 0 (i. IsSomeAnd (held i) (λ x. (x.own ≡ true) × (x.epoch ≡ s.epoch))) (own, refl)
+
+and-parts : (a b : Bool) → (a && b) ≡ true → (a ≡ true) × (b ≡ true)
+and-parts true true e = (refl, refl)
+and-parts true false e = absurd (false≢true e)
+and-parts false b e = absurd (false≢true e)
+
+alike-seen : (committed own gone pending : Bool) (o : Opening) (es : List CoreEvent) (a cube brick e : ℕ) (q : BoundQuery) (s : Snapshot)
+    → IsRun o es → HasAnswered o.shards q s (client_state o a es).group → AsksBy o a (client_state o a es).holds s → sees s e ≡ true
+    → is_committed o es e ≡ committed → (s.own && s.epoch == e) ≡ own → is_aborted es e ≡ gone
+    → has_number (counters_of_run o es).pending e ≡ pending
+    → CountsAlike (epochs_without (sees s) (rolled_back (brick % o.shards) es)) (counts_for o es s) (told_of o es cube brick) (posted_of o es cube brick) e
+alike-seen true own gone pending o es a cube brick e q s run h asks seen c w g p =
+    Both (λ i. seen i && not (committed-unrolled o es (brick % o.shards) e run c i)) (λ i. seen i && (c i || (s.own && s.epoch == e)))
+    (committed-posted o es e cube brick run c)
+alike-seen false true gone pending o es a cube brick e q s run h asks seen c w g p =
+    let parts = and-parts s.own (s.epoch == e) w in
+    let at = eqb-true s.epoch e parts.1 in
+    let owns = coe 0 1 (i. OwnsWriter a (at i) (client_state o a es)) (asks-writer o es a s asks parts.0) in
+    let group = (client_state o a es).group in
+    let stays = false_from_ne_true (rolled_back (brick % o.shards) es e) (λ rolled.
+    false≢true (sym (ap is_rolling h.asks) ∙ ap is_rolling ((run-rolled o es (brick % o.shards) run).rolls a e rolled asks.session owns))) in
+    Both (λ i. seen i && not (stays i)) (λ i. seen i && (c i || w i))
+    (group-posted o es a e cube brick run asks.session owns (asking-clean group q s h.asks) h.done.fetched)
+alike-seen false false true pending o es a cube brick e q s run h asks seen c w g p =
+    let some = (opening-of o es run).some in
+    Neither (λ i. seen i && not (aborted-rolled o es (brick % o.shards) e run (mod-lt brick (omega (arith, some))) g i))
+    (λ i. seen i && (c i || w i))
+alike-seen false false false true o es a cube brick e q s run h asks seen c w g p =
+    let d = counters_of_run o es in
+    let held : held_by d.snapshots asks.number ≡ Some s = agree o es run a asks.session asks.number asks.under ∙ asks.held in
+    absurd (true≢false (sym seen ∙ (run-blind o es run).blind asks.number e s held p
+    (λ own at. true≢false (sym (λ i. own i && eq-eqb s.epoch e at i) ∙ w))))
+alike-seen false false false false o es a cube brick e q s run h asks seen c w g p =
+    Empty (none-told o es e (told_of o es cube brick) fateless (run-fates o es cube brick run)) (λ i. seen i && (c i || w i))
+  where
+    fateless : HasFate o es e → ⊥
+    fateless (inl x) = true≢false (sym x ∙ c)
+    fateless (inr (inl x)) = true≢false (sym x ∙ g)
+    fateless (inr (inr x)) = true≢false (sym x ∙ p)
+
+alike : (seen : Bool) (o : Opening) (es : List CoreEvent) (a cube brick e : ℕ) (q : BoundQuery) (s : Snapshot)
+    → IsRun o es → HasAnswered o.shards q s (client_state o a es).group → AsksBy o a (client_state o a es).holds s → sees s e ≡ seen
+    → CountsAlike (epochs_without (sees s) (rolled_back (brick % o.shards) es)) (counts_for o es s) (told_of o es cube brick) (posted_of o es cube brick) e
+alike true o es a cube brick e q s run h asks seen =
+    alike-seen (is_committed o es e) (s.own && s.epoch == e) (is_aborted es e) (has_number (counters_of_run o es).pending e)
+    o es a cube brick e q s run h asks seen refl refl refl refl
+alike false o es a cube brick e q s run h asks seen =
+    Neither (λ i. seen i && not (rolled_back (brick % o.shards) es e)) (λ i. seen i && (is_committed o es e || (s.own && s.epoch == e)))
+
+pub answered-counts : (o : Opening) (es : List CoreEvent) (a brick : ℕ) (q : BoundQuery) (s : Snapshot) (c : CodedRow → Bool)
+    → IsRun o es → HasAnswered o.shards q s (client_state o a es).group
+    → count_by c (rows_of_brick o q.cube brick (rows_fetched (client_state o a es).group.answers))
+    ≡ count_by c (rows_in_span q.span (brick_rows_left (s.epoch + 1) (counts_for o es s) (posted_of o es q.cube brick)))
+answered-counts o es a brick q s c run h =
+    let asks = run-held o es a run q s h.asks in
+    answered-serial o es a brick q s c run h
+    ∙ ap (λ (rows : List CodedRow). count_by c (rows_in_span q.span rows))
+    (left-same (epochs_without (sees s) (rolled_back (brick % o.shards) es)) (counts_for o es s) (told_of o es q.cube brick) (posted_of o es q.cube brick)
+    (s.epoch + 1) (λ e. alike (sees s e) o es a q.cube brick e q s run h asks refl))
