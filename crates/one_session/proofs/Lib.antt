@@ -1,2 +1,5 @@
 pub mod Entries
 pub mod Backwards
+pub mod Settled
+pub mod Operations
+pub mod Views

@@ -1,11 +1,17 @@
 //! What is settled by what is behind a session.
 
-ghost use Rattle.std.specs.Prelude.{◌≡◌, ℕ, ◌+◌, ◌≤◌, List, [], ◌∷◌, ◌++◌};
+ghost use Rattle.std.specs.Prelude.{◌≡◌, ℕ, ◌+◌, ◌<◌, ◌≤◌, List, [], ◌∷◌, ◌++◌};
 ghost use Rattle.cube_journal.specs.declared.journal_entry.JournalEntry.{JournalEntry};
-ghost use Rattle.cube_run.specs.RunRecords.{RunRecord, Sentence};
+ghost use Rattle.cube_values.specs.declared.snapshot.Snapshot.{Snapshot};
+ghost use Rattle.cube_values.specs.Visible.{visible_rows};
+ghost use Rattle.cube_journal.specs.Counters.{journal_state};
+ghost use Rattle.cube_run.specs.RunRecords.{RunRecord, Sentence, script_of};
+ghost use Rattle.cube_run.specs.RunText.{reader_of};
+ghost use Rattle.cube_run.specs.RunTransactions.{DoneOperation, run_transactions, transactions_inside};
+ghost use Rattle.cube_run.specs.SessionStates.{SessionState};
 ghost use Rattle.cube_run.specs.SessionSteps.{entries_of, session_part, steps_of};
 ghost use Rattle.one_session.specs.Pasts.{Beginning, SessionPast, GoesOn, IsInTurn, IsOneMore, last_number};
-ghost use Rattle.one_session.specs.Behind.{steps_behind};
+ghost use Rattle.one_session.specs.Behind.{HaveDone, IsSettled, steps_behind, transactions_at, transactions_behind};
 
 /// A run that goes on with one statement more behind goes on from what was behind before it, and the entries stay in
 /// turn.
@@ -29,4 +35,25 @@ pub fn what_is_behind_stays()
         → entries_of 1 (last_number before + 1) run.journal ≡ session_part 1 added }
     ensures steps { (beginning : Beginning) (past : SessionPast) (run : RunRecord)
         → GoesOn beginning past run → steps_of run 1 past.sentences ≡ steps_behind beginning past }
+{}
+
+/// A reader of an epoch that is settled sees in each run that goes on the kept rows and what is committed behind.
+pub fn a_reader_sees_what_is_behind()
+    ensures { (beginning : Beginning) (past : SessionPast) (run : RunRecord) (done : List DoneOperation)
+        (state : SessionState) (bound epoch : ℕ)
+        → HaveDone beginning past done state → GoesOn beginning past run
+        → IsSettled (journal_state beginning.safe past.journal) state.mode bound → epoch < bound
+        → visible_rows (reader_of epoch) (run_transactions run)
+        ≡ visible_rows (reader_of epoch) (transactions_behind beginning past done) }
+{}
+
+/// A writer below whose epoch all is settled sees at its next statement, in each run that goes on, the same and what
+/// its own statements have done so far.
+pub fn a_writer_sees_what_is_behind()
+    ensures { (beginning : Beginning) (past : SessionPast) (run : RunRecord) (done : List DoneOperation)
+        (state : SessionState) (writer : Snapshot)
+        → HaveDone beginning past done state → GoesOn beginning past run
+        → IsSettled (journal_state beginning.safe past.journal) state.mode writer.epoch
+        → visible_rows writer (transactions_inside run 1 (script_of run 1) (last_number past + 1) writer.epoch)
+        ≡ visible_rows writer (transactions_at beginning past done writer.epoch) }
 {}

@@ -3,4 +3,7 @@
 
 mod law;
 
-pub use law::{a_longer_past_goes_on, what_is_behind_stays};
+pub use law::{
+    a_longer_past_goes_on, a_reader_sees_what_is_behind, a_writer_sees_what_is_behind,
+    what_is_behind_stays,
+};
