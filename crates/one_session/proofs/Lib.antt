@@ -1,5 +1,6 @@
 pub mod Entries
 pub mod Backwards
+pub mod Steps
 pub mod Settled
 pub mod Operations
 pub mod Views

@@ -1,13 +1,13 @@
 -- What a session and the transactions are by what is behind, whatever may follow.
 -- Source: AOSI (ICDE 2018), visibility by epoch; that it is settled before the run has ended is this project's own.
-use Rattle.std.specs.Prelude.{◌≡◌, ℕ, ◌≤◌, true, not, ◌==◌, List, [], ◌∷◌, ◌++◌, filter, filter_map}
+use Rattle.std.specs.Prelude.{◌≡◌, ℕ, ◌≤◌, true, not, ◌==◌, List, [], ◌∷◌, ◌++◌, filter, filter_map, Option}
 use Rattle.std.specs.List.{AllByRecursion}
 use Rattle.cube_values.specs.declared.operation.Operation.TheVariants.{Put}
 use Rattle.cube_values.specs.declared.operation.Transaction.{Transaction}
 use Rattle.cube_journal.specs.Counters.{JournalState}
 use Rattle.cube_journal.specs.declared.journal_entry.JournalEntry.{JournalEntry}
-use Rattle.cube_run.specs.RunRecords.{RunRecord, Sentence}
-use Rattle.cube_run.specs.RunTransactions.{DoneOperation, committed_transaction, operations_at, session_operations}
+use Rattle.cube_run.specs.RunRecords.{RunRecord, Sentence, catalog_of}
+use Rattle.cube_run.specs.RunTransactions.{DoneOperation, committed_transaction, operation_done, operations_at, session_operations}
 use Rattle.cube_run.specs.SessionStates.{SessionState, Mode, Open, fresh_session}
 use Rattle.cube_run.specs.SessionSteps.{SessionStep, last_state, session_part, steps_of}
 use Rattle.one_session.specs.Pasts.{Beginning, SessionPast, GoesOn, IsInTurn, last_number}
@@ -40,6 +40,11 @@ last_step past state sentence added = record {
   state = state;
   entries = session_part 1 added;
 }
+
+-- In each run that goes on from there, a step has done just this to rows.
+abbrev pub HasDone : Beginning → SessionPast → SessionStep → Option DoneOperation → Type 0
+HasDone beginning past step done =
+    (run : RunRecord) → GoesOn beginning past run → operation_done (catalog_of run) step ≡ done
 
 -- In each run that goes on from there, the statements behind have done just these operations, and left the session so.
 pub record HaveDone (beginning : Beginning) (past : SessionPast) (done : List DoneOperation) (state : SessionState)

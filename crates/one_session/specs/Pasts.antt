@@ -8,7 +8,7 @@ use Rattle.cube_language.specs.declared.decl.DimDecl.{DimDecl}
 use Rattle.cube_journal.specs.Legal.{CountersAllowAll}
 use Rattle.cube_journal.specs.declared.journal_entry.JournalEntry.{JournalEntry}
 use Rattle.cube_run.specs.FinalNames.{HasDimension, IsDictionary, names_at}
-use Rattle.cube_run.specs.RunRecords.{RunRecord, Sentence, LoadedFile}
+use Rattle.cube_run.specs.RunRecords.{RunRecord, Sentence, LoadedFile, Missing}
 use Rattle.cube_run.specs.SessionSteps.{entries_of, session_part}
 use Rattle.played_scripts.specs.PlayedRuns.{AreNumbered}
 
@@ -32,6 +32,11 @@ pub record SessionPast : Type 0 where
 -- The number of the statement behind it that was the last.
 abbrev pub last_number : SessionPast → ℕ
 last_number past = length past.sentences
+
+-- Nothing is behind a session at the beginning of its run.
+abbrev pub nothing_behind : Beginning → SessionPast
+nothing_behind beginning =
+    record { sentences = []; files = λ number. Missing; journal = []; names = beginning.kept_names }
 
 -- Each dictionary that a run ends with is one of its dimension, and begins with the names that it had.
 abbrev pub EndsWithMore : RunRecord → List (List (List (List ℕ))) → Type 0

@@ -1,17 +1,19 @@
 //! What is settled by what is behind a session.
 
-ghost use Rattle.std.specs.Prelude.{◌≡◌, ℕ, ◌+◌, ◌<◌, ◌≤◌, List, [], ◌∷◌, ◌++◌};
+ghost use Rattle.std.specs.Prelude.{◌≡◌, ℕ, ◌+◌, ◌<◌, ◌≤◌, List, [], ◌∷◌, ◌++◌, Some, None};
 ghost use Rattle.cube_journal.specs.declared.journal_entry.JournalEntry.{JournalEntry};
+ghost use Rattle.cube_journal.specs.declared.reply.Reply.{Reply};
 ghost use Rattle.cube_values.specs.declared.snapshot.Snapshot.{Snapshot};
 ghost use Rattle.cube_values.specs.Visible.{visible_rows};
 ghost use Rattle.cube_journal.specs.Counters.{journal_state};
 ghost use Rattle.cube_run.specs.RunRecords.{RunRecord, Sentence, script_of};
-ghost use Rattle.cube_run.specs.RunText.{reader_of};
+ghost use Rattle.cube_run.specs.RunText.{IsReply, reader_of};
 ghost use Rattle.cube_run.specs.RunTransactions.{DoneOperation, run_transactions, transactions_inside};
-ghost use Rattle.cube_run.specs.SessionStates.{SessionState};
+ghost use Rattle.cube_run.specs.SessionStates.{SessionState, fresh_session, session_after};
 ghost use Rattle.cube_run.specs.SessionSteps.{entries_of, session_part, steps_of};
-ghost use Rattle.one_session.specs.Pasts.{Beginning, SessionPast, GoesOn, IsInTurn, IsOneMore, last_number};
-ghost use Rattle.one_session.specs.Behind.{HaveDone, IsSettled, steps_behind, transactions_at, transactions_behind};
+ghost use Rattle.played_scripts.specs.Promises.{IsExecuted};
+ghost use Rattle.one_session.specs.Pasts.{nothing_behind, Beginning, SessionPast, GoesOn, IsInTurn, IsOneMore, last_number};
+ghost use Rattle.one_session.specs.Behind.{HasDone, HaveDone, IsSettled, last_step, steps_behind, transactions_at, transactions_behind};
 
 /// A run that goes on with one statement more behind goes on from what was behind before it, and the entries stay in
 /// turn.
@@ -35,6 +37,33 @@ pub fn what_is_behind_stays()
         → entries_of 1 (last_number before + 1) run.journal ≡ session_part 1 added }
     ensures steps { (beginning : Beginning) (past : SessionPast) (run : RunRecord)
         → GoesOn beginning past run → steps_of run 1 past.sentences ≡ steps_behind beginning past }
+{}
+
+/// A statement is executed, for the law of scripts that are played, where each run that goes on with it behind answers
+/// it so.
+pub fn one_more_is_executed()
+    ensures { (beginning : Beginning) (before after : SessionPast) (state : SessionState) (sentence : Sentence)
+        (added : List JournalEntry) (said : Reply)
+        → IsInTurn before → IsOneMore before after sentence added
+        → ((run : RunRecord) → GoesOn beginning after run → IsReply run (last_step after state sentence added) said)
+        → IsExecuted (GoesOn beginning) 1 (last_number before + 1) state sentence before after said
+        (session_after state sentence (session_part 1 added)) }
+{}
+
+/// What the statements behind have done of rows: nothing at the beginning; and a statement more adds its operation, if
+/// each run that goes on has it so, or none.
+pub fn operations_are_done_by_statements()
+    ensures none { (beginning : Beginning) → HaveDone beginning (nothing_behind beginning) [] fresh_session }
+    ensures no_change { (beginning : Beginning) (before after : SessionPast) (done : List DoneOperation)
+        (state : SessionState) (sentence : Sentence) (added : List JournalEntry)
+        → HaveDone beginning before done state → IsOneMore before after sentence added
+        → HasDone beginning after (last_step after state sentence added) None
+        → HaveDone beginning after done (session_after state sentence (session_part 1 added)) }
+    ensures change { (beginning : Beginning) (before after : SessionPast) (done : List DoneOperation)
+        (state : SessionState) (sentence : Sentence) (added : List JournalEntry) (operation : DoneOperation)
+        → HaveDone beginning before done state → IsOneMore before after sentence added
+        → HasDone beginning after (last_step after state sentence added) (Some operation)
+        → HaveDone beginning after (done ++ operation ∷ []) (session_after state sentence (session_part 1 added)) }
 {}
 
 /// A reader of an epoch that is settled sees in each run that goes on the kept rows and what is committed behind.
