@@ -30,7 +30,7 @@ all_filter p P (x ∷ xs) h = kept (p x) (all_filter p P xs h.1)
     kept true rest = (h.0, rest)
     kept false rest = rest
 
-all_more : {X : Type 0} (P : X → Type 0) (xs : List X) (x : X) → AllByRecursion P xs → P x
+pub all_more : {X : Type 0} (P : X → Type 0) (xs : List X) (x : X) → AllByRecursion P xs → P x
     → AllByRecursion P (xs ++ x ∷ [])
 all_more P [] x h here = (here, tt)
 all_more P (y ∷ xs) x h here = (h.0, all_more P xs x h.1 here)

@@ -1,19 +1,21 @@
 //! What is settled by what is behind a session.
 
 ghost use Rattle.std.specs.Prelude.{◌≡◌, ℕ, ◌+◌, ◌<◌, ◌≤◌, List, [], ◌∷◌, ◌++◌, Some, None};
+ghost use Rattle.std.specs.List.{AllByRecursion};
 ghost use Rattle.cube_journal.specs.declared.journal_entry.JournalEntry.{JournalEntry};
 ghost use Rattle.cube_journal.specs.declared.reply.Reply.{Reply};
 ghost use Rattle.cube_values.specs.declared.snapshot.Snapshot.{Snapshot};
 ghost use Rattle.cube_values.specs.Visible.{visible_rows};
 ghost use Rattle.cube_journal.specs.Counters.{journal_state};
+ghost use Rattle.cube_journal.specs.Legal.{CountersAllowAll};
 ghost use Rattle.cube_run.specs.RunRecords.{RunRecord, Sentence, script_of};
 ghost use Rattle.cube_run.specs.RunText.{IsReply, reader_of};
 ghost use Rattle.cube_run.specs.RunTransactions.{DoneOperation, run_transactions, transactions_inside};
-ghost use Rattle.cube_run.specs.SessionStates.{SessionState, fresh_session, session_after};
+ghost use Rattle.cube_run.specs.SessionStates.{Mode, SessionState, fresh_session, session_after};
 ghost use Rattle.cube_run.specs.SessionSteps.{entries_of, session_part, steps_of};
 ghost use Rattle.played_scripts.specs.Promises.{IsExecuted};
 ghost use Rattle.one_session.specs.Pasts.{nothing_behind, Beginning, SessionPast, GoesOn, IsInTurn, IsOneMore, last_number};
-ghost use Rattle.one_session.specs.Behind.{HasDone, HaveDone, IsSettled, last_step, steps_behind, transactions_at, transactions_behind};
+ghost use Rattle.one_session.specs.Behind.{HasDone, HaveDone, IsOpenFrom, IsSettled, last_step, steps_behind, transactions_at, transactions_behind};
 
 /// A run that goes on with one statement more behind goes on from what was behind before it, and the entries stay in
 /// turn.
@@ -64,6 +66,14 @@ pub fn operations_are_done_by_statements()
         → HaveDone beginning before done state → IsOneMore before after sentence added
         → HasDone beginning after (last_step after state sentence added) (Some operation)
         → HaveDone beginning after (done ++ operation ∷ []) (session_after state sentence (session_part 1 added)) }
+{}
+
+/// In a legal journal that is settled up to a bound which neither EC nor a pending epoch is below.
+pub fn what_is_not_pending_is_settled()
+    ensures { (safe : ℕ) (journal : List JournalEntry) (mode : Mode) (bound : ℕ)
+        → CountersAllowAll safe [] journal → bound ≤ (journal_state safe journal).ec
+        → AllByRecursion (λ epoch. bound ≤ epoch) (journal_state safe journal).pending → IsOpenFrom bound mode
+        → IsSettled (journal_state safe journal) mode bound }
 {}
 
 /// A reader of an epoch that is settled sees in each run that goes on the kept rows and what is committed behind.
