@@ -1,14 +1,12 @@
 -- From a longer past back to the one before.
-use Rattle.std.proofs.Common.{◌≡◌, ◌∙◌, ℕ, ◌+◌, ◌≤◌, List, [], ◌∷◌, ◌++◌, length, take, drop, refl, sym, ap, arith, append_assoc}
+use Rattle.std.proofs.Common.{◌≡◌, ◌∙◌, ℕ, ◌+◌, List, [], ◌∷◌, ◌++◌, length, take, drop, sym, ap, arith, append_assoc}
 use Rattle.std.proofs.lemmas.List.{take-append-drop}
 use Rattle.std.proofs.Math.Seq.{take-append_seam}
 use Rattle.std.proofs.lemmas.List.Elements.{filter-append}
-use Rattle.cube_language.specs.declared.decl.Decl.{Decl}
-use Rattle.cube_language.specs.declared.decl.DimDecl.{DimDecl}
 use Rattle.cube_journal.specs.declared.journal_entry.JournalEntry.{JournalEntry}
-use Rattle.cube_run.specs.FinalNames.{HasDimension, IsDictionary, names_at}
+use Rattle.cube_run.specs.FinalNames.{names_at}
 use Rattle.cube_run.specs.RunRecords.{RunRecord, Sentence}
-use Rattle.cube_run.specs.SessionSteps.{belongs_to, entries_of, session_part}
+use Rattle.cube_run.specs.SessionSteps.{belongs_to, session_part}
 use Rattle.played_scripts.specs.PlayedRuns.{AreNumbered}
 use Rattle.played_scripts.proofs.Numbered.{none_earlier}
 use Rattle.one_session.specs.Pasts.{Beginning, EndsWithMore, GoesOn, IsInTurn, IsOneMore, NamesOnlyCome, SessionPast, last_number}
@@ -32,12 +30,15 @@ names_before : (before after : List (List (List (List ℕ)))) (run : RunRecord) 
 names_before before after run come ends = λ cube place d dim has.
     let now = ends cube place d dim has in
     record {
-      distinct = now.distinct;
-      short = now.short;
-      few = now.few;
-      first =
-          shorter_front (names_at before cube place) (names_at after cube place) (names_at run.names cube place)
-          (come cube place) now.first;
+      dictionary = record {
+        distinct = now.dictionary.distinct;
+        short = now.dictionary.short;
+        few = now.dictionary.few;
+        first =
+            shorter_front (names_at before cube place) (names_at after cube place) (names_at run.names cube place)
+            (come cube place) now.dictionary.first;
+      };
+      numbers = now.numbers;
     }
 
 pub goes_on_before : (beginning : Beginning) (before after : SessionPast) (sentence : Sentence)

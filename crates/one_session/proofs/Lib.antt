@@ -5,3 +5,7 @@ pub mod Settled
 pub mod Pending
 pub mod Operations
 pub mod Views
+pub mod Order
+pub mod InOrder
+pub mod Coded
+pub mod RowValues

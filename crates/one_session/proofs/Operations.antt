@@ -1,10 +1,9 @@
 -- Operations of later statements have later numbers and no epoch below what is settled.
-use Rattle.std.proofs.Common.{◌≡◌, ◌∙◌, ℕ, suc, ◌+◌, ◌<◌, ◌≤◌, Bool, true, false, ◌==◌, cond, nat_lt, List, [], ◌∷◌, ◌++◌, length, filter, map, Option, Some, None, IfSome, refl, sym, ap, arith}
+use Rattle.std.proofs.Common.{◌≡◌, ◌∙◌, ℕ, ◌+◌, ◌<◌, ◌≤◌, Bool, true, false, ◌==◌, cond, nat_lt, List, [], ◌∷◌, ◌++◌, length, filter, map, Option, Some, None, IfSome, refl, ap, arith}
 use Rattle.std.specs.List.{AllByRecursion, cons_option, filter_map}
 use Rattle.std.proofs.lemmas.Bool.{ne_eqb}
 use Rattle.std.proofs.lemmas.Bool.Decides.{nat_tests}
 use Rattle.std.proofs.lemmas.List.Elements.{filter-append}
-use Rattle.std.proofs.lemmas.List.{map-append}
 use Rattle.std.proofs.Common.{append-nil}
 use Rattle.cube_values.specs.declared.operation.Operation.{Operation}
 use Rattle.cube_journal.specs.declared.journal_entry.AbortCause.{AbortCause}

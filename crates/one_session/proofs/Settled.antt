@@ -1,12 +1,12 @@
 -- Entries behind a place of a legal journal neither begin nor commit an epoch below what is settled there.
-use Rattle.std.proofs.Common.{◌≡◌, ◌∙◌, ℕ, suc, ◌+◌, ◌<◌, ◌≤◌, Bool, true, false, not, ◌||◌, ◌==◌, cond, if◌then◌else◌, Option, Some, None, List, [], ◌∷◌, ◌++◌, filter, refl, sym, ap, subst, arith, append-nil}
+use Rattle.std.proofs.Common.{◌≡◌, ◌∙◌, ℕ, ◌<◌, ◌≤◌, Bool, true, false, not, ◌||◌, ◌==◌, cond, if◌then◌else◌, Some, List, [], ◌∷◌, ◌++◌, filter, refl, sym, ap, subst, arith, append-nil}
 use Rattle.std.specs.List.{AllByRecursion, list_any}
 use Rattle.std.specs.Option.{IsSomeAnd}
 use Rattle.std.proofs.lemmas.Bool.{ne_eqb, false≢true}
 use Rattle.cube_journal.specs.declared.counters.OpenSnapshot.{OpenSnapshot}
 use Rattle.cube_journal.specs.declared.journal_entry.JournalEntry.{JournalEntry}
 use Rattle.cube_journal.specs.declared.journal_entry.JournalEntry.TheVariants as entry
-use Rattle.cube_journal.specs.Counters.{JournalState, held_by, journal_state, lce, snapshots_without, state_after}
+use Rattle.cube_journal.specs.Counters.{JournalState, held_by, journal_state, lce, state_after}
 use Rattle.cube_journal.specs.Legal.{CountersAllow, CountersAllowAll}
 use Rattle.cube_journal.proofs.Orders.{state-with}
 use Rattle.cube_run.specs.RunTransactions.{is_commit_of}

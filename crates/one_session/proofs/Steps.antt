@@ -1,5 +1,5 @@
 -- One statement more, in the runs that go on with it.
-use Rattle.std.proofs.Common.{◌≡◌, ◌∙◌, ℕ, zero, suc, ◌+◌, ◌-◌, ◌≤◌, List, [], ◌∷◌, ◌++◌, length, slice_get, unwrap_or, Option, Some, None, refl, sym, ap, subst, arith, append_assoc, append-nil}
+use Rattle.std.proofs.Common.{◌≡◌, ◌∙◌, ◌+◌, ◌-◌, List, [], ◌∷◌, ◌++◌, length, slice_get, unwrap_or, Option, Some, None, refl, sym, ap, subst, arith, append_assoc, append-nil}
 use Rattle.std.specs.List.{cons_option, filter_map}
 use Rattle.std.proofs.lemmas.List.Elements.{filter_map-append}
 use Rattle.cube_journal.specs.declared.journal_entry.JournalEntry.{JournalEntry}
@@ -8,7 +8,7 @@ use Rattle.cube_run.specs.RunRecords.{RunRecord, Sentence, catalog_of, script_of
 use Rattle.cube_run.specs.RunText.{IsReply}
 use Rattle.cube_run.specs.RunTransactions.{DoneOperation, operation_done, session_operations}
 use Rattle.cube_run.specs.SessionStates.{SessionState, fresh_session, session_after}
-use Rattle.cube_run.specs.SessionSteps.{SessionStep, entries_of, last_state, session_part, state_after_step, step_at, steps_of}
+use Rattle.cube_run.specs.SessionSteps.{SessionStep, last_state, session_part, step_at, steps_of}
 use Rattle.played_scripts.specs.Promises.{IsExecuted}
 use Rattle.played_scripts.proofs.Steps.{last_state_more, steps_more}
 use Rattle.one_session.specs.Behind.{HasDone, HaveDone, last_step}

@@ -1,5 +1,5 @@
 -- What a snapshot sees of a run is settled by what is behind.
-use Rattle.std.proofs.Common.{◌≡◌, ◌∙◌, ℕ, suc, ◌+◌, ◌-◌, ◌<◌, ◌≤◌, Bool, true, false, not, ◌&&◌, ◌||◌, ◌==◌, cond, nat_le, nat_lt, List, [], ◌∷◌, ◌++◌, length, filter, flat_map, map, Option, Some, None, if◌then◌else◌, unwrap_or, slice_get, refl, sym, ap, arith, append-nil}
+use Rattle.std.proofs.Common.{◌≡◌, ◌∙◌, ℕ, ◌+◌, ◌<◌, ◌≤◌, Bool, true, false, not, ◌&&◌, ◌||◌, ◌==◌, cond, nat_le, nat_lt, List, [], ◌∷◌, ◌++◌, filter, flat_map, map, Some, None, if◌then◌else◌, unwrap_or, slice_get, refl, sym, ap, arith, append-nil}
 use Rattle.std.specs.List.{AllByRecursion, cons_option, enumerate_from, filter_map, list_any}
 use Rattle.std.proofs.lemmas.Bool.{false≢true, false_from_ne_true, eq-eqb}
 use Rattle.std.proofs.lemmas.Bool.Decides.{nat_tests}
@@ -17,7 +17,7 @@ use Rattle.cube_journal.specs.Counters.{journal_state}
 use Rattle.cube_journal.specs.Legal.{CountersAllowAll}
 use Rattle.cube_run.specs.RunRecords.{RunRecord, Sentence, catalog_of, script_of}
 use Rattle.cube_run.specs.RunText.{reader_of}
-use Rattle.cube_run.specs.RunTransactions.{DoneOperation, committed_transaction, is_commit_of, kept_transaction, operation_done, operations_at, run_transactions, session_operations, session_transactions, transaction_so_far, transactions_inside}
+use Rattle.cube_run.specs.RunTransactions.{DoneOperation, committed_transaction, is_commit_of, operation_done, operations_at, run_transactions, session_operations, session_transactions, transaction_so_far, transactions_inside}
 use Rattle.cube_run.specs.SessionStates.{SessionState, fresh_session}
 use Rattle.cube_run.specs.SessionSteps.{belongs_to, entries_of, is_of_statement, last_state, session_part, steps_from, steps_of}
 use Rattle.one_session.specs.Behind.{HaveDone, IsSettled, IsOpenFrom, transactions_at, transactions_behind}
@@ -28,11 +28,11 @@ use Rattle.one_session.proofs.Settled.{ChangesFrom, all_filter, later_changes, n
 
 -- ---- transactions of some epochs
 
-abbrev transaction : ℕ → List Operation → Transaction
+abbrev pub transaction : ℕ → List Operation → Transaction
 transaction epoch operations = record { epoch = epoch; operations = operations }
 
 -- Those whose epoch passes a test.
-abbrev at_epochs : (ℕ → Bool) → List Transaction → List Transaction
+abbrev pub at_epochs : (ℕ → Bool) → List Transaction → List Transaction
 at_epochs q ts = filter (λ t. q t.epoch) ts
 
 -- Where its epoch fails the test, a transaction that may be there counts for nothing.
@@ -239,7 +239,7 @@ placed_at p (t ∷ ts) =
     both false = refl
 
 -- A snapshot sees the same of transactions that are the same at the epochs that it sees.
-same_view : (s : Snapshot) (ts us : List Transaction) → at_epochs (sees s) ts ≡ at_epochs (sees s) us
+pub same_view : (s : Snapshot) (ts us : List Transaction) → at_epochs (sees s) ts ≡ at_epochs (sees s) us
     → visible_rows s ts ≡ visible_rows s us
 same_view s ts us same =
     ap remaining_rows (placed_at (sees s) ts ∙ ap (flat_map placed_operations) same ∙ sym (placed_at (sees s) us))
@@ -264,7 +264,7 @@ reader_view beginning past run done state bound epoch h g s l =
     (λ e is. let seen = seen_below (reader_of epoch) e is in omega (arith, seen, l)))
 
 -- Filtering twice.
-filter_twice : (p q : Transaction → Bool) (ts : List Transaction)
+pub filter_twice : (p q : Transaction → Bool) (ts : List Transaction)
     → filter p (filter q ts) ≡ filter (λ t. q t && p t) ts
 filter_twice p q [] = refl
 filter_twice p q (t ∷ ts) = both (q t) (filter_twice p q ts)
@@ -276,10 +276,10 @@ filter_twice p q (t ∷ ts) = both (q t) (filter_twice p q ts)
     both false same = same
 
 -- Epochs that a writer sees but its own.
-abbrev sees_other : Snapshot → ℕ → Bool
+abbrev pub sees_other : Snapshot → ℕ → Bool
 sees_other writer epoch = not (epoch == writer.epoch) && sees writer epoch
 
-other_below : (writer : Snapshot) (epoch : ℕ) (b : Bool) → (epoch == writer.epoch) ≡ b
+pub other_below : (writer : Snapshot) (epoch : ℕ) (b : Bool) → (epoch == writer.epoch) ≡ b
     → (not b && sees writer epoch) ≡ true → epoch < writer.epoch
 other_below writer epoch true e is = absurd (false≢true is)
 other_below writer epoch false e is =

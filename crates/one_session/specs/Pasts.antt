@@ -1,7 +1,7 @@
 -- What the one session of a run has behind it, and the runs that may go on from there.
 -- Source: this project's own. A promise of what was done speaks of every run that begins with it, as with prophecy
 -- variables (Abadi and Lamport, 1991).
-use Rattle.std.specs.Prelude.{◌≡◌, ℕ, ◌+◌, ◌≤◌, List, [], ◌∷◌, ◌++◌, length, take}
+use Rattle.std.specs.Prelude.{◌≡◌, ℕ, ◌+◌, ◌≤◌, false, List, [], ◌∷◌, ◌++◌, length, take}
 use Rattle.cube_values.specs.declared.row.StoredRow.{StoredRow}
 use Rattle.cube_language.specs.declared.decl.Decl.{Decl}
 use Rattle.cube_language.specs.declared.decl.DimDecl.{DimDecl}
@@ -38,11 +38,17 @@ abbrev pub nothing_behind : Beginning → SessionPast
 nothing_behind beginning =
     record { sentences = []; files = λ number. Missing; journal = []; names = beginning.kept_names }
 
--- Each dictionary that a run ends with is one of its dimension, and begins with the names that it had.
+-- A dictionary that a run ends with is one of its dimension, and begins with the names that it had. It has none where
+-- the dimension is of numbers.
+pub record EndsAs (dim : DimDecl) (before names : List (List ℕ)) : Type 0 where
+  pub dictionary : IsDictionary dim before names
+  pub numbers : dim.text ≡ false → names ≡ []
+
+-- Each of them does so.
 abbrev pub EndsWithMore : RunRecord → List (List (List (List ℕ))) → Type 0
 EndsWithMore run names =
     (cube place : ℕ) (d : Decl) (dim : DimDecl) → HasDimension run cube place d dim
-    → IsDictionary dim (names_at names cube place) (names_at run.names cube place)
+    → EndsAs dim (names_at names cube place) (names_at run.names cube place)
 
 -- A run of one session goes on from there: it began so, its script begins with the statements behind it, their files
 -- gave what they gave, its journal is legal by its counters and begins with what it was, none of these statements has
