@@ -1,0 +1,11 @@
+pub mod Entries
+pub mod Backwards
+pub mod Steps
+pub mod Settled
+pub mod Pending
+pub mod Operations
+pub mod Views
+pub mod Order
+pub mod InOrder
+pub mod Coded
+pub mod RowValues

@@ -1,0 +1,8 @@
+use Rattle.one_session.proofs.Backwards.{goes_on_before, in_turn_after}
+use Rattle.one_session.proofs.law.a_longer_past_goes_on.Goals as goal
+
+pub returns-clause-earlier : goal.returns-clause-earlier
+returns-clause-earlier c = goes_on_before
+
+pub returns-clause-turn : goal.returns-clause-turn
+returns-clause-turn c = in_turn_after
