@@ -25,8 +25,8 @@ pub record IsBoundSelect (d : Decl) (names : List (List (List (List ℕ)))) (s :
   pub asks : IsQueryOn d names s query
   pub first : plan ≡ resolved_plan s
 
--- Rows by coordinates of a cube, each of which has its value by the names, which stand once each; groups stand for those
--- of them that the query takes.
+-- Rows by coordinates of a cube, each of which has its value by the names, which stand once each; groups stand for
+-- those of them that the query takes.
 pub record AreFolded (d : Decl) (names : List (List (List (List ℕ)))) (query : BoundQuery) (rows : List CodedRow)
     (groups : Groups) : Type 0 where
   pub distinct : AreDistinct (lists_at names query.cube)
