@@ -1,13 +1,13 @@
 -- A file with one round more.
-use Rattle.std.proofs.Common.{◌≡◌, ◌≢◌, ℕ, List, [], ◌∷◌, ◌++◌, refl, sym, ap, subst, ◌∙◌, append_assoc}
+use Rattle.std.proofs.Common.{◌≡◌, ℕ, List, [], ◌∷◌, ◌++◌, refl, sym, ap, subst, ◌∙◌, append_assoc}
 use Rattle.std.proofs.lemmas.List.{append-nil}
 use Rattle.cube_language.specs.declared.decl.Decl.{Decl}
 use Rattle.cube_language.specs.Cubes.{cubes_text}
 use Rattle.cube_rounds.specs.declared.round.Round.{Round}
 use Rattle.cube_rounds.specs.Bytes.{round_bytes}
 use Rattle.cube_rounds.specs.Demands.{FitsRound}
-use Rattle.cube_rounds.specs.Headers.{open_gate, header_bytes, FitsHeader}
-use Rattle.cube_rounds.specs.Stands.{Kept, kept_of_cubes, kept_with, kept_with_all, RoundsMayFollow, rounds_bytes, file_bytes, FileStands, HeadersStand, RoundsFollow}
+use Rattle.cube_rounds.specs.Headers.{open_gate, header_bytes}
+use Rattle.cube_rounds.specs.Stands.{Kept, kept_of_cubes, kept_with, kept_with_all, RoundsMayFollow, rounds_bytes, HeadersStand, RoundsFollow}
 
 pub headers_stand : HeadersStand
 headers_stand digest generation cubes gate rest fits shut =

@@ -1,4 +1,4 @@
-use Rattle.std.proofs.Common.{ap, sym, ◌∙◌, rules}
+use Rattle.std.proofs.Common.{ap, sym, ◌∙◌}
 use Rattle.cube_language.specs.Cubes.{cubes_text}
 use Rattle.round_fields.proofs.Told.{told_is_some, told_of_other, told_of_fault, never}
 use Rattle.round_fields.proofs.canonical.canonical_cubes.Goals as goal
