@@ -4,3 +4,4 @@ pub mod Agreement
 pub mod InOrder
 pub mod Finished
 pub mod Blindness
+pub mod MayCalls
