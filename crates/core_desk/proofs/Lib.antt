@@ -5,3 +5,4 @@ pub mod InOrder
 pub mod Finished
 pub mod Blindness
 pub mod MayCalls
+pub mod KnownCubes

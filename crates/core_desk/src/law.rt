@@ -7,6 +7,7 @@ ghost use Rattle.std.specs.Prelude.{
   true,
   false,
   List,
+  length,
   ◌∷◌,
   All,
   IfSome,
@@ -22,7 +23,8 @@ ghost use Rattle.cube_journal.specs.Order.{IsInOrder};
 ghost use Rattle.aosi_register.specs.declared.answer.RoundAnswer.{RoundAnswer};
 ghost use Rattle.aosi_register.specs.declared.answer.RoundEnd.{RoundEnd};
 ghost use Rattle.aosi_desk.specs.declared.cube.CubeAnswer.{CubeAnswer};
-ghost use Rattle.core_events.specs.Cells.{counters_of_run};
+ghost use Rattle.core_events.specs.Cells.{counters_of_run, desk_of};
+ghost use Rattle.core_events.specs.Clients.{client_state};
 ghost use Rattle.core_events.specs.Events.{
   Opening,
   OnDesk,
@@ -90,4 +92,10 @@ pub fn desk_calls_meet_their_conditions()
     ensures ends { (o : Opening) (a epoch : ℕ) (end : RoundEnd) (es : List CoreEvent)
         → IsRun o (By a (OnDesk (RoundClose epoch end)) ∷ es)
         → (counters_of_run o es).round ≡ Some epoch }
+{}
+
+/// The cubes that a client was told of are there.
+pub fn told_cubes_are_there()
+    ensures { (o : Opening) (es : List CoreEvent) (a : ℕ) → IsRun o es
+        → (client_state o a es).cubes ≤ length (desk_of o es).cubes }
 {}
