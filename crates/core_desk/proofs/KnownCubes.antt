@@ -1,8 +1,7 @@
 -- The cubes that a client was told of are there.
-use Rattle.std.proofs.Common.{◌≡◌, ◌∙◌, ℕ, ◌+◌, ◌-◌, ◌≤◌, ◌<◌, ◌==◌, Bool, true, false, List, [], ◌∷◌, ◌++◌, length, drop, Option, Some, None, if◌then◌else◌, refl, sym, ap, arith, eqb-true, length-append, length-drop}
+use Rattle.std.proofs.Common.{◌≡◌, ◌∙◌, ℕ, ◌+◌, ◌-◌, ◌≤◌, ◌==◌, Bool, true, false, List, [], ◌∷◌, length, Option, Some, None, if◌then◌else◌, refl, ap, arith, eqb-true, length-append, length-drop}
 use Rattle.std.proofs.lemmas.Option.{none-some, same_Some, slice_get_within}
 use Rattle.cube_language.specs.CubesText.{cubes_limit}
-use Rattle.cube_language.specs.declared.decl.Decl.{Decl}
 use Rattle.cube_journal.specs.Legal.{has_cube}
 use Rattle.aosi_register.specs.State.{state_of}
 use Rattle.aosi_desk.specs.declared.cube.CubeAnswer.{CubeAnswer}
@@ -11,7 +10,7 @@ use Rattle.aosi_desk.specs.declared.cube.CubeFound.TheVariants.{Found, Unknown}
 use Rattle.aosi_desk.specs.Desks.{DeskState, cube_answer, decl_names}
 use Rattle.core_events.specs.Cells.{desk_of, desk_after}
 use Rattle.core_events.specs.Clients.{ClientState, client_state, client_after_call, cubes_in, greater_of}
-use Rattle.core_events.specs.Events.{Opening, DeskCall, OpenWrite, OpenRead, Commit, AbortEnd, CloseRead, TakeNote, CreateCube, FindCube, CubesFrom, CountersNow, RoundOpen, RoundClose, StoreFailed, ClientCall, OnDesk, OnNames, Post, Fetch, CloseMail, NoChange, CoreEvent, By, At}
+use Rattle.core_events.specs.Events.{Opening, CreateCube, FindCube, CubesFrom, ClientCall, OnDesk, CoreEvent, By, At}
 use Rattle.core_events.specs.Fitting.{Fits}
 use Rattle.core_events.specs.Runs.{IsRun, CallSays}
 

@@ -1,6 +1,5 @@
 -- What a mail asks of whoever posts and replies holds of each post and reply that fits.
-use Rattle.std.proofs.Common.{◌≡◌, ◌∙◌, ℕ, ◌==◌, Bool, true, false, ◌||◌, List, [], ◌∷◌, Option, Some, None, refl, sym, ap, eq-eqb, ne_eqb}
-use Rattle.std.proofs.lemmas.Bool.{false_from_ne_true}
+use Rattle.std.proofs.Common.{◌≡◌, ◌∙◌, ℕ, Bool, false, ◌||◌, List, [], ◌∷◌, Option, Some, None, refl, sym, ap, eq-eqb, ne_eqb}
 use Rattle.core_events.specs.Cells.{Letter, WorkerState, Free, Took, Worked, queue_of, reply_for, worker_of}
 use Rattle.core_events.specs.Clients.{client_state}
 use Rattle.core_events.specs.Events.{Opening, flusher, Post, Reply, CoreEvent, By, At}
@@ -8,7 +7,7 @@ use Rattle.core_events.specs.Fitting.{FitsWork, RoundProgress, round_progress}
 use Rattle.core_events.specs.Jobs.{CoreJob, JobAnswer}
 use Rattle.core_events.specs.Runs.{IsRun}
 use Rattle.core_mails.specs.Histories.{has_letter_of, is_serving, HasNoJob, HasJobOut}
-use Rattle.core_mails.proofs.Places.{JobPlace, Nowhere, Asked, Answered, place, Lacks, IsBusy, FitsPlaces, lacks-unasked, nowhere-asked, nowhere-answered, asked-answered}
+use Rattle.core_mails.proofs.Places.{JobPlace, Nowhere, place, Lacks, IsBusy, FitsPlaces, lacks-unasked, nowhere-asked, nowhere-answered, asked-answered}
 use Rattle.core_mails.proofs.Posted.{run-posted, none-out, not-out}
 
 no-letter : (a : ℕ) (queue : List Letter) → Lacks a queue → has_letter_of a queue ≡ false
