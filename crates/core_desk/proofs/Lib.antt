@@ -4,3 +4,5 @@ pub mod Agreement
 pub mod InOrder
 pub mod Finished
 pub mod Blindness
+pub mod MayCalls
+pub mod KnownCubes

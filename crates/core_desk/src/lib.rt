@@ -3,4 +3,7 @@
 
 mod law;
 
-pub use law::{bounds_stay_safe, nothing_aborted_counts};
+pub use law::{
+    bounds_stay_safe, desk_calls_meet_their_conditions, nothing_aborted_counts,
+    told_cubes_are_there,
+};

@@ -1,9 +1,9 @@
 -- What was posted to a mail, what its worker took and made, and what became of a client's last job.
 -- Source: this project's own.
-use Rattle.std.specs.Prelude.{◌≡◌, ℕ, Bool, true, false, ◌==◌, List, [], ◌∷◌, ◌++◌, Option, Some, None, if◌then◌else◌}
+use Rattle.std.specs.Prelude.{◌≡◌, ℕ, Bool, true, false, ◌||◌, ◌==◌, List, [], ◌∷◌, ◌++◌, Option, Some, None, if◌then◌else◌}
 use Rattle.core_events.specs.Jobs.{CoreJob, JobAnswer}
 use Rattle.core_events.specs.Events.{ClientCall, Post, WorkerMove, Take, Work, Reply, CoreEvent, By, At}
-use Rattle.core_events.specs.Cells.{Letter, letter, WorkerState, Free, Took, Worked, worker_of}
+use Rattle.core_events.specs.Cells.{Letter, letter, WorkerState, Free, Took, Worked, queue_of, reply_for, worker_of}
 
 -- All jobs that were posted to a mail, the oldest first. The tests say whether a call or move is on this mail.
 abbrev pub letters_after : Bool → Letter → List Letter → List Letter
@@ -112,3 +112,25 @@ pub record IsAnswered (mail client : ℕ) (answer : JobAnswer) (es : List CoreEv
   pub job : CoreJob
   pub asked : last_post mail client es ≡ Some job
   pub once : done_since_post mail client es ≡ record { client = client; job = job; answer = answer } ∷ []
+
+-- A client has a job in a queue, and a worker has a client's job.
+abbrev pub has_letter_of : ℕ → List Letter → Bool
+has_letter_of client [] = false
+has_letter_of client (x ∷ queue) = x.client == client || has_letter_of client queue
+
+abbrev pub is_serving : ℕ → WorkerState → Bool
+is_serving client Free = false
+is_serving client (Took other job) = other == client
+is_serving client (Worked other job answer) = other == client
+
+-- The client's job is out: the worker has it, and it has neither a job in the queue nor an answer to fetch.
+pub record HasJobOut (queue : List Letter) (held : Option JobAnswer) (by : WorkerState) (client : ℕ) : Type 0 where
+  pub letter : has_letter_of client queue ≡ false
+  pub worker : is_serving client by ≡ true
+  pub reply : held ≡ None
+
+-- The client has no job at the mail, neither in the queue nor at the worker, and no answer to fetch.
+pub record HasNoJob (mail client : ℕ) (es : List CoreEvent) : Type 0 where
+  pub letter : has_letter_of client (queue_of mail es) ≡ false
+  pub worker : is_serving client (worker_of mail es) ≡ false
+  pub reply : reply_for mail client es ≡ None

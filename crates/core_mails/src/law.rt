@@ -1,9 +1,9 @@
 //! Laws of the mails, over every run of the core.
 
-ghost use Rattle.std.specs.Prelude.{◌≡◌, ℕ, List, ◌++◌, Some};
+ghost use Rattle.std.specs.Prelude.{◌≡◌, ℕ, List, ◌∷◌, ◌++◌, Some};
 ghost use Rattle.core_events.specs.Cells.{queue_of, reply_for, worker_of};
-ghost use Rattle.core_events.specs.Events.{Opening, CoreEvent};
-ghost use Rattle.core_events.specs.Jobs.{JobAnswer};
+ghost use Rattle.core_events.specs.Events.{Opening, CoreEvent, By, At, Post, Reply};
+ghost use Rattle.core_events.specs.Jobs.{CoreJob, JobAnswer};
 ghost use Rattle.core_events.specs.Runs.{IsRun};
 ghost use Rattle.core_mails.specs.Histories.{
   posts_of,
@@ -12,6 +12,8 @@ ghost use Rattle.core_mails.specs.Histories.{
   letters_of,
   job_to_come,
   IsAnswered,
+  HasJobOut,
+  HasNoJob,
 };
 
 /// Jobs are taken in the order in which they were posted, and each is done once, in that order.
@@ -27,4 +29,14 @@ pub fn fetches_serve_posts()
     ensures { (o : Opening) (es : List CoreEvent) (mail client : ℕ) (answer : JobAnswer)
         → IsRun o es
         → reply_for mail client es ≡ Some answer → IsAnswered mail client answer es }
+{}
+
+/// What a mail asks of whoever calls it holds of each post and reply that fits: who posts has no job there
+/// and no answer to fetch, and a reply is to the client whose job is out.
+pub fn mail_calls_meet_their_conditions()
+    ensures posts { (o : Opening) (a mail : ℕ) (job : CoreJob) (es : List CoreEvent)
+        → IsRun o (By a (Post mail job) ∷ es) → HasNoJob mail a es }
+    ensures replies { (o : Opening) (mail client : ℕ) (answer : JobAnswer) (es : List CoreEvent)
+        → IsRun o (At mail (Reply client answer) ∷ es)
+        → HasJobOut (queue_of mail es) (reply_for mail client es) (worker_of mail es) client }
 {}

@@ -3,4 +3,4 @@
 
 mod law;
 
-pub use law::{fetches_serve_posts, workers_do_what_they_take};
+pub use law::{fetches_serve_posts, mail_calls_meet_their_conditions, workers_do_what_they_take};

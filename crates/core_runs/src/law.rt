@@ -18,10 +18,12 @@ ghost use Rattle.core_runs.specs.Isolation.{IsOfOther};
 ghost use Rattle.core_runs.specs.Queries.{HasAnswered, rows_asked, rows_fetched};
 ghost use Rattle.core_runs.specs.Told.{rolled_back, told_of};
 
-/// A purge is at an epoch up to LSE.
+/// A purge is at an epoch up to LSE, and no client was shown a greater LSE than the desk has.
 pub fn purges_stay_safe()
-    ensures { (o : Opening) (es : List CoreEvent) (mail epoch : ℕ) (answer : JobAnswer)
+    ensures purge { (o : Opening) (es : List CoreEvent) (mail epoch : ℕ) (answer : JobAnswer)
         → IsRun o (At mail (Work (Purge epoch) answer) ∷ es) → epoch ≤ (counters_of_run o es).lse }
+    ensures shown { (o : Opening) (es : List CoreEvent) (client : ℕ) → IsRun o es
+        → (client_state o client es).lse ≤ (counters_of_run o es).lse }
 {}
 
 /// Snapshot isolation: what an open snapshot sees of a brick stays as it is, whatever job of
