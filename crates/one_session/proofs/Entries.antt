@@ -49,7 +49,7 @@ lower_first_at : (low first last : ℕ) (e : JournalEntry) (part : List JournalE
 lower_first_at low first last e part None l h = absurd h
 lower_first_at low first last e part (Some j) l h = (omega (arith, l, h.0), h.1, h.2)
 
-lower_first : (low first last : ℕ) (part : List JournalEntry) → low ≤ first → AreNumbered first last part
+pub lower_first : (low first last : ℕ) (part : List JournalEntry) → low ≤ first → AreNumbered first last part
     → AreNumbered low last part
 lower_first low first last [] l h = tt
 lower_first low first last (e ∷ part) l h = lower_first_at low first last e part (statement_of e) l h

@@ -9,3 +9,6 @@ pub mod Order
 pub mod InOrder
 pub mod Coded
 pub mod RowValues
+pub mod CubesBehind
+pub mod Ends
+pub mod Befores

@@ -1,15 +1,17 @@
 -- What the one session of a run has behind it, and the runs that may go on from there.
 -- Source: this project's own. A promise of what was done speaks of every run that begins with it, as with prophecy
 -- variables (Abadi and Lamport, 1991).
-use Rattle.std.specs.Prelude.{◌≡◌, ℕ, ◌+◌, ◌≤◌, false, List, [], ◌∷◌, ◌++◌, length, take}
+use Rattle.std.specs.Prelude.{◌≡◌, ℕ, ◌+◌, ◌≤◌, Bool, true, false, ◌||◌, is_none, List, [], ◌∷◌, ◌++◌, length, take}
+use Rattle.std.specs.List.{list_all}
 use Rattle.cube_values.specs.declared.row.StoredRow.{StoredRow}
 use Rattle.cube_language.specs.declared.decl.Decl.{Decl}
 use Rattle.cube_language.specs.declared.decl.DimDecl.{DimDecl}
+use Rattle.cube_journal.specs.Entries.{session_of}
 use Rattle.cube_journal.specs.Legal.{CountersAllowAll}
 use Rattle.cube_journal.specs.declared.journal_entry.JournalEntry.{JournalEntry}
 use Rattle.cube_run.specs.FinalNames.{HasDimension, IsDictionary, names_at}
 use Rattle.cube_run.specs.RunRecords.{RunRecord, Sentence, LoadedFile, Missing}
-use Rattle.cube_run.specs.SessionSteps.{entries_of, session_part}
+use Rattle.cube_run.specs.SessionSteps.{belongs_to, entries_of, session_part}
 use Rattle.played_scripts.specs.PlayedRuns.{AreNumbered}
 
 -- What stands at the beginning of a run: the safe epoch, the rows and names that are kept, the cubes, and after how many
@@ -71,6 +73,14 @@ pub record GoesOn (beginning : Beginning) (past : SessionPast) (run : RunRecord)
 -- The session's entries are those of the statements behind it, in their order.
 abbrev pub IsInTurn : SessionPast → Type 0
 IsInTurn past = AreNumbered 1 (last_number past) (session_part 1 past.journal)
+
+-- An entry is the session's or the flusher's.
+abbrev pub has_one_owner : JournalEntry → Bool
+has_one_owner e = belongs_to 1 e || is_none (session_of e)
+
+-- Each entry behind is.
+abbrev pub IsOwned : SessionPast → Type 0
+IsOwned past = list_all has_one_owner past.journal ≡ true
 
 -- Each dictionary begins with the names that it had.
 abbrev pub NamesOnlyCome : List (List (List (List ℕ))) → List (List (List (List ℕ))) → Type 0

@@ -13,12 +13,13 @@ ghost use Rattle.std.specs.Prelude.{
   true,
   Some,
   None,
+  IsSome,
   filter,
   fold,
   map,
   slice_get,
 };
-ghost use Rattle.std.specs.List.{AllByRecursion, AllZip, list_any};
+ghost use Rattle.std.specs.List.{AllByRecursion, AllZip, list_all, list_any};
 ghost use Rattle.cube_journal.specs.declared.journal_entry.JournalEntry.{JournalEntry};
 ghost use Rattle.cube_journal.specs.declared.reply.Reply.{Reply};
 ghost use Rattle.cube_values.specs.declared.query.BoundQuery.{BoundQuery};
@@ -39,12 +40,15 @@ ghost use Rattle.cube_values.specs.Sees.{sees};
 ghost use Rattle.cube_values.specs.Visible.{visible_rows};
 ghost use Rattle.cube_journal.specs.Counters.{journal_state};
 ghost use Rattle.cube_journal.specs.Legal.{CountersAllowAll};
-ghost use Rattle.cube_run.specs.RunRecords.{Catalog, RunRecord, Sentence, catalog_of, script_of};
+ghost use Rattle.cube_run.specs.Merge.{has_owner};
+ghost use Rattle.cube_run.specs.StatementEntries.{script_end};
+ghost use Rattle.cube_run.specs.RunRecords.{Catalog, RunRecord, Sentence, catalog_of, cube_called, cubes_at, script_of};
 ghost use Rattle.cube_run.specs.RunText.{IsReply, reader_of};
 ghost use Rattle.cube_run.specs.RunTransactions.{DoneOperation, run_transactions, transactions_inside};
 ghost use Rattle.cube_run.specs.SessionStates.{Mode, SessionState, fresh_session, session_after};
-ghost use Rattle.cube_run.specs.SessionSteps.{entries_of, session_part, steps_of};
-ghost use Rattle.played_scripts.specs.Promises.{IsExecuted};
+ghost use Rattle.cube_run.specs.SessionSteps.{belongs_to, entries_of, journal_before, session_part, steps_of};
+ghost use Rattle.played_scripts.specs.Promises.{IsExecuted, IsPlayed};
+ghost use Rattle.played_scripts.specs.PlayedRuns.{HavePlayed};
 ghost use Rattle.one_session.specs.Changes.{
   AllStandForValues,
   AreNamedApart,
@@ -62,6 +66,7 @@ ghost use Rattle.one_session.specs.Pasts.{
   GoesOn,
   IsInTurn,
   IsOneMore,
+  IsOwned,
   SessionPast,
   last_number,
   nothing_behind,
@@ -71,6 +76,7 @@ ghost use Rattle.one_session.specs.Behind.{
   HaveDone,
   IsOpenFrom,
   IsSettled,
+  cubes_behind,
   last_step,
   steps_behind,
   transactions_at,
@@ -223,4 +229,39 @@ pub fn queries_answer_for_all_that_go_on()
         → ComeFor d (lists_at run.names query.cube) rows (rows_in_cube d.name stored)
         → table_of query.group query.items (rows_taken (lists_at past.names query.cube) query rows)
         ≡ answer (resolved_query d s) stored }
+{}
+
+/// The cubes that are there are there in each run that goes on, at the same places.
+pub fn cubes_behind_stay()
+    ensures all { (beginning : Beginning) (past : SessionPast) (run : RunRecord)
+        → GoesOn beginning past run → IsInTurn past → IsOwned past
+        → cubes_at run past.journal ≡ cubes_behind beginning past }
+    ensures each { (beginning : Beginning) (past : SessionPast) (run : RunRecord) (cube : ℕ) (d : Decl)
+        → GoesOn beginning past run → IsInTurn past → IsOwned past
+        → slice_get (cubes_behind beginning past) cube ≡ Some d → slice_get (catalog_of run).cubes cube ≡ Some d }
+{}
+
+/// What stands before the statement that came last: all that was behind before it, where its own entry comes first of
+/// what was added; and in any case each cube that was there.
+pub fn what_was_behind_stands_before()
+    ensures journal { (beginning : Beginning) (before after : SessionPast) (sentence : Sentence) (e : JournalEntry)
+        (added : List JournalEntry) (run : RunRecord)
+        → IsInTurn before → IsOneMore before after sentence (e ∷ added) → belongs_to 1 e ≡ true
+        → GoesOn beginning after run
+        → journal_before 1 (last_number before + 1) run.journal ≡ before.journal }
+    ensures cube { (beginning : Beginning) (before after : SessionPast) (sentence : Sentence)
+        (added : List JournalEntry) (run : RunRecord) (cube : ℕ) (d : Decl)
+        → IsInTurn before → IsOwned before → IsOneMore before after sentence added → GoesOn beginning after run
+        → slice_get (cubes_behind beginning before) cube ≡ Some d
+        → IsSome (cube_called (cubes_at run (journal_before 1 (last_number before + 1) run.journal)) d.name) }
+{}
+
+/// Where the script is played and its end has left its entries, the run is played.
+pub fn the_end_completes_a_run()
+    ensures { (beginning : Beginning) (past : SessionPast) (run : RunRecord) (replies : List Reply)
+        (state : SessionState) (added : List JournalEntry)
+        → IsPlayed (GoesOn beginning) 1 past.sentences past replies state → IsInTurn past → GoesOn beginning past run
+        → run.scripts ≡ past.sentences ∷ [] → run.journal ≡ past.journal ++ added
+        → session_part 1 added ≡ script_end 1 (last_number past + 1) state.mode state.watch
+        → list_all (has_owner run) run.journal ≡ true → HavePlayed run (replies ∷ []) }
 {}
