@@ -23,7 +23,7 @@ use Rattle.one_session.proofs.Entries.{lower_first}
 le_no : (a b : ℕ) → b < a → nat_le a b ≡ false
 le_no a b l = grind (arith, nat_tests)
 
-le_yes : (a b : ℕ) → a ≤ b → nat_le a b ≡ true
+pub le_yes : (a b : ℕ) → a ≤ b → nat_le a b ≡ true
 le_yes a b l = grind (arith, nat_tests)
 
 -- An entry of an earlier statement, and the rest behind it.

@@ -12,3 +12,5 @@ pub mod RowValues
 pub mod CubesBehind
 pub mod Ends
 pub mod Befores
+pub mod Declared
+pub mod Answering

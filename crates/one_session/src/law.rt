@@ -42,7 +42,7 @@ ghost use Rattle.cube_journal.specs.Counters.{journal_state};
 ghost use Rattle.cube_journal.specs.Legal.{CountersAllowAll};
 ghost use Rattle.cube_run.specs.Merge.{has_owner};
 ghost use Rattle.cube_run.specs.StatementEntries.{script_end};
-ghost use Rattle.cube_run.specs.RunRecords.{Catalog, RunRecord, Sentence, catalog_of, cube_called, cubes_at, script_of};
+ghost use Rattle.cube_run.specs.RunRecords.{Catalog, RunRecord, Sentence, catalog_of, cube_called, cubes_at, declaration_of, names_of_cube, script_of};
 ghost use Rattle.cube_run.specs.RunText.{IsReply, reader_of};
 ghost use Rattle.cube_run.specs.RunTransactions.{DoneOperation, run_transactions, transactions_inside};
 ghost use Rattle.cube_run.specs.SessionStates.{Mode, SessionState, fresh_session, session_after};
@@ -54,6 +54,7 @@ ghost use Rattle.one_session.specs.Changes.{
   AreNamedApart,
   ChangeAt,
   ComeFor,
+  IsReadBy,
   StandInOrder,
   StandsForDone,
   counts_for,
@@ -239,6 +240,44 @@ pub fn cubes_behind_stay()
     ensures each { (beginning : Beginning) (past : SessionPast) (run : RunRecord) (cube : ℕ) (d : Decl)
         → GoesOn beginning past run → IsInTurn past → IsOwned past
         → slice_get (cubes_behind beginning past) cube ≡ Some d → slice_get (catalog_of run).cubes cube ≡ Some d }
+{}
+
+/// A cube that is there is the one of its name in each run that goes on, with the dictionaries at its place.
+pub fn declarations_behind_stay()
+    ensures declaration { (beginning : Beginning) (past : SessionPast) (run : RunRecord) (cube : ℕ) (d : Decl)
+        → GoesOn beginning past run → IsInTurn past → IsOwned past → AreNamedApart (cubes_behind beginning past)
+        → slice_get (cubes_behind beginning past) cube ≡ Some d → declaration_of (catalog_of run) d.name ≡ d }
+    ensures names { (beginning : Beginning) (past : SessionPast) (run : RunRecord) (cube : ℕ) (d : Decl)
+        → GoesOn beginning past run → IsInTurn past → IsOwned past → AreNamedApart (cubes_behind beginning past)
+        → slice_get (cubes_behind beginning past) cube ≡ Some d
+        → names_of_cube (catalog_of run) d.name ≡ lists_at run.names cube }
+{}
+
+/// What a query of the session is answered in each run that goes on is the table of the rows by coordinates that it takes
+/// now: of a reader of a settled epoch, and of the writer of the transaction that is open.
+pub fn a_session_reads_by_coordinates()
+    ensures reader { (beginning : Beginning) (past : SessionPast) (run : RunRecord) (done : List DoneOperation)
+        (state : SessionState) (high bound epoch : ℕ) (d : Decl) (s : Statement) (query : BoundQuery)
+        (kept : List CodedRow) (changes : List ChangeAt)
+        → HaveDone beginning past done state → StandInOrder past done high → IsOwned past
+        → GoesOn beginning past run → IsSettled (journal_state beginning.safe past.journal) state.mode bound
+        → beginning.safe ≤ epoch → epoch < bound
+        → IsReadBy beginning past run d s query kept changes (filter (counts_for past (reader_of epoch)) done)
+        → answer (resolved_query d s) (visible_rows (reader_of epoch) (run_transactions run))
+        ≡ table_of query.group query.items
+        (rows_taken (lists_at past.names query.cube) query (rows_with_changes query.cube kept changes)) }
+    ensures writer { (beginning : Beginning) (past : SessionPast) (run : RunRecord) (done : List DoneOperation)
+        (state : SessionState) (high : ℕ) (writer : Snapshot) (d : Decl) (s : Statement) (query : BoundQuery)
+        (kept : List CodedRow) (changes : List ChangeAt)
+        → HaveDone beginning past done state → StandInOrder past done high → IsOwned past
+        → GoesOn beginning past run → IsSettled (journal_state beginning.safe past.journal) state.mode writer.epoch
+        → beginning.safe < writer.epoch → sees writer beginning.safe ≡ true → sees writer writer.epoch ≡ true
+        → writer.own ≡ true
+        → IsReadBy beginning past run d s query kept changes (filter (counts_for past writer) done)
+        → answer (resolved_query d s)
+        (visible_rows writer (transactions_inside run 1 (script_of run 1) (last_number past + 1) writer.epoch))
+        ≡ table_of query.group query.items
+        (rows_taken (lists_at past.names query.cube) query (rows_with_changes query.cube kept changes)) }
 {}
 
 /// What stands before the statement that came last: all that was behind before it, where its own entry comes first of
