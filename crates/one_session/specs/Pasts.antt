@@ -35,6 +35,20 @@ pub record SessionPast : Type 0 where
 abbrev pub last_number : SessionPast → ℕ
 last_number past = length past.sentences
 
+-- A number is that of a statement behind it.
+abbrev pub IsNumberBehind : SessionPast → ℕ → Type 0
+IsNumberBehind past number = (1 ≤ number) × (number ≤ last_number past)
+
+-- What stands at the beginning of this run.
+abbrev pub beginning_of : RunRecord → Beginning
+beginning_of run = record {
+  safe = run.safe;
+  kept = run.kept;
+  kept_names = run.kept_names;
+  cubes = run.cubes;
+  round_every = run.round_every;
+}
+
 -- Nothing is behind a session at the beginning of its run.
 abbrev pub nothing_behind : Beginning → SessionPast
 nothing_behind beginning =
@@ -63,10 +77,10 @@ pub record GoesOn (beginning : Beginning) (past : SessionPast) (run : RunRecord)
   pub round_every : run.round_every ≡ beginning.round_every
   pub rest : List Sentence
   pub script : run.scripts ≡ (past.sentences ++ rest) ∷ []
-  pub files : (number : ℕ) → number ≤ last_number past → run.file 1 number ≡ past.files number
+  pub files : (number : ℕ) → IsNumberBehind past number → run.file 1 number ≡ past.files number
   pub later : List JournalEntry
   pub journal : run.journal ≡ past.journal ++ later
-  pub others : (number : ℕ) → number ≤ last_number past → entries_of 1 number later ≡ []
+  pub others : (number : ℕ) → IsNumberBehind past number → entries_of 1 number later ≡ []
   pub legal : CountersAllowAll run.safe [] run.journal
   pub names : EndsWithMore run past.names
 
@@ -92,7 +106,7 @@ NamesOnlyCome before after =
 -- statement's.
 pub record IsOneMore (before after : SessionPast) (sentence : Sentence) (added : List JournalEntry) : Type 0 where
   pub sentences : after.sentences ≡ before.sentences ++ sentence ∷ []
-  pub files : (number : ℕ) → number ≤ last_number before → after.files number ≡ before.files number
+  pub files : (number : ℕ) → IsNumberBehind before number → after.files number ≡ before.files number
   pub journal : after.journal ≡ before.journal ++ added
   pub own : AreNumbered (last_number before + 1) (last_number before + 1) (session_part 1 added)
   pub names : NamesOnlyCome before.names after.names

@@ -64,11 +64,14 @@ ghost use Rattle.one_session.specs.Changes.{
 };
 ghost use Rattle.one_session.specs.Pasts.{
   Beginning,
+  EndsWithMore,
   GoesOn,
   IsInTurn,
+  IsNumberBehind,
   IsOneMore,
   IsOwned,
   SessionPast,
+  beginning_of,
   last_number,
   nothing_behind,
 };
@@ -84,9 +87,12 @@ ghost use Rattle.one_session.specs.Behind.{
   transactions_behind,
 };
 
-/// A run that goes on with one statement more behind goes on from what was behind before it, and the entries stay in
-/// turn.
+/// Each run of one session goes on from nothing. A run that goes on with one statement more behind goes on from what was
+/// behind before it, and the entries stay in turn.
 pub fn a_longer_past_goes_on()
+    ensures beginning { (run : RunRecord) (script : List Sentence)
+        → run.scripts ≡ script ∷ [] → CountersAllowAll run.safe [] run.journal → EndsWithMore run run.kept_names
+        → GoesOn (beginning_of run) (nothing_behind (beginning_of run)) run }
     ensures earlier { (beginning : Beginning) (before after : SessionPast) (sentence : Sentence)
         (added : List JournalEntry) (run : RunRecord)
         → IsOneMore before after sentence added → GoesOn beginning after run → GoesOn beginning before run }
@@ -98,7 +104,7 @@ pub fn a_longer_past_goes_on()
 /// just the entries that were added; so the steps of the statements behind are the same in each run that goes on.
 pub fn what_is_behind_stays()
     ensures entries { (beginning : Beginning) (past : SessionPast) (run : RunRecord) (number : ℕ)
-        → GoesOn beginning past run → number ≤ last_number past
+        → GoesOn beginning past run → IsNumberBehind past number
         → entries_of 1 number run.journal ≡ entries_of 1 number past.journal }
     ensures last { (beginning : Beginning) (before after : SessionPast) (sentence : Sentence)
         (added : List JournalEntry) (run : RunRecord)
