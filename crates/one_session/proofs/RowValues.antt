@@ -1,8 +1,8 @@
 -- Rows by coordinates stand for the same values however many names may come.
-use Rattle.std.proofs.Common.{◌≡◌, ◌∙◌, ℕ, zero, suc, ◌<◌, Bool, true, false, List, [], ◌∷◌, ◌++◌, length, map, take, drop, All, Option, Some, None, get_or, slice_get, unwrap_or, refl, sym, ap, arith, length-append}
+use Rattle.std.proofs.Common.{◌≡◌, ◌∙◌, ℕ, zero, suc, ◌<◌, ◌≤◌, Bool, true, false, List, [], ◌∷◌, ◌++◌, length, map, take, drop, All, Option, Some, None, get_or, slice_get, unwrap_or, refl, sym, ap, arith, length-append}
 use Rattle.std.specs.List.{AllByRecursion}
 use Rattle.std.specs.Option.{option_and_then}
-use Rattle.std.proofs.lemmas.List.{take-append-drop}
+use Rattle.std.proofs.lemmas.List.{take-append-drop, take_all}
 use Rattle.std.proofs.lemmas.List.Elements.{All-cons, All-nil}
 use Rattle.std.proofs.lemmas.Option.{slice_get-get_or}
 use Rattle.cube_values.specs.Answer.{answer, table_of}
@@ -16,7 +16,7 @@ use Rattle.cube_language.specs.ResolvedNames.{resolved_query}
 use Rattle.cube_language.specs.declared.decl.Decl.{Decl}
 use Rattle.cube_language.specs.declared.decl.DimDecl.{DimDecl}
 use Rattle.cube_language.specs.declared.statement.Statement.{Statement}
-use Rattle.cube_run.specs.FinalNames.{names_at}
+use Rattle.cube_run.specs.FinalNames.{HasDimension, names_at}
 use Rattle.cube_run.specs.RunRecords.{RunRecord, catalog_of}
 use Rattle.agg_fold.specs.Coded.{value_for, values_for}
 use Rattle.brick_address.specs.Addresses.{AreCoords}
@@ -158,6 +158,18 @@ rows_keep beginning past run cube d (row ∷ rows) g is h =
         rest.each,
       );
     }
+
+-- ---- a full dictionary
+
+pub full_stays : (beginning : Beginning) (past : SessionPast) (run : RunRecord) (cube place : ℕ) (d : Decl)
+    (dim : DimDecl) → GoesOn beginning past run → HasDimension run cube place d dim
+    → dim.cardinality ≤ length (names_at past.names cube place)
+    → names_at run.names cube place ≡ names_at past.names cube place
+full_stays beginning past run cube place d dim g has full =
+    let ends = g.names cube place d dim has in
+    let few = ends.dictionary.few in
+    sym (take_all (length (names_at past.names cube place)) (names_at run.names cube place) (omega (arith, few, full)))
+    ∙ ends.dictionary.first
 
 -- ---- queries
 

@@ -14,6 +14,7 @@ ghost use Rattle.std.specs.Prelude.{
   Some,
   None,
   IsSome,
+  length,
   filter,
   fold,
   map,
@@ -40,6 +41,8 @@ ghost use Rattle.cube_values.specs.Sees.{sees};
 ghost use Rattle.cube_values.specs.Visible.{visible_rows};
 ghost use Rattle.cube_journal.specs.Counters.{journal_state};
 ghost use Rattle.cube_journal.specs.Legal.{CountersAllowAll};
+ghost use Rattle.cube_language.specs.declared.decl.DimDecl.{DimDecl};
+ghost use Rattle.cube_run.specs.FinalNames.{HasDimension, names_at};
 ghost use Rattle.cube_run.specs.Merge.{has_owner};
 ghost use Rattle.cube_run.specs.StatementEntries.{script_end};
 ghost use Rattle.cube_run.specs.RunRecords.{Catalog, RunRecord, Sentence, catalog_of, cube_called, cubes_at, declaration_of, names_of_cube, script_of};
@@ -211,6 +214,15 @@ pub fn changes_leave_what_operations_leave()
         → ComeFor d (lists_at catalog.names cube) rows (rows_in_cube d.name stored)
         → ComeFor d (lists_at catalog.names cube) (rows_with_changes cube rows changes)
         (rows_in_cube d.name (fold after_operation stored (map (λ o. o.operation) done))) }
+{}
+
+/// A dictionary that is full gains no name, whatever may follow.
+pub fn full_dictionaries_stay()
+    ensures { (beginning : Beginning) (past : SessionPast) (run : RunRecord) (cube place : ℕ) (d : Decl)
+        (dim : DimDecl)
+        → GoesOn beginning past run → HasDimension run cube place d dim
+        → dim.cardinality ≤ length (names_at past.names cube place)
+        → names_at run.names cube place ≡ names_at past.names cube place }
 {}
 
 /// Rows by coordinates that stand for values by the names so far stand for the same by the names in the end, whichever
