@@ -6,6 +6,7 @@ ghost use Rattle.std.specs.Prelude.{
   ◌+◌,
   ◌<◌,
   ◌≤◌,
+  ◌⊎◌,
   List,
   [],
   ◌∷◌,
@@ -43,6 +44,8 @@ ghost use Rattle.cube_journal.specs.Counters.{journal_state};
 ghost use Rattle.cube_journal.specs.Legal.{CountersAllowAll};
 ghost use Rattle.cube_language.specs.declared.decl.DimDecl.{DimDecl};
 ghost use Rattle.cube_run.specs.FinalNames.{HasDimension, names_at};
+ghost use Rattle.cube_run.specs.LoadedRows.{has_no_place_for};
+ghost use Rattle.std.specs.Str.{bytes_eq};
 ghost use Rattle.cube_run.specs.Merge.{has_owner};
 ghost use Rattle.cube_run.specs.StatementEntries.{script_end};
 ghost use Rattle.cube_run.specs.RunRecords.{Catalog, RunRecord, Sentence, catalog_of, cube_called, cubes_at, declaration_of, names_of_cube, script_of};
@@ -216,9 +219,17 @@ pub fn changes_leave_what_operations_leave()
         (rows_in_cube d.name (fold after_operation stored (map (λ o. o.operation) done))) }
 {}
 
-/// A dictionary that is full gains no name, whatever may follow.
+/// A dictionary that is full gains no name, whatever may follow; so a text that stands in a dictionary, or that a full one
+/// lacks, has in the end a place or none as it has now.
 pub fn full_dictionaries_stay()
-    ensures { (beginning : Beginning) (past : SessionPast) (run : RunRecord) (cube place : ℕ) (d : Decl)
+    ensures place { (beginning : Beginning) (past : SessionPast) (run : RunRecord) (cube place : ℕ) (d : Decl)
+        (dim : DimDecl) (text : List ℕ)
+        → GoesOn beginning past run → HasDimension run cube place d dim
+        → (list_any (λ name. bytes_eq name text) (names_at past.names cube place) ≡ true)
+        ⊎ (dim.cardinality ≤ length (names_at past.names cube place))
+        → has_no_place_for dim (names_at run.names cube place) text
+        ≡ has_no_place_for dim (names_at past.names cube place) text }
+    ensures names { (beginning : Beginning) (past : SessionPast) (run : RunRecord) (cube place : ℕ) (d : Decl)
         (dim : DimDecl)
         → GoesOn beginning past run → HasDimension run cube place d dim
         → dim.cardinality ≤ length (names_at past.names cube place)
