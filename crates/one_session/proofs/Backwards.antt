@@ -1,15 +1,16 @@
 -- From a longer past back to the one before.
-use Rattle.std.proofs.Common.{◌≡◌, ◌∙◌, ℕ, ◌+◌, List, [], ◌∷◌, ◌++◌, length, take, drop, sym, ap, arith, append_assoc}
+use Rattle.std.proofs.Common.{◌≡◌, ◌∙◌, refl, ℕ, ◌+◌, List, [], ◌∷◌, ◌++◌, length, take, drop, sym, ap, arith, append_assoc}
 use Rattle.std.proofs.lemmas.List.{take-append-drop}
 use Rattle.std.proofs.Math.Seq.{take-append_seam}
 use Rattle.std.proofs.lemmas.List.Elements.{filter-append}
+use Rattle.cube_journal.specs.Legal.{CountersAllowAll}
 use Rattle.cube_journal.specs.declared.journal_entry.JournalEntry.{JournalEntry}
 use Rattle.cube_run.specs.FinalNames.{names_at}
 use Rattle.cube_run.specs.RunRecords.{RunRecord, Sentence}
 use Rattle.cube_run.specs.SessionSteps.{belongs_to, session_part}
 use Rattle.played_scripts.specs.PlayedRuns.{AreNumbered}
 use Rattle.played_scripts.proofs.Numbered.{none_earlier}
-use Rattle.one_session.specs.Pasts.{Beginning, EndsWithMore, GoesOn, IsInTurn, IsOneMore, NamesOnlyCome, SessionPast, last_number}
+use Rattle.one_session.specs.Pasts.{beginning_of, nothing_behind, Beginning, EndsWithMore, GoesOn, IsInTurn, IsOneMore, NamesOnlyCome, SessionPast, last_number}
 use Rattle.one_session.proofs.Entries.{entries_of_both, longer_by_one, numbered_more}
 
 -- A beginning of a beginning.
@@ -57,7 +58,7 @@ goes_on_before beginning before after sentence added run m g =
           g.script
           ∙ ap (λ (ss : List Sentence). (ss ++ g.rest) ∷ []) m.sentences
           ∙ ap (λ (ss : List Sentence). ss ∷ []) (append_assoc before.sentences (sentence ∷ []) g.rest);
-      files = λ number l. g.files number (omega (arith, longer, l)) ∙ m.files number l;
+      files = λ number l. g.files number (l.0, omega (arith, longer, l.1)) ∙ m.files number l;
       later = added ++ g.later;
       journal =
           g.journal
@@ -65,11 +66,30 @@ goes_on_before beginning before after sentence added run m g =
           ∙ append_assoc before.journal added g.later;
       others = λ number l.
           entries_of_both 1 number added g.later
-          ∙ (λ i. none_earlier number (last_number before + 1) (last_number before + 1) (session_part 1 added) (omega (arith, l)) m.own i
-          ++ g.others number (omega (arith, longer, l)) i);
+          ∙ (λ i. none_earlier number (last_number before + 1) (last_number before + 1) (session_part 1 added) (omega (arith, l.1)) m.own i
+          ++ g.others number (l.0, omega (arith, longer, l.1)) i);
       legal = g.legal;
       names = names_before before.names after.names run m.names g.names;
     }
+
+pub goes_on_from_nothing : (run : RunRecord) (script : List Sentence) → run.scripts ≡ script ∷ []
+    → CountersAllowAll run.safe [] run.journal
+    → EndsWithMore run run.kept_names → GoesOn (beginning_of run) (nothing_behind (beginning_of run)) run
+goes_on_from_nothing run script scripts legal names = record {
+  safe = refl;
+  kept = refl;
+  kept_names = refl;
+  cubes = refl;
+  round_every = refl;
+  rest = script;
+  script = scripts;
+  files = λ number l. absurd (omega (arith, l.0, l.1));
+  later = run.journal;
+  journal = refl;
+  others = λ number l. absurd (omega (arith, l.0, l.1));
+  legal = legal;
+  names = names;
+}
 
 pub in_turn_after : (before after : SessionPast) (sentence : Sentence) (added : List JournalEntry)
     → IsOneMore before after sentence added → IsInTurn before → IsInTurn after

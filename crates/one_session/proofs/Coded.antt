@@ -32,10 +32,10 @@ use Rattle.one_session.proofs.Settled.{all_filter}
 eq_is : (a b : List ℕ) → bytes_eq a b ≡ true → a ≡ b
 eq_is a b h = (bytes_eq-Decides a b).0 h
 
-same_name : (a : List ℕ) → bytes_eq a a ≡ true
+pub same_name : (a : List ℕ) → bytes_eq a a ≡ true
 same_name a = (bytes_eq-Decides a a).1 refl
 
-other_name : (a b : List ℕ) → (a ≡ b → ⊥) → bytes_eq a b ≡ false
+pub other_name : (a b : List ℕ) → (a ≡ b → ⊥) → bytes_eq a b ≡ false
 other_name a b differ = false_from_ne_true (bytes_eq a b) (λ is. differ (eq_is a b is))
 
 -- ---- a change of this cube

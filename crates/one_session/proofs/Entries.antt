@@ -11,7 +11,7 @@ use Rattle.cube_run.specs.SessionSteps.{SessionStep, belongs_to, entries_of, is_
 use Rattle.played_scripts.specs.PlayedRuns.{AreNumbered}
 use Rattle.played_scripts.proofs.Numbered.{all_of_one}
 use Rattle.one_session.specs.Behind.{run_so_far, steps_behind}
-use Rattle.one_session.specs.Pasts.{Beginning, GoesOn, IsInTurn, IsOneMore, SessionPast, last_number}
+use Rattle.one_session.specs.Pasts.{Beginning, GoesOn, IsInTurn, IsNumberBehind, IsOneMore, SessionPast, last_number}
 
 is_not_of : (e : JournalEntry) (j k : ℕ) → statement_of e ≡ Some j → (j ≡ k → ⊥) → is_of_statement k e ≡ false
 is_not_of e j k s other = ap (λ (o : Option ℕ). option_map_or (λ x. x == k) o false) s ∙ ne_eqb j k other
@@ -49,7 +49,7 @@ lower_first_at : (low first last : ℕ) (e : JournalEntry) (part : List JournalE
 lower_first_at low first last e part None l h = absurd h
 lower_first_at low first last e part (Some j) l h = (omega (arith, l, h.0), h.1, h.2)
 
-lower_first : (low first last : ℕ) (part : List JournalEntry) → low ≤ first → AreNumbered first last part
+pub lower_first : (low first last : ℕ) (part : List JournalEntry) → low ≤ first → AreNumbered first last part
     → AreNumbered low last part
 lower_first low first last [] l h = tt
 lower_first low first last (e ∷ part) l h = lower_first_at low first last e part (statement_of e) l h
@@ -69,7 +69,7 @@ entries_of_both session number front back =
     ∙ filter-append (is_of_statement number) (session_part session front) (session_part session back)
 
 pub entries_behind : (beginning : Beginning) (past : SessionPast) (run : RunRecord) (number : ℕ)
-    → GoesOn beginning past run → number ≤ last_number past
+    → GoesOn beginning past run → IsNumberBehind past number
     → entries_of 1 number run.journal ≡ entries_of 1 number past.journal
 entries_behind beginning past run number g l =
     ap (entries_of 1 number) g.journal
@@ -89,18 +89,18 @@ pub last_entries : (beginning : Beginning) (before after : SessionPast) (sentenc
 last_entries beginning before after sentence added run m turn g =
     let number = last_number before + 1 in
     let longer = longer_by_one before after sentence added m in
-    entries_behind beginning after run number g (omega (arith, longer))
+    entries_behind beginning after run number g (omega arith, omega (arith, longer))
     ∙ ap (entries_of 1 number) m.journal
     ∙ entries_of_both 1 number before.journal added
     ∙ (λ i. none_later number 1 (last_number before) (session_part 1 before.journal) (omega arith) turn i
     ++ all_of_one number (session_part 1 added) m.own i)
 
 steps_same : (beginning : Beginning) (past : SessionPast) (run : RunRecord) (number : ℕ) (state : SessionState)
-    (script : List Sentence) → GoesOn beginning past run → number + length script ≤ last_number past + 1
+    (script : List Sentence) → GoesOn beginning past run → 1 ≤ number → number + length script ≤ last_number past + 1
     → steps_from run 1 number state script ≡ steps_from (run_so_far beginning past) 1 number state script
-steps_same beginning past run number state [] g l = refl
-steps_same beginning past run number state (sentence ∷ script) g l =
-    let here : number ≤ last_number past = omega (arith, l) in
+steps_same beginning past run number state [] g first l = refl
+steps_same beginning past run number state (sentence ∷ script) g first l =
+    let here : IsNumberBehind past number = (first, omega (arith, l)) in
     let step : step_at run 1 number state sentence ≡ step_at (run_so_far beginning past) 1 number state sentence =
     (λ i. record {
       session = 1;
@@ -114,9 +114,9 @@ steps_same beginning past run number state (sentence ∷ script) g l =
     (λ i. step i ∷ steps_from run 1 (number + 1) (session_after state sentence (step i).entries) script)
     ∙ ap (λ (steps : List SessionStep). step_at (run_so_far beginning past) 1 number state sentence ∷ steps)
     (steps_same beginning past run (number + 1)
-    (session_after state sentence (entries_of 1 number past.journal)) script g (omega (arith, l)))
+    (session_after state sentence (entries_of 1 number past.journal)) script g (omega arith) (omega (arith, l)))
 
 pub same_steps : (beginning : Beginning) (past : SessionPast) (run : RunRecord)
     → GoesOn beginning past run → steps_of run 1 past.sentences ≡ steps_behind beginning past
 same_steps beginning past run g =
-    steps_same beginning past run 1 fresh_session past.sentences g (omega arith)
+    steps_same beginning past run 1 fresh_session past.sentences g (omega arith) (omega arith)

@@ -9,3 +9,8 @@ pub mod Order
 pub mod InOrder
 pub mod Coded
 pub mod RowValues
+pub mod CubesBehind
+pub mod Ends
+pub mod Befores
+pub mod Declared
+pub mod Answering

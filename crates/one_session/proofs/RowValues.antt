@@ -1,8 +1,10 @@
 -- Rows by coordinates stand for the same values however many names may come.
-use Rattle.std.proofs.Common.{◌≡◌, ◌∙◌, ℕ, zero, suc, ◌<◌, Bool, true, false, List, [], ◌∷◌, ◌++◌, length, map, take, drop, All, Option, Some, None, get_or, slice_get, unwrap_or, refl, sym, ap, arith, length-append}
-use Rattle.std.specs.List.{AllByRecursion}
+use Rattle.std.proofs.Common.{◌≡◌, ◌∙◌, ℕ, zero, suc, ◌<◌, ◌≤◌, Bool, true, false, not, ◌&&◌, ◌||◌, ◌⊎◌, nat_le, inl, inr, List, [], ◌∷◌, ◌++◌, length, map, take, drop, All, Option, Some, None, get_or, slice_get, unwrap_or, refl, sym, ap, arith, length-append}
+use Rattle.std.specs.List.{AllByRecursion, list_any}
+use Rattle.std.specs.Str.{bytes_eq}
+use Rattle.std.proofs.lemmas.List.Folds.{list_any-append}
 use Rattle.std.specs.Option.{option_and_then}
-use Rattle.std.proofs.lemmas.List.{take-append-drop}
+use Rattle.std.proofs.lemmas.List.{take-append-drop, take_all}
 use Rattle.std.proofs.lemmas.List.Elements.{All-cons, All-nil}
 use Rattle.std.proofs.lemmas.Option.{slice_get-get_or}
 use Rattle.cube_values.specs.Answer.{answer, table_of}
@@ -16,7 +18,8 @@ use Rattle.cube_language.specs.ResolvedNames.{resolved_query}
 use Rattle.cube_language.specs.declared.decl.Decl.{Decl}
 use Rattle.cube_language.specs.declared.decl.DimDecl.{DimDecl}
 use Rattle.cube_language.specs.declared.statement.Statement.{Statement}
-use Rattle.cube_run.specs.FinalNames.{names_at}
+use Rattle.cube_run.specs.FinalNames.{HasDimension, names_at}
+use Rattle.cube_run.specs.LoadedRows.{has_no_place_for}
 use Rattle.cube_run.specs.RunRecords.{RunRecord, catalog_of}
 use Rattle.agg_fold.specs.Coded.{value_for, values_for}
 use Rattle.brick_address.specs.Addresses.{AreCoords}
@@ -158,6 +161,45 @@ rows_keep beginning past run cube d (row ∷ rows) g is h =
         rest.each,
       );
     }
+
+-- ---- a full dictionary
+
+pub full_stays : (beginning : Beginning) (past : SessionPast) (run : RunRecord) (cube place : ℕ) (d : Decl)
+    (dim : DimDecl) → GoesOn beginning past run → HasDimension run cube place d dim
+    → dim.cardinality ≤ length (names_at past.names cube place)
+    → names_at run.names cube place ≡ names_at past.names cube place
+full_stays beginning past run cube place d dim g has full =
+    let ends = g.names cube place d dim has in
+    let few = ends.dictionary.few in
+    sym (take_all (length (names_at past.names cube place)) (names_at run.names cube place) (omega (arith, few, full)))
+    ∙ ends.dictionary.first
+
+and_false : (b c : Bool) → (b && false) ≡ (c && false)
+and_false true true = refl
+and_false true false = refl
+and_false false true = refl
+and_false false false = refl
+
+pub place_stays : (beginning : Beginning) (past : SessionPast) (run : RunRecord) (cube place : ℕ) (d : Decl)
+    (dim : DimDecl) (text : List ℕ) → GoesOn beginning past run → HasDimension run cube place d dim
+    → (list_any (λ name. bytes_eq name text) (names_at past.names cube place) ≡ true)
+    ⊎ (dim.cardinality ≤ length (names_at past.names cube place))
+    → has_no_place_for dim (names_at run.names cube place) text
+    ≡ has_no_place_for dim (names_at past.names cube place) text
+place_stays beginning past run cube place d dim text g has (inr full) =
+    ap (λ (names : List (List ℕ)). has_no_place_for dim names text)
+    (full_stays beginning past run cube place d dim g has full)
+place_stays beginning past run cube place d dim text g has (inl there) =
+    let before = names_at past.names cube place in
+    let after = names_at run.names cube place in
+    let still : list_any (λ name. bytes_eq name text) after ≡ true =
+    ap (list_any (λ name. bytes_eq name text)) (whole before after (g.names cube place d dim has).dictionary.first)
+    ∙ list_any-append (λ name. bytes_eq name text) before (drop (length before) after)
+    ∙ ap (λ (b : Bool). b || list_any (λ name. bytes_eq name text) (drop (length before) after)) there
+    in
+    ap (λ (b : Bool). nat_le dim.cardinality (length after) && not b) still
+    ∙ and_false (nat_le dim.cardinality (length after)) (nat_le dim.cardinality (length before))
+    ∙ sym (ap (λ (b : Bool). nat_le dim.cardinality (length before) && not b) there)
 
 -- ---- queries
 

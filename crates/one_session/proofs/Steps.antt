@@ -24,7 +24,7 @@ same_step : (beginning : Beginning) (before after : SessionPast) (state : Sessio
 same_step beginning before after state sentence added run turn m g =
     let number : last_number before + 1 ≡ last_number after = sym (longer_by_one before after sentence added m) in
     let file : run.file 1 (last_number before + 1) ≡ after.files (last_number after) =
-    ap (run.file 1) number ∙ g.files (last_number after) (omega arith)
+    ap (run.file 1) number ∙ g.files (last_number after) (omega (arith, number), omega arith)
     in
     let entries = last_entries beginning before after sentence added run m turn g in
     (λ i. record {

@@ -4,9 +4,10 @@ use Rattle.std.specs.Prelude.{◌≡◌, ℕ, ◌≤◌, true, not, ◌==◌, Li
 use Rattle.std.specs.List.{AllByRecursion}
 use Rattle.cube_values.specs.declared.operation.Operation.TheVariants.{Put}
 use Rattle.cube_values.specs.declared.operation.Transaction.{Transaction}
+use Rattle.cube_language.specs.declared.decl.Decl.{Decl}
 use Rattle.cube_journal.specs.Counters.{JournalState}
 use Rattle.cube_journal.specs.declared.journal_entry.JournalEntry.{JournalEntry}
-use Rattle.cube_run.specs.RunRecords.{RunRecord, Sentence, catalog_of}
+use Rattle.cube_run.specs.RunRecords.{RunRecord, Sentence, catalog_of, cubes_at}
 use Rattle.cube_run.specs.RunTransactions.{DoneOperation, committed_transaction, operation_done, operations_at, session_operations}
 use Rattle.cube_run.specs.SessionStates.{SessionState, Mode, Open, fresh_session}
 use Rattle.cube_run.specs.SessionSteps.{SessionStep, last_state, session_part, steps_of}
@@ -25,6 +26,10 @@ run_so_far beginning past = record {
   names = past.names;
   journal = past.journal;
 }
+
+-- The cubes that are there.
+abbrev pub cubes_behind : Beginning → SessionPast → List Decl
+cubes_behind beginning past = cubes_at (run_so_far beginning past) past.journal
 
 -- The steps of the statements behind the session.
 abbrev pub steps_behind : Beginning → SessionPast → List SessionStep

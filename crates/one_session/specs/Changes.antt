@@ -1,25 +1,30 @@
 -- The changes of a session's rows by coordinates, and the operations that they stand for.
 -- Source: AOSI (ICDE 2018), appends and deletions by epoch; Cubrick (VLDB 2016), rows by coordinates.
 use Rattle.std.specs.Prelude.{◌≡◌, ℕ, ◌≤◌, Bool, true, false, not, ◌&&◌, ◌||◌, ◌==◌, List, [], ◌∷◌, ◌++◌, map, filter, fold, slice_get, Some, if◌then◌else◌}
-use Rattle.std.specs.List.{AllByRecursion, list_any}
+use Rattle.std.specs.List.{AllByRecursion, AllZip, list_any}
 use Rattle.std.specs.Str.{bytes_eq}
 use Rattle.cube_values.specs.Sees.{sees}
 use Rattle.cube_values.specs.Spans.{span_has}
 use Rattle.cube_values.specs.declared.operation.Operation.{Operation}
 use Rattle.cube_values.specs.declared.operation.Operation.TheVariants.{Put, Drop}
+use Rattle.cube_values.specs.declared.query.BoundQuery.{BoundQuery}
 use Rattle.cube_values.specs.declared.row.CodedRow.{CodedRow}
 use Rattle.cube_values.specs.declared.row.StoredRow.{StoredRow}
 use Rattle.cube_values.specs.declared.snapshot.Snapshot.{Snapshot}
 use Rattle.cube_values.specs.declared.span.Span.{Span}
+use Rattle.cube_language.specs.Misfits.{FitsCube}
 use Rattle.cube_language.specs.declared.decl.Decl.{Decl}
+use Rattle.cube_language.specs.declared.statement.Statement.{Statement}
 use Rattle.cube_journal.specs.declared.journal_entry.JournalEntry.{JournalEntry}
 use Rattle.cube_journal.specs.declared.journal_entry.JournalEntry.TheVariants as entry
-use Rattle.cube_run.specs.RunRecords.{Catalog}
+use Rattle.cube_run.specs.RunRecords.{Catalog, RunRecord}
 use Rattle.cube_run.specs.RunTransactions.{DoneOperation, is_commit_of}
 use Rattle.cube_run.specs.SessionSteps.{session_part}
 use Rattle.condition_spans.specs.Codes.{lists_at}
-use Rattle.query_plan.specs.Ties.{StandForValues, TakesRegion, stored_for}
-use Rattle.one_session.specs.Pasts.{SessionPast}
+use Rattle.query_plan.specs.Ties.{AreDistinct, StandForValues, TakesRegion, stored_for}
+use Rattle.query_plan.specs.Bindings.{IsQueryOn}
+use Rattle.one_session.specs.Behind.{cubes_behind}
+use Rattle.one_session.specs.Pasts.{Beginning, SessionPast}
 
 -- ---- which operations count
 
@@ -99,3 +104,21 @@ AreNamedApart cubes =
 -- The rows among others that are a cube's.
 abbrev pub rows_in_cube : List ℕ → List StoredRow → List StoredRow
 rows_in_cube cube rows = filter (λ row. bytes_eq row.cube cube) rows
+
+-- The cubes that are there, with the dictionaries that a run ends with.
+abbrev pub catalog_behind : Beginning → SessionPast → RunRecord → Catalog
+catalog_behind beginning past run = record { cubes = cubes_behind beginning past; names = run.names }
+
+-- A statement's query is bound to its cube by the names so far, and read from rows by coordinates that stand for the
+-- kept ones, and from changes that stand for operations.
+pub record IsReadBy (beginning : Beginning) (past : SessionPast) (run : RunRecord) (d : Decl) (s : Statement)
+    (query : BoundQuery) (kept_rows : List CodedRow) (changed : List ChangeAt) (done : List DoneOperation)
+    : Type 0 where
+  pub apart : AreNamedApart (cubes_behind beginning past)
+  pub cube_is : slice_get (cubes_behind beginning past) query.cube ≡ Some d
+  pub fits : FitsCube d s
+  pub distinct : AreDistinct (lists_at past.names query.cube)
+  pub bound : IsQueryOn d past.names s query
+  pub kept : ComeFor d (lists_at run.names query.cube) kept_rows (rows_in_cube d.name beginning.kept)
+  pub changes : AllZip (StandsForDone (catalog_behind beginning past run)) changed done
+  pub now : AllStandForValues d (lists_at past.names query.cube) (rows_with_changes query.cube kept_rows changed)

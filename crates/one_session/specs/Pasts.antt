@@ -1,15 +1,17 @@
 -- What the one session of a run has behind it, and the runs that may go on from there.
 -- Source: this project's own. A promise of what was done speaks of every run that begins with it, as with prophecy
 -- variables (Abadi and Lamport, 1991).
-use Rattle.std.specs.Prelude.{◌≡◌, ℕ, ◌+◌, ◌≤◌, false, List, [], ◌∷◌, ◌++◌, length, take}
+use Rattle.std.specs.Prelude.{◌≡◌, ℕ, ◌+◌, ◌≤◌, Bool, true, false, ◌||◌, is_none, List, [], ◌∷◌, ◌++◌, length, take}
+use Rattle.std.specs.List.{list_all}
 use Rattle.cube_values.specs.declared.row.StoredRow.{StoredRow}
 use Rattle.cube_language.specs.declared.decl.Decl.{Decl}
 use Rattle.cube_language.specs.declared.decl.DimDecl.{DimDecl}
+use Rattle.cube_journal.specs.Entries.{session_of}
 use Rattle.cube_journal.specs.Legal.{CountersAllowAll}
 use Rattle.cube_journal.specs.declared.journal_entry.JournalEntry.{JournalEntry}
 use Rattle.cube_run.specs.FinalNames.{HasDimension, IsDictionary, names_at}
 use Rattle.cube_run.specs.RunRecords.{RunRecord, Sentence, LoadedFile, Missing}
-use Rattle.cube_run.specs.SessionSteps.{entries_of, session_part}
+use Rattle.cube_run.specs.SessionSteps.{belongs_to, entries_of, session_part}
 use Rattle.played_scripts.specs.PlayedRuns.{AreNumbered}
 
 -- What stands at the beginning of a run: the safe epoch, the rows and names that are kept, the cubes, and after how many
@@ -32,6 +34,20 @@ pub record SessionPast : Type 0 where
 -- The number of the statement behind it that was the last.
 abbrev pub last_number : SessionPast → ℕ
 last_number past = length past.sentences
+
+-- A number is that of a statement behind it.
+abbrev pub IsNumberBehind : SessionPast → ℕ → Type 0
+IsNumberBehind past number = (1 ≤ number) × (number ≤ last_number past)
+
+-- What stands at the beginning of this run.
+abbrev pub beginning_of : RunRecord → Beginning
+beginning_of run = record {
+  safe = run.safe;
+  kept = run.kept;
+  kept_names = run.kept_names;
+  cubes = run.cubes;
+  round_every = run.round_every;
+}
 
 -- Nothing is behind a session at the beginning of its run.
 abbrev pub nothing_behind : Beginning → SessionPast
@@ -61,16 +77,24 @@ pub record GoesOn (beginning : Beginning) (past : SessionPast) (run : RunRecord)
   pub round_every : run.round_every ≡ beginning.round_every
   pub rest : List Sentence
   pub script : run.scripts ≡ (past.sentences ++ rest) ∷ []
-  pub files : (number : ℕ) → number ≤ last_number past → run.file 1 number ≡ past.files number
+  pub files : (number : ℕ) → IsNumberBehind past number → run.file 1 number ≡ past.files number
   pub later : List JournalEntry
   pub journal : run.journal ≡ past.journal ++ later
-  pub others : (number : ℕ) → number ≤ last_number past → entries_of 1 number later ≡ []
+  pub others : (number : ℕ) → IsNumberBehind past number → entries_of 1 number later ≡ []
   pub legal : CountersAllowAll run.safe [] run.journal
   pub names : EndsWithMore run past.names
 
 -- The session's entries are those of the statements behind it, in their order.
 abbrev pub IsInTurn : SessionPast → Type 0
 IsInTurn past = AreNumbered 1 (last_number past) (session_part 1 past.journal)
+
+-- An entry is the session's or the flusher's.
+abbrev pub has_one_owner : JournalEntry → Bool
+has_one_owner e = belongs_to 1 e || is_none (session_of e)
+
+-- Each entry behind is.
+abbrev pub IsOwned : SessionPast → Type 0
+IsOwned past = list_all has_one_owner past.journal ≡ true
 
 -- Each dictionary begins with the names that it had.
 abbrev pub NamesOnlyCome : List (List (List (List ℕ))) → List (List (List (List ℕ))) → Type 0
@@ -82,7 +106,7 @@ NamesOnlyCome before after =
 -- statement's.
 pub record IsOneMore (before after : SessionPast) (sentence : Sentence) (added : List JournalEntry) : Type 0 where
   pub sentences : after.sentences ≡ before.sentences ++ sentence ∷ []
-  pub files : (number : ℕ) → number ≤ last_number before → after.files number ≡ before.files number
+  pub files : (number : ℕ) → IsNumberBehind before number → after.files number ≡ before.files number
   pub journal : after.journal ≡ before.journal ++ added
   pub own : AreNumbered (last_number before + 1) (last_number before + 1) (session_part 1 added)
   pub names : NamesOnlyCome before.names after.names

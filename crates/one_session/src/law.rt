@@ -6,6 +6,7 @@ ghost use Rattle.std.specs.Prelude.{
   ◌+◌,
   ◌<◌,
   ◌≤◌,
+  ◌⊎◌,
   List,
   [],
   ◌∷◌,
@@ -13,12 +14,14 @@ ghost use Rattle.std.specs.Prelude.{
   true,
   Some,
   None,
+  IsSome,
+  length,
   filter,
   fold,
   map,
   slice_get,
 };
-ghost use Rattle.std.specs.List.{AllByRecursion, AllZip, list_any};
+ghost use Rattle.std.specs.List.{AllByRecursion, AllZip, list_all, list_any};
 ghost use Rattle.cube_journal.specs.declared.journal_entry.JournalEntry.{JournalEntry};
 ghost use Rattle.cube_journal.specs.declared.reply.Reply.{Reply};
 ghost use Rattle.cube_values.specs.declared.query.BoundQuery.{BoundQuery};
@@ -39,17 +42,25 @@ ghost use Rattle.cube_values.specs.Sees.{sees};
 ghost use Rattle.cube_values.specs.Visible.{visible_rows};
 ghost use Rattle.cube_journal.specs.Counters.{journal_state};
 ghost use Rattle.cube_journal.specs.Legal.{CountersAllowAll};
-ghost use Rattle.cube_run.specs.RunRecords.{Catalog, RunRecord, Sentence, catalog_of, script_of};
+ghost use Rattle.cube_language.specs.declared.decl.DimDecl.{DimDecl};
+ghost use Rattle.cube_run.specs.FinalNames.{HasDimension, names_at};
+ghost use Rattle.cube_run.specs.LoadedRows.{has_no_place_for};
+ghost use Rattle.std.specs.Str.{bytes_eq};
+ghost use Rattle.cube_run.specs.Merge.{has_owner};
+ghost use Rattle.cube_run.specs.StatementEntries.{script_end};
+ghost use Rattle.cube_run.specs.RunRecords.{Catalog, RunRecord, Sentence, catalog_of, cube_called, cubes_at, declaration_of, names_of_cube, script_of};
 ghost use Rattle.cube_run.specs.RunText.{IsReply, reader_of};
 ghost use Rattle.cube_run.specs.RunTransactions.{DoneOperation, run_transactions, transactions_inside};
 ghost use Rattle.cube_run.specs.SessionStates.{Mode, SessionState, fresh_session, session_after};
-ghost use Rattle.cube_run.specs.SessionSteps.{entries_of, session_part, steps_of};
-ghost use Rattle.played_scripts.specs.Promises.{IsExecuted};
+ghost use Rattle.cube_run.specs.SessionSteps.{belongs_to, entries_of, journal_before, session_part, steps_of};
+ghost use Rattle.played_scripts.specs.Promises.{IsExecuted, IsPlayed};
+ghost use Rattle.played_scripts.specs.PlayedRuns.{HavePlayed};
 ghost use Rattle.one_session.specs.Changes.{
   AllStandForValues,
   AreNamedApart,
   ChangeAt,
   ComeFor,
+  IsReadBy,
   StandInOrder,
   StandsForDone,
   counts_for,
@@ -59,10 +70,14 @@ ghost use Rattle.one_session.specs.Changes.{
 };
 ghost use Rattle.one_session.specs.Pasts.{
   Beginning,
+  EndsWithMore,
   GoesOn,
   IsInTurn,
+  IsNumberBehind,
   IsOneMore,
+  IsOwned,
   SessionPast,
+  beginning_of,
   last_number,
   nothing_behind,
 };
@@ -71,15 +86,19 @@ ghost use Rattle.one_session.specs.Behind.{
   HaveDone,
   IsOpenFrom,
   IsSettled,
+  cubes_behind,
   last_step,
   steps_behind,
   transactions_at,
   transactions_behind,
 };
 
-/// A run that goes on with one statement more behind goes on from what was behind before it, and the entries stay in
-/// turn.
+/// Each run of one session goes on from nothing. A run that goes on with one statement more behind goes on from what was
+/// behind before it, and the entries stay in turn.
 pub fn a_longer_past_goes_on()
+    ensures beginning { (run : RunRecord) (script : List Sentence)
+        → run.scripts ≡ script ∷ [] → CountersAllowAll run.safe [] run.journal → EndsWithMore run run.kept_names
+        → GoesOn (beginning_of run) (nothing_behind (beginning_of run)) run }
     ensures earlier { (beginning : Beginning) (before after : SessionPast) (sentence : Sentence)
         (added : List JournalEntry) (run : RunRecord)
         → IsOneMore before after sentence added → GoesOn beginning after run → GoesOn beginning before run }
@@ -91,7 +110,7 @@ pub fn a_longer_past_goes_on()
 /// just the entries that were added; so the steps of the statements behind are the same in each run that goes on.
 pub fn what_is_behind_stays()
     ensures entries { (beginning : Beginning) (past : SessionPast) (run : RunRecord) (number : ℕ)
-        → GoesOn beginning past run → number ≤ last_number past
+        → GoesOn beginning past run → IsNumberBehind past number
         → entries_of 1 number run.journal ≡ entries_of 1 number past.journal }
     ensures last { (beginning : Beginning) (before after : SessionPast) (sentence : Sentence)
         (added : List JournalEntry) (run : RunRecord)
@@ -200,6 +219,23 @@ pub fn changes_leave_what_operations_leave()
         (rows_in_cube d.name (fold after_operation stored (map (λ o. o.operation) done))) }
 {}
 
+/// A dictionary that is full gains no name, whatever may follow; so a text that stands in a dictionary, or that a full one
+/// lacks, has in the end a place or none as it has now.
+pub fn full_dictionaries_stay()
+    ensures place { (beginning : Beginning) (past : SessionPast) (run : RunRecord) (cube place : ℕ) (d : Decl)
+        (dim : DimDecl) (text : List ℕ)
+        → GoesOn beginning past run → HasDimension run cube place d dim
+        → (list_any (λ name. bytes_eq name text) (names_at past.names cube place) ≡ true)
+        ⊎ (dim.cardinality ≤ length (names_at past.names cube place))
+        → has_no_place_for dim (names_at run.names cube place) text
+        ≡ has_no_place_for dim (names_at past.names cube place) text }
+    ensures names { (beginning : Beginning) (past : SessionPast) (run : RunRecord) (cube place : ℕ) (d : Decl)
+        (dim : DimDecl)
+        → GoesOn beginning past run → HasDimension run cube place d dim
+        → dim.cardinality ≤ length (names_at past.names cube place)
+        → names_at run.names cube place ≡ names_at past.names cube place }
+{}
+
 /// Rows by coordinates that stand for values by the names so far stand for the same by the names in the end, whichever
 /// may come.
 pub fn rows_keep_their_values()
@@ -223,4 +259,77 @@ pub fn queries_answer_for_all_that_go_on()
         → ComeFor d (lists_at run.names query.cube) rows (rows_in_cube d.name stored)
         → table_of query.group query.items (rows_taken (lists_at past.names query.cube) query rows)
         ≡ answer (resolved_query d s) stored }
+{}
+
+/// The cubes that are there are there in each run that goes on, at the same places.
+pub fn cubes_behind_stay()
+    ensures all { (beginning : Beginning) (past : SessionPast) (run : RunRecord)
+        → GoesOn beginning past run → IsInTurn past → IsOwned past
+        → cubes_at run past.journal ≡ cubes_behind beginning past }
+    ensures each { (beginning : Beginning) (past : SessionPast) (run : RunRecord) (cube : ℕ) (d : Decl)
+        → GoesOn beginning past run → IsInTurn past → IsOwned past
+        → slice_get (cubes_behind beginning past) cube ≡ Some d → slice_get (catalog_of run).cubes cube ≡ Some d }
+{}
+
+/// A cube that is there is the one of its name in each run that goes on, with the dictionaries at its place.
+pub fn declarations_behind_stay()
+    ensures declaration { (beginning : Beginning) (past : SessionPast) (run : RunRecord) (cube : ℕ) (d : Decl)
+        → GoesOn beginning past run → IsInTurn past → IsOwned past → AreNamedApart (cubes_behind beginning past)
+        → slice_get (cubes_behind beginning past) cube ≡ Some d → declaration_of (catalog_of run) d.name ≡ d }
+    ensures names { (beginning : Beginning) (past : SessionPast) (run : RunRecord) (cube : ℕ) (d : Decl)
+        → GoesOn beginning past run → IsInTurn past → IsOwned past → AreNamedApart (cubes_behind beginning past)
+        → slice_get (cubes_behind beginning past) cube ≡ Some d
+        → names_of_cube (catalog_of run) d.name ≡ lists_at run.names cube }
+{}
+
+/// What a query of the session is answered in each run that goes on is the table of the rows by coordinates that it takes
+/// now: of a reader of a settled epoch, and of the writer of the transaction that is open.
+pub fn a_session_reads_by_coordinates()
+    ensures reader { (beginning : Beginning) (past : SessionPast) (run : RunRecord) (done : List DoneOperation)
+        (state : SessionState) (high bound epoch : ℕ) (d : Decl) (s : Statement) (query : BoundQuery)
+        (kept : List CodedRow) (changes : List ChangeAt)
+        → HaveDone beginning past done state → StandInOrder past done high → IsOwned past
+        → GoesOn beginning past run → IsSettled (journal_state beginning.safe past.journal) state.mode bound
+        → beginning.safe ≤ epoch → epoch < bound
+        → IsReadBy beginning past run d s query kept changes (filter (counts_for past (reader_of epoch)) done)
+        → answer (resolved_query d s) (visible_rows (reader_of epoch) (run_transactions run))
+        ≡ table_of query.group query.items
+        (rows_taken (lists_at past.names query.cube) query (rows_with_changes query.cube kept changes)) }
+    ensures writer { (beginning : Beginning) (past : SessionPast) (run : RunRecord) (done : List DoneOperation)
+        (state : SessionState) (high : ℕ) (writer : Snapshot) (d : Decl) (s : Statement) (query : BoundQuery)
+        (kept : List CodedRow) (changes : List ChangeAt)
+        → HaveDone beginning past done state → StandInOrder past done high → IsOwned past
+        → GoesOn beginning past run → IsSettled (journal_state beginning.safe past.journal) state.mode writer.epoch
+        → beginning.safe < writer.epoch → sees writer beginning.safe ≡ true → sees writer writer.epoch ≡ true
+        → writer.own ≡ true
+        → IsReadBy beginning past run d s query kept changes (filter (counts_for past writer) done)
+        → answer (resolved_query d s)
+        (visible_rows writer (transactions_inside run 1 (script_of run 1) (last_number past + 1) writer.epoch))
+        ≡ table_of query.group query.items
+        (rows_taken (lists_at past.names query.cube) query (rows_with_changes query.cube kept changes)) }
+{}
+
+/// What stands before the statement that came last: all that was behind before it, where its own entry comes first of
+/// what was added; and in any case each cube that was there.
+pub fn what_was_behind_stands_before()
+    ensures journal { (beginning : Beginning) (before after : SessionPast) (sentence : Sentence) (e : JournalEntry)
+        (added : List JournalEntry) (run : RunRecord)
+        → IsInTurn before → IsOneMore before after sentence (e ∷ added) → belongs_to 1 e ≡ true
+        → GoesOn beginning after run
+        → journal_before 1 (last_number before + 1) run.journal ≡ before.journal }
+    ensures cube { (beginning : Beginning) (before after : SessionPast) (sentence : Sentence)
+        (added : List JournalEntry) (run : RunRecord) (cube : ℕ) (d : Decl)
+        → IsInTurn before → IsOwned before → IsOneMore before after sentence added → GoesOn beginning after run
+        → slice_get (cubes_behind beginning before) cube ≡ Some d
+        → IsSome (cube_called (cubes_at run (journal_before 1 (last_number before + 1) run.journal)) d.name) }
+{}
+
+/// Where the script is played and its end has left its entries, the run is played.
+pub fn the_end_completes_a_run()
+    ensures { (beginning : Beginning) (past : SessionPast) (run : RunRecord) (replies : List Reply)
+        (state : SessionState) (added : List JournalEntry)
+        → IsPlayed (GoesOn beginning) 1 past.sentences past replies state → IsInTurn past → GoesOn beginning past run
+        → run.scripts ≡ past.sentences ∷ [] → run.journal ≡ past.journal ++ added
+        → session_part 1 added ≡ script_end 1 (last_number past + 1) state.mode state.watch
+        → list_all (has_owner run) run.journal ≡ true → HavePlayed run (replies ∷ []) }
 {}
