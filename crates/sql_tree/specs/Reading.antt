@@ -228,8 +228,8 @@ listed_within zero between item symbols = Err (length symbols)
 listed_within (suc most) between item symbols = do
   first ← item symbols
   if stands_first between first.1
-    then (listed_within most between item (drop 1 first.1) >>= λ others. Ok (first.0 ∷ others.0, others.1))
-    else Ok (first.0 ∷ [], first.1)
+      then (listed_within most between item (drop 1 first.1) >>= λ others. Ok (first.0 ∷ others.0, others.1))
+      else Ok (first.0 ∷ [], first.1)
 
 -- Items with a sign between each two, one at least.
 unfoldable pub listed : {A : Type 0} → Sign → (List Symbol → Readout A) → List Symbol → Readout (List A)
@@ -406,8 +406,10 @@ read_select symbols = do
   having ← read_having asked.1
   keys ← read_order having.1
   limit ← read_limit keys.1
-  Ok (statement.Select asked.0.items asked.0.cube asked.0.conds asked.0.group having.0 (map sort_key_of keys.0) limit.0,
-      limit.1)
+  Ok (
+    statement.Select asked.0.items asked.0.cube asked.0.conds asked.0.group having.0 (map sort_key_of keys.0) limit.0,
+    limit.1,
+  )
 
 unfoldable pub read_watch : List Symbol → Readout Statement
 read_watch symbols = do
