@@ -89,7 +89,7 @@ set_elsewhere : (words : List ℕ) (at word i : ℕ) → (i / 64 ≡ at → ⊥)
 unfolding is_set
 set_elsewhere words at word i e = ap (λ w. has_bit w (i % 64)) (get_or-set_other words at (i / 64) word 0 e)
 
-is_set_at : (words : List ℕ) (at i : ℕ) → i / 64 ≡ at → is_set words i ≡ has_bit (get_or words at 0) (i % 64)
+pub is_set_at : (words : List ℕ) (at i : ℕ) → i / 64 ≡ at → is_set words i ≡ has_bit (get_or words at 0) (i % 64)
 unfolding is_set
 is_set_at words at i e = rw e
 

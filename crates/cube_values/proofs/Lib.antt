@@ -1,5 +1,6 @@
 pub mod WhatIsLeft
 pub mod BitMasks
+pub mod BitNext
 pub mod BitWords
 pub mod BitCounts
 pub mod BitLists

@@ -1,6 +1,6 @@
 //! Lists of bits in words of 64, which whole-list work goes over word by word.
 
-ghost use Rattle.std.specs.Prelude.{◌≡◌, ℕ, ◌+◌, ◌-◌, ◌*◌, ◌^◌, ◌<◌, ◌≤◌, ◌⊎◌, true, false, length, max, replicate, slice_set, slice_index_or, sum_by, IsOk, IfOk, OnOk, OnErr};
+ghost use Rattle.std.specs.Prelude.{◌≡◌, ℕ, ◌+◌, ◌-◌, ◌*◌, ◌^◌, ◌<◌, ◌≤◌, ◌⊎◌, true, false, not, length, max, replicate, slice_set, slice_index_or, sum_by, IsOk, IfOk, OnOk, OnErr};
 ghost use Rattle.std.specs.Int.{bit_at};
 ghost use Rattle.std.specs.Int.RustNames.{count_ones};
 ghost use Rattle.cube_values.specs.BitRows.{has_bit, is_set, bits_of, word_count, filled_bits, set_bits, IsFilled};
@@ -89,6 +89,22 @@ impl Bits {
         fill_bits(self.words.as_mut_slice(), from, to, on);
     }
 
+    /// The first place from `from` on whose bit is `on`, or the length where there is none: the end of
+    /// the run of bits that begins at `from`, where its bit is not `on`. A word of bits that are alike
+    /// is one step.
+    #[tactic(auto, using(crate::proofs::BitWords::bits_length, crate::proofs::BitWords::bits_at))]
+    pub fn next(&self, from: u64, on: bool) -> u64
+        requires { from ≤ length self.now.bits }
+        ensures after { from ≤ result }
+        ensures within { result ≤ length self.now.bits }
+        ensures between { (i : ℕ) → from ≤ i → i < result
+            → slice_index_or self.now.bits i false ≡ not on }
+        ensures found { result < length self.now.bits
+            → slice_index_or self.now.bits result false ≡ on }
+    {
+        next_of_words(self.words.as_slice(), from, self.len, on)
+    }
+
     /// How many bits are set.
     pub fn ones(&self) -> u64
         ensures { result ≡ set_bits self.now.bits }
@@ -145,6 +161,58 @@ fn bit_of_words(words: &[u64], i: u64) -> bool
     ensures { result ≡ is_set words.now i }
 {
     (words[(i / 64) as usize] >> (i % 64)) & 1 == 1
+}
+
+// The first place from `from` up to `len` whose bit is `on`, or `len` where there is none.
+fn next_of_words(words: &[u64], from: u64, len: u64, on: bool) -> u64
+    requires order { from ≤ len }
+    requires held { word_count len ≤ length words.now }
+    ensures after { from ≤ result }
+    ensures within { result ≤ len }
+    ensures between { (i : ℕ) → from ≤ i → i < result → is_set words.now i ≡ not on }
+    ensures found { result < len → is_set words.now result ≡ on }
+{
+    let mut at = from;
+    'words: while at < len {
+        let low = at % 64;
+        let step = next_in_word(words[(at / 64) as usize], low, on) - low;
+        if len - at <= step {
+            return len;
+        }
+        at += step;
+        if low + step < 64 {
+            return at;
+        }
+    }
+    at
+}
+
+// The first place from `from` on whose bit is `on` in a word, or 64 where there is none.
+fn next_in_word(word: u64, from: u64, on: bool) -> u64
+    requires { from < 64 }
+    ensures after { from ≤ result }
+    ensures within { result ≤ 64 }
+    ensures between { (i : ℕ) → from ≤ i → i < result → has_bit word i ≡ not on }
+    ensures found { result < 64 → has_bit word result ≡ on }
+{
+    first_one(with_bits(marks_of(word, on), 0, from, false))
+}
+
+// The word whose bits are set where those of a word are `on`.
+fn marks_of(word: u64, on: bool) -> u64
+    ensures set { (i : ℕ) → i < 64 → has_bit result i ≡ true → has_bit word i ≡ on }
+    ensures unset { (i : ℕ) → i < 64 → has_bit result i ≡ false → has_bit word i ≡ not on }
+{
+    if on { word } else { !word }
+}
+
+// The lowest bit of a word that is set, or 64 where none is.
+fn first_one(word: u64) -> u64
+    ensures within { result ≤ 64 }
+    ensures below { (i : ℕ) → i < result → has_bit word i ≡ false }
+    ensures found { result < 64 → has_bit word result ≡ true }
+{
+    u64::from(word.trailing_zeros())
 }
 
 // Sets the bit at `i`, or clears it.
