@@ -1,6 +1,6 @@
 //! Rows of numbers, packed one after another.
 
-ghost use Rattle.std.specs.Prelude.{◌≡◌, ℕ, List, ◌+◌, ◌*◌, ◌^◌, ◌<◌, ◌≤◌, true, false, [], ◌∷◌, ◌++◌, length, take, drop, max, sum, All, IsOk, OnOk, OnErr};
+ghost use Rattle.std.specs.Prelude.{◌≡◌, ℕ, List, ◌+◌, ◌*◌, ◌^◌, ◌<◌, ◌≤◌, true, false, [], ◌∷◌, ◌++◌, length, take, drop, max, sum, slice_index, All, EachIndex, IsOk, OnOk, OnErr};
 ghost use Rattle.std.specs.Int.{from_bool};
 ghost use Rattle.std.specs.List.{AllZip, items_where_true};
 ghost use Rattle.packed_words.specs.declared.packed_rows.TheConstants.{MOST_BITS};
@@ -115,7 +115,39 @@ impl PackedRows {
         requires number { i < length self.now.widths }
         ensures { result ≡ number_in_rows self.now.rows row i }
     {
-        let start = total(&self.widths.as_slice()[..i]);
+        self.number_behind(row, i, self.bits_before(i))
+    }
+
+    /// Writes number `i` of the rows from one on over the items of a list, one row for each.
+    pub fn read_numbers(&self, from: u64, i: usize, numbers: &mut [u32])
+        requires rows { from + length numbers.old ≤ length self.now.rows }
+        requires number { i < length self.now.widths }
+        ensures { EachIndex numbers.new
+            (λ k. slice_index numbers.new k ≡ number_in_rows self.now.rows (from + k) i) }
+    {
+        let _rows = self.len();
+        let start = self.bits_before(i);
+        'rows: for k in 0..numbers.len() {
+            numbers[k] = self.number_behind(from + k as u64, i, start);
+        }
+    }
+
+    // How many bits of a row stand before number `i`.
+    fn bits_before(&self, i: usize) -> u64
+        requires { i < length self.now.widths }
+        ensures { result ≡ sum (take i self.now.widths) }
+    {
+        total(&self.widths.as_slice()[..i])
+    }
+
+    // Number `i` of a row, behind so many bits of the row.
+    #[inline(always)]
+    fn number_behind(&self, row: u64, i: usize, start: u64) -> u32
+        requires row { row < length self.now.rows }
+        requires number { i < length self.now.widths }
+        requires start { start ≡ sum (take i self.now.widths) }
+        ensures { result ≡ number_in_rows self.now.rows row i }
+    {
         self.bits.read(row * self.width + start, self.widths[i]) as u32
     }
 

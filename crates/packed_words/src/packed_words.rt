@@ -87,6 +87,7 @@ impl PackedWords {
     }
 
     /// The number in the `width` bits from `place` on.
+    #[inline(always)]
     pub fn read(&self, place: u64, width: u64) -> u64
         requires width { width ≤ 64 }
         requires within { place + width ≤ length self.now.bits }

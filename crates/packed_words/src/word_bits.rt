@@ -5,6 +5,7 @@ ghost use Rattle.cube_values.specs.BitRows.{has_bit, is_set, word_count};
 ghost use Rattle.packed_words.specs.Words.{IsAppended, IsReplaced, IsCut};
 
 /// The lowest `width` bits of a word.
+#[inline(always)]
 pub fn low_part(word: u64, width: u64) -> u64
     requires { width ≤ 64 }
     ensures { result ≡ word % 2 ^ width }
@@ -17,6 +18,7 @@ pub fn low_part(word: u64, width: u64) -> u64
 }
 
 // The word whose bits are those of `low` from bit `shift` on, and then those of `high`.
+#[inline(always)]
 fn straddling_word(low: u64, high: u64, shift: u64) -> u64
     requires some { 0 < shift }
     requires word { shift < 64 }
@@ -28,6 +30,7 @@ fn straddling_word(low: u64, high: u64, shift: u64) -> u64
 }
 
 /// The number in the `width` bits from `place` on.
+#[inline(always)]
 pub fn read_bits(words: &[u64], place: u64, width: u64) -> u64
     requires width { width ≤ 64 }
     requires within { place + width ≤ 64 * length words.now }
@@ -41,6 +44,7 @@ pub fn read_bits(words: &[u64], place: u64, width: u64) -> u64
 }
 
 // A word whose lowest `width` bits are those from `place` on.
+#[inline(always)]
 fn word_at(words: &[u64], place: u64, width: u64) -> u64
     requires some { 0 < width }
     requires width { width ≤ 64 }

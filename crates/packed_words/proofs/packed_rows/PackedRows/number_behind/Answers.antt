@@ -1,16 +1,9 @@
-use Rattle.std.proofs.Common.{◌≡◌, ◌+◌, ◌*◌, ◌<◌, length, take, drop, get_or, sum, ap, ◌∙◌, arith}
+use Rattle.std.proofs.Common.{◌≡◌, ◌+◌, ◌*◌, ◌<◌, length, take, drop, get_or, sum, sym, ap, ◌∙◌, arith}
 use Rattle.std.proofs.lemmas.List.{get_or_default}
-use Rattle.std.proofs.lemmas.List.Sums.{sum_by-take-le}
 use Rattle.packed_words.specs.Numbers.{number_of_bits}
 use Rattle.packed_words.specs.Rows.{NumberRows, number_in_rows}
 use Rattle.packed_words.proofs.HeldRows.{seen_length, number_there, number_inside, number_narrow, number_small, rows_fit}
-use Rattle.packed_words.proofs.packed_rows.PackedRows.number.Goals as goal
-
-pub total-start-requires : goal.total-start-requires
-total-start-requires c =
-    let widths = c.self.inside.widths.items in
-    let start = ap (λ ws. sum (take c.args.i ws)) c.as_slice.ensures.value in
-    omega (arith, start, sum_by-take-le (λ x. x) widths c.args.i, c.self.invariant.total, c.self.invariant.few)
+use Rattle.packed_words.proofs.packed_rows.PackedRows.number_behind.Goals as goal
 
 pub overflow_mul-row : goal.overflow_mul-row
 overflow_mul-row c =
@@ -24,7 +17,7 @@ overflow_add-row c =
     let old = c.self.inside in
     let long = seen_length old c.args.self.now c.self.view_is in
     let dims = ap (λ (v : NumberRows). length v.widths) c.self.view_is in
-    let start : c.total-start.result ≡ sum (take c.args.i old.widths.items) = c.total-start.ensures ∙ ap (λ ws. sum (take c.args.i ws)) c.as_slice.ensures.value in
+    let start : c.args.start ≡ sum (take c.args.i old.widths.items) = c.requires.start ∙ ap (λ (v : NumberRows). sum (take c.args.i v.widths)) (sym c.self.view_is) in
     let inside = number_inside old.widths.items old.width old.rows old.room old.bits c.self.invariant c.args.row c.args.i (omega (arith, c.requires.row)) (omega (arith, c.requires.number)) in
     let most = rows_fit old.widths.items old.width old.rows old.room old.bits c.self.invariant old.rows (omega arith) in
     omega (arith, start, inside, most, c.self.invariant.long)
@@ -35,7 +28,7 @@ read-requires-clause-within c =
     let long = seen_length old c.args.self.now c.self.view_is in
     let dims = ap (λ (v : NumberRows). length v.widths) c.self.view_is in
     let there : c.args.i < length old.widths.items = omega (arith, c.requires.number) in
-    let start : c.total-start.result ≡ sum (take c.args.i old.widths.items) = c.total-start.ensures ∙ ap (λ ws. sum (take c.args.i ws)) c.as_slice.ensures.value in
+    let start : c.args.start ≡ sum (take c.args.i old.widths.items) = c.requires.start ∙ ap (λ (v : NumberRows). sum (take c.args.i v.widths)) (sym c.self.view_is) in
     let width : c.index.result.now ≡ get_or old.widths.items c.args.i 0 = c.index.ensures ∙ get_or_default old.widths.items c.args.i c.index.result.now 0 there in
     let inside = number_inside old.widths.items old.width old.rows old.room old.bits c.self.invariant c.args.row c.args.i (omega (arith, c.requires.row)) there in
     omega (arith, start, width, inside)
@@ -55,7 +48,7 @@ overflow_cast-result c =
     let there : c.args.i < length old.widths.items = omega (arith, c.requires.number) in
     let width : c.index.result.now ≡ get_or old.widths.items c.args.i 0 = c.index.ensures ∙ get_or_default old.widths.items c.args.i c.index.result.now 0 there in
     let narrow = number_narrow old.widths.items old.width old.rows old.room old.bits c.self.invariant c.args.i there in
-    let small = number_small c.index.result.now (c.args.row * old.width + c.total-start.result) old.bits.bits (omega (arith, width, narrow)) in
+    let small = number_small c.index.result.now (c.args.row * old.width + c.args.start) old.bits.bits (omega (arith, width, narrow)) in
     omega (arith, c.read.ensures, small)
 
 pub returns : goal.returns
@@ -64,7 +57,7 @@ returns c =
     let long = seen_length old c.args.self.now c.self.view_is in
     let dims = ap (λ (v : NumberRows). length v.widths) c.self.view_is in
     let there : c.args.i < length old.widths.items = omega (arith, c.requires.number) in
-    let start : c.total-start.result ≡ sum (take c.args.i old.widths.items) = c.total-start.ensures ∙ ap (λ ws. sum (take c.args.i ws)) c.as_slice.ensures.value in
+    let start : c.args.start ≡ sum (take c.args.i old.widths.items) = c.requires.start ∙ ap (λ (v : NumberRows). sum (take c.args.i v.widths)) (sym c.self.view_is) in
     let width : c.index.result.now ≡ get_or old.widths.items c.args.i 0 = c.index.ensures ∙ get_or_default old.widths.items c.args.i c.index.result.now 0 there in
     c.read.ensures
     ∙ (λ t. number_of_bits (take (width t) (drop (c.args.row * old.width + start t) old.bits.bits)))
