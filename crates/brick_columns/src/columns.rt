@@ -1,6 +1,6 @@
 //! The columns of a brick, which are whole rows after every call.
 
-ghost use Rattle.std.specs.Prelude.{◌≡◌, ℕ, List, ◌+◌, ◌*◌, ◌-◌, ◌^◌, ◌<◌, ◌≤◌, [], ◌∷◌, ◌++◌, length, map, min, All, IsOk, IfOk, OnOk, OnErr};
+ghost use Rattle.std.specs.Prelude.{◌≡◌, ℕ, List, ◌+◌, ◌*◌, ◌-◌, ◌^◌, ◌<◌, ◌≤◌, [], ◌∷◌, ◌++◌, length, map, min, slice_index, All, EachIndex, IsOk, IfOk, OnOk, OnErr};
 ghost use Rattle.std.specs.List.{AllZip, items_where_true};
 ghost use Rattle.cube_values.specs.Rooms.{grown_room};
 ghost use Rattle.cube_values.specs.Shapes.{IsSoundShape};
@@ -171,6 +171,24 @@ impl Columns {
         ensures { result ≡ offset_at dim (row_at self.now.rows row) }
     {
         self.offsets.number(row, dim as usize)
+    }
+
+    /// Writes the offsets of the rows from one on in a dimension over the items of a list, one row for each.
+    pub fn read_offsets(&self, from: u64, dim: u32, offsets: &mut [u32])
+        requires rows { from + length offsets.old ≤ length self.now.rows }
+        requires dim { dim < length self.now.layout.ranges }
+        ensures { EachIndex offsets.new
+            (λ k. slice_index offsets.new k ≡ offset_at dim (row_at self.now.rows (from + k))) }
+    {
+        self.offsets.read_numbers(from, dim as usize, offsets);
+    }
+
+    /// The range size of a dimension.
+    pub fn range(&self, dim: u32) -> u32
+        requires { dim < length self.now.layout.ranges }
+        ensures { result ≡ slice_index self.now.layout.ranges dim }
+    {
+        self.ranges[dim as usize]
     }
 
     /// A metric of a row.
