@@ -1,0 +1,4 @@
+pub mod Permutations
+pub mod CubeOperations
+pub mod PostedOperations
+pub mod CubeSerial

@@ -1,0 +1,44 @@
+//! Laws of queries over a whole cube, over every run of the core.
+
+ghost use Rattle.std.specs.Prelude.{◌≡◌, ℕ, List, map};
+ghost use Rattle.std.specs.List.Sorted.{IsPermutation};
+ghost use Rattle.cube_values.specs.Answer.{table_of};
+ghost use Rattle.cube_values.specs.declared.query.BoundQuery.{BoundQuery};
+ghost use Rattle.cube_values.specs.declared.snapshot.Snapshot.{Snapshot};
+ghost use Rattle.cube_values.specs.declared.table.Field.{Field};
+ghost use Rattle.agg_fold.specs.Coded.{row_for};
+ghost use Rattle.agg_fold.specs.Standing.{StandsFor, IsTable};
+ghost use Rattle.agg_fold.specs.declared.groups.Groups.{Groups};
+ghost use Rattle.core_events.specs.Clients.{client_state};
+ghost use Rattle.core_events.specs.Events.{Opening, CoreEvent};
+ghost use Rattle.core_events.specs.Runs.{IsCoreRun};
+ghost use Rattle.core_runs.specs.Queries.{HasAnswered, rows_fetched};
+ghost use Rattle.core_serial.specs.CubeRows.{rows_to_find};
+
+/// Serial execution: the rows that a query has fetched from all shards are, each as often, those
+/// that the transactions that count for its snapshot leave in the whole cube, run one after the
+/// other in the order of their epochs.
+pub fn queries_run_serially()
+    ensures { (o : Opening) (es : List CoreEvent) (client : ℕ) (query : BoundQuery) (s : Snapshot)
+        → IsCoreRun o es → HasAnswered o.shards query s (client_state o client es).group
+        → IsPermutation (rows_fetched (client_state o client es).group.answers)
+        (rows_to_find o es query s) }
+{}
+
+/// The merged answer of a query is the plain fold: where groups stand for the rows that it has
+/// fetched from all shards, they stand for those that serial execution leaves, and the table of the
+/// groups is the answer over these.
+pub fn answers_are_plain_folds()
+    ensures stands { (o : Opening) (es : List CoreEvent) (client : ℕ) (query : BoundQuery)
+        (s : Snapshot) (groups : Groups)
+        → IsCoreRun o es → HasAnswered o.shards query s (client_state o client es).group
+        → StandsFor query (rows_fetched (client_state o client es).group.answers) groups
+        → StandsFor query (rows_to_find o es query s) groups }
+    ensures table { (o : Opening) (es : List CoreEvent) (client : ℕ) (query : BoundQuery)
+        (s : Snapshot) (groups : Groups) (lists : List (List (List ℕ))) (table : List (List Field))
+        → IsCoreRun o es → HasAnswered o.shards query s (client_state o client es).group
+        → StandsFor query (rows_fetched (client_state o client es).group.answers) groups
+        → IsTable query lists groups table
+        → table
+        ≡ table_of query.group query.items (map (row_for lists) (rows_to_find o es query s)) }
+{}
