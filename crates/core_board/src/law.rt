@@ -18,14 +18,14 @@ pub fn histories_are_core_runs<C: CoreBoard>()
     ensures run { (o : Opening) (opening : List C.Cell) (log : List (Event C.Call C.Answer))
         → C.opens o opening → IsHistory C.step C.fits opening log
         → IsCoreRun o (events_of (C.event o) log) }
-    ensures cells { (o : Opening) (opening : List C.Cell) (log : List (Event C.Call C.Answer)) (k : ℕ)
-        (x y : C.Cell) → C.opens o opening → IsHistory C.step C.fits opening log
+    ensures cells { (o : Opening) (opening : List C.Cell) (log : List (Event C.Call C.Answer))
+        (k : ℕ) (x y : C.Cell) → C.opens o opening → IsHistory C.step C.fits opening log
         → get_elem? opening k ≡ some x → LeadsTo C.step x (of_cell k log) y
         → C.stands o k y (events_of (C.event o) log) }
 {}
 
-/// What a client and a worker know is read off the own entries of the caller that acts as it: the client's
-/// calls, and what the worker does.
+/// What a client and a worker know is read off the own entries of the caller that acts as it: the
+/// client's calls, and what the worker does.
 pub fn callers_know_their_part<Q, A>()
     ensures calls { (event : EventOf Q A) (caller client : ℕ) (log : List (Event Q A))
         → MakesCalls event caller client → calls_of client (events_of event log)

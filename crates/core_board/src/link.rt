@@ -5,8 +5,8 @@ ghost use Rattle.core_events.specs.Events.{Opening, CoreEvent};
 
 use turn_board::Cells;
 
-/// Cells whose entries are events of the core. Each call on a cell is one step of it, and the cell is
-/// then what the events have made of it.
+/// Cells whose entries are events of the core. Each call on a cell is one step of it, and the cell
+/// is then what the events have made of it.
 pub trait CoreBoard: Cells {
     /// How the cells open.
     ghost opens: { Opening → List Self.Cell → Type 0 };
