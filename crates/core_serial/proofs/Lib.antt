@@ -2,3 +2,4 @@ pub mod Permutations
 pub mod CubeOperations
 pub mod PostedOperations
 pub mod CubeSerial
+pub mod RestingSnapshots

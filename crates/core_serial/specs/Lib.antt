@@ -1,1 +1,2 @@
 pub mod CubeRows
+pub mod HeldSnapshots

@@ -9,11 +9,24 @@ ghost use Rattle.cube_values.specs.declared.table.Field.{Field};
 ghost use Rattle.agg_fold.specs.Coded.{row_for};
 ghost use Rattle.agg_fold.specs.Standing.{StandsFor, IsTable};
 ghost use Rattle.agg_fold.specs.declared.groups.Groups.{Groups};
+ghost use Rattle.core_events.specs.Cells.{rows_of_brick, view_of};
 ghost use Rattle.core_events.specs.Clients.{client_state};
+ghost use Rattle.core_events.specs.ShardView.{brick_rows_seen};
 ghost use Rattle.core_events.specs.Events.{Opening, CoreEvent};
 ghost use Rattle.core_events.specs.Runs.{IsCoreRun};
 ghost use Rattle.core_runs.specs.Queries.{HasAnswered, rows_fetched};
-ghost use Rattle.core_serial.specs.CubeRows.{rows_to_find};
+ghost use Rattle.core_serial.specs.HeldSnapshots.{HoldsAtRest};
+ghost use Rattle.core_serial.specs.CubeRows.{rows_of_serial_run, rows_to_find};
+
+/// What a session's snapshot sees of each brick, while it waits for no job, is, each as often, the
+/// brick's part of what the transactions that count for the snapshot leave in the whole cube, run
+/// one after the other in the order of their epochs.
+pub fn snapshots_see_serial_runs()
+    ensures { (o : Opening) (es : List CoreEvent) (client cube brick : ℕ) (s : Snapshot)
+        → IsCoreRun o es → HoldsAtRest o client (client_state o client es) s
+        → IsPermutation (brick_rows_seen s (view_of o es cube brick))
+        (rows_of_brick o cube brick (rows_of_serial_run o es cube s)) }
+{}
 
 /// Serial execution: the rows that a query has fetched from all shards are, each as often, those
 /// that the transactions that count for its snapshot leave in the whole cube, run one after the

@@ -3,4 +3,4 @@
 
 mod law;
 
-pub use law::{answers_are_plain_folds, queries_run_serially};
+pub use law::{answers_are_plain_folds, queries_run_serially, snapshots_see_serial_runs};
