@@ -10,7 +10,7 @@ use Rattle.core_mails.specs.Histories.{has_letter_of, is_serving, HasNoJob, HasJ
 use Rattle.core_mails.proofs.Places.{JobPlace, Nowhere, place, Lacks, IsBusy, FitsPlaces, lacks-unasked, nowhere-asked, nowhere-answered, asked-answered}
 use Rattle.core_mails.proofs.Posted.{run-posted, none-out, not-out}
 
-no-letter : (a : ℕ) (queue : List Letter) → Lacks a queue → has_letter_of a queue ≡ false
+pub no-letter : (a : ℕ) (queue : List Letter) → Lacks a queue → has_letter_of a queue ≡ false
 no-letter a [] lacks = refl
 no-letter a (x ∷ queue) lacks = λ i. ne_eqb x.client a lacks.0 i || no-letter a queue lacks.1 i
 
