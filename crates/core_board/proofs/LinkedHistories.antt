@@ -1,11 +1,10 @@
 -- A history of calls on linked cells, entry by entry.
-use Rattle.std.proofs.Common.{◌≡◌, ◌≢◌, ◌∙◌, ℕ, ◌==◌, eqb, Bool, true, false, true≢false, cond, List, [], ◌∷◌, ◌++◌, append_assoc, append-nil, refl, sym, ap, subst, eqb-true, eq-eqb, ne_eqb}
-use Rattle.std.specs.List.{filter}
-use Rattle.std.proofs.lemmas.Bool.{false≢true, eqb-false}
+use Rattle.std.proofs.Common.{◌≡◌, ◌∙◌, ℕ, eqb, Bool, true, false, cond, List, [], ◌∷◌, ◌++◌, append_assoc, append-nil, refl, sym, ap, subst, eqb-true, eq-eqb}
+use Rattle.std.proofs.lemmas.Bool.{eqb-false}
 use lib.ListN.{get_elem?}
 use mathlib.Core.Option.{Option, some, none}
 use Rattle.turn_board.specs.declared.history.Event.{Event}
-use Rattle.turn_board.specs.History.{CellStep, CallFit, of_cell, of_caller, is_on_cell, LeadsTo, AllFitAfter, IsHistory}
+use Rattle.turn_board.specs.History.{CellStep, CallFit, of_cell, of_caller, LeadsTo, AllFitAfter, IsHistory}
 use Rattle.core_events.specs.Events.{Opening, CoreEvent}
 use Rattle.core_events.specs.Runs.{IsCoreRun}
 use Rattle.core_board.specs.Links.{events_after, events_of, IsLinked}

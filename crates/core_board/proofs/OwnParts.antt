@@ -1,13 +1,14 @@
 -- What hangs on one caller's entries alone is the same over these entries.
-use Rattle.std.proofs.Common.{◌≡◌, ◌≢◌, ◌∙◌, ℕ, ◌==◌, eqb, Bool, true, false, true≢false, cond, List, [], ◌∷◌, ◌++◌, append-nil, refl, sym, ap, subst, eqb-true, eq-eqb, if◌then◌else◌}
+use Rattle.std.proofs.Common.{◌≡◌, ◌≢◌, ◌∙◌, ℕ, ◌==◌, eqb, Bool, true, false, true≢false, ◌&&◌, cond, List, [], ◌∷◌, ◌++◌, append-nil, refl, sym, ap, eqb-true, if◌then◌else◌}
 use Rattle.std.proofs.lemmas.Bool.{eqb-false}
 use Rattle.std.proofs.lemmas.List.Elements.{filter-append}
 use Rattle.turn_board.specs.declared.history.Event.{Event}
 use Rattle.turn_board.specs.History.{of_caller, is_by_caller}
-use Rattle.core_events.specs.Cells.{WorkerState, worker_after, worker_of}
+use Rattle.core_events.specs.Cells.{worker_after, worker_of}
 use Rattle.core_events.specs.Clients.{calls_of}
-use Rattle.core_events.specs.Events.{ClientCall, CoreEvent, By, At}
-use Rattle.core_board.specs.Links.{EventOf, events_after, events_of, is_call_of, is_move_at, MakesCalls, MakesMoves}
+use Rattle.core_events.specs.Events.{Opening, flush_mail, OpenWrite, OpenRead, Commit, AbortEnd, CloseRead, TakeNote, CreateCube, FindCube, CubesFrom, CountersNow, RoundOpen, RoundClose, StoreFailed, ClientCall, OnDesk, OnNames, Post, Fetch, CloseMail, NoChange, WorkerMove, Take, NoJob, Work, Reply, CoreEvent, By, At}
+use Rattle.core_events.specs.Fitting.{RoundProgress, progress_after_call, progress_after_move, round_progress}
+use Rattle.core_board.specs.Links.{EventOf, events_after, events_of, is_call_of, is_move_at, is_of_rounds, MakesCalls, MakesMoves, MakesRounds}
 
 module _ {Q A X : Type 0} (event : EventOf Q A) (caller : ℕ) (part : List CoreEvent → X)
     (same : (x : CoreEvent) (es fs : List CoreEvent) → part es ≡ part fs → part (x ∷ es) ≡ part (x ∷ fs))
@@ -86,3 +87,55 @@ module _ {Q A : Type 0} where
       → worker_of mail (events_of event log) ≡ worker_of mail (events_of event (of_caller caller log))
   own-moves event caller mail log makes =
       own-part event caller (worker_of mail) (moves-same mail) (λ own e es other. moves-skip mail (event own e) es (makes own e other)) log
+
+-- How far the flusher's rounds have come.
+
+abbrev is_take : WorkerMove → Bool
+is_take (Take client job) = true
+is_take move = false
+
+rounds-same : (o : Opening) (x : CoreEvent) (es fs : List CoreEvent) → round_progress o es ≡ round_progress o fs
+    → round_progress o (x ∷ es) ≡ round_progress o (x ∷ fs)
+rounds-same o (By b call) es fs p = ap (progress_after_call call) p
+rounds-same o (At mail move) es fs p = ap (progress_after_move (mail == flush_mail o) move) p
+
+move-skip : (here : Bool) (move : WorkerMove) (progress : RoundProgress) → (is_take move && here) ≡ false
+    → progress_after_move here move progress ≡ progress
+move-skip true (Take client job) progress other = absurd (true≢false other)
+move-skip true (NoJob closed) progress other = refl
+move-skip true (Work job answer) progress other = refl
+move-skip true (Reply client answer) progress other = refl
+move-skip false (Take client job) progress other = refl
+move-skip false (NoJob closed) progress other = refl
+move-skip false (Work job answer) progress other = refl
+move-skip false (Reply client answer) progress other = refl
+
+rounds-skip : (o : Opening) (x : CoreEvent) (es : List CoreEvent) → is_of_rounds o x ≡ false → round_progress o (x ∷ es) ≡ round_progress o es
+rounds-skip o (By b (OnDesk (RoundOpen answer))) es other = absurd (true≢false other)
+rounds-skip o (By b (OnDesk (RoundClose epoch end))) es other = absurd (true≢false other)
+rounds-skip o (By b (OnDesk (OpenWrite statement epoch deps))) es other = refl
+rounds-skip o (By b (OnDesk (OpenRead number statement epoch))) es other = refl
+rounds-skip o (By b (OnDesk (Commit statement epoch))) es other = refl
+rounds-skip o (By b (OnDesk (AbortEnd statement epoch cause))) es other = refl
+rounds-skip o (By b (OnDesk (CloseRead number statement))) es other = refl
+rounds-skip o (By b (OnDesk (TakeNote note counters))) es other = refl
+rounds-skip o (By b (OnDesk (CreateCube statement decl answer))) es other = refl
+rounds-skip o (By b (OnDesk (FindCube statement name answer))) es other = refl
+rounds-skip o (By b (OnDesk (CubesFrom place cubes))) es other = refl
+rounds-skip o (By b (OnDesk (CountersNow counters))) es other = refl
+rounds-skip o (By b (OnDesk (StoreFailed failed))) es other = refl
+rounds-skip o (By b (OnNames call)) es other = refl
+rounds-skip o (By b (Post mail job)) es other = refl
+rounds-skip o (By b (Fetch mail answer)) es other = refl
+rounds-skip o (By b (CloseMail mail)) es other = refl
+rounds-skip o (By b NoChange) es other = refl
+rounds-skip o (At mail (Take client job)) es other = move-skip (mail == flush_mail o) (Take client job) (round_progress o es) other
+rounds-skip o (At mail (NoJob closed)) es other = move-skip (mail == flush_mail o) (NoJob closed) (round_progress o es) refl
+rounds-skip o (At mail (Work job answer)) es other = move-skip (mail == flush_mail o) (Work job answer) (round_progress o es) refl
+rounds-skip o (At mail (Reply client answer)) es other = move-skip (mail == flush_mail o) (Reply client answer) (round_progress o es) refl
+
+module _ {Q A : Type 0} where
+  pub own-rounds : (o : Opening) (event : EventOf Q A) (caller : ℕ) (log : List (Event Q A)) → MakesRounds o event caller
+      → round_progress o (events_of event log) ≡ round_progress o (events_of event (of_caller caller log))
+  own-rounds o event caller log makes =
+      own-part event caller (round_progress o) (rounds-same o) (λ own e es other. rounds-skip o (event own e) es (makes own e other)) log

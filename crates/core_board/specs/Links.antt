@@ -1,11 +1,11 @@
 -- How the entries of a board's history are events of the core, and when cells are linked to it.
 -- Source: this project's own; linearizability (Herlihy and Wing, 1990) makes one list of the calls of all threads.
-use Rattle.std.specs.Prelude.{◌≡◌, ◌≢◌, ℕ, ◌==◌, Bool, false, List, [], ◌∷◌, ◌++◌}
+use Rattle.std.specs.Prelude.{◌≡◌, ◌≢◌, ℕ, ◌==◌, Bool, true, false, List, [], ◌∷◌, ◌++◌}
 use lib.ListN.{get_elem?}
 use mathlib.Core.Option.{some}
 use Rattle.turn_board.specs.declared.history.Event.{Event}
 use Rattle.turn_board.specs.History.{CellStep, CallFit, of_caller}
-use Rattle.core_events.specs.Events.{Opening, IsOpening, CoreEvent, By, At}
+use Rattle.core_events.specs.Events.{Opening, IsOpening, flush_mail, RoundOpen, RoundClose, OnDesk, Take, CoreEvent, By, At}
 use Rattle.core_events.specs.Runs.{IsCoreRun}
 
 -- The event of an entry, by its caller's own entries before it.
@@ -32,6 +32,14 @@ abbrev pub is_move_at : ℕ → CoreEvent → Bool
 is_move_at mail (By client call) = false
 is_move_at mail (At other move) = other == mail
 
+-- An event that the progress of the flusher's rounds hangs on.
+abbrev pub is_of_rounds : Opening → CoreEvent → Bool
+is_of_rounds o (By client (OnDesk (RoundOpen answer))) = true
+is_of_rounds o (By client (OnDesk (RoundClose epoch end))) = true
+is_of_rounds o (By client call) = false
+is_of_rounds o (At mail (Take client job)) = mail == flush_mail o
+is_of_rounds o (At mail move) = false
+
 module _ {Q A : Type 0} where
   -- The calls of the client are entries of the caller alone.
   abbrev pub MakesCalls : EventOf Q A → ℕ → ℕ → Type 0
@@ -42,6 +50,12 @@ module _ {Q A : Type 0} where
   abbrev pub MakesMoves : EventOf Q A → ℕ → ℕ → Type 0
   MakesMoves event caller mail = (own : List (Event Q A)) (e : Event Q A) → e.caller ≢ caller
       → is_move_at mail (event own e) ≡ false
+
+module _ {Q A : Type 0} (o : Opening) where
+  -- The rounds are made by entries of the caller alone.
+  abbrev pub MakesRounds : EventOf Q A → ℕ → Type 0
+  MakesRounds event caller = (own : List (Event Q A)) (e : Event Q A) → e.caller ≢ caller
+      → is_of_rounds o (event own e) ≡ false
 
 -- Cells open as events do; a call that fits is on a cell that there is; it is one event, which goes on with the run
 -- and makes of the cell what the step makes of it; and it leaves the other cells.

@@ -33,8 +33,8 @@ ghost use Rattle.mail_cell.specs.declared.answer.Taken.TheVariants.{Job, Empty, 
 ghost use Rattle.mail_cell.specs.declared.place.Place.TheVariants.{Idle, Out};
 
 /// Each call on a mail is an event of the core: what the mail asks of its caller holds, what it
-/// answers is the event's answer, and it is then what the events have made of it. Other events leave
-/// it.
+/// answers is the event's answer, and it is then what the events have made of it. Other events
+/// leave it.
 pub fn mails_are_what_events_make<J, A>()
     ensures opens { (job_of : J → CoreJob) (answer_of : A → JobAnswer) (mail clients : ℕ)
         → IsMailOf job_of answer_of mail [] (new_mail clients) }
