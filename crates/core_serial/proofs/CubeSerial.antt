@@ -1,8 +1,7 @@
 -- The rows of a query are those that serial execution leaves in the whole cube.
-use Rattle.std.proofs.Common.{◌≡◌, ◌∙◌, ℕ, ◌+◌, ◌%◌, ◌==◌, Bool, true, false, true≢false, not, ◌&&◌, ◌||◌, List, filter, map, inl, inr, refl, sym, ap, eqb-true}
+use Rattle.std.proofs.Common.{◌≡◌, ◌∙◌, ℕ, ◌+◌, ◌%◌, ◌==◌, Bool, true, false, ◌&&◌, ◌||◌, List, filter, map, inl, inr, refl, sym, ap, eqb-true}
 use Rattle.std.specs.List.{count_by}
 use Rattle.std.specs.List.Sorted.{IsPermutation}
-use Rattle.std.proofs.lemmas.Bool.{false≢true}
 use Rattle.cube_values.specs.Answer.{table_of}
 use Rattle.cube_values.specs.declared.query.BoundQuery.{BoundQuery}
 use Rattle.cube_values.specs.declared.row.CodedRow.{CodedRow}
@@ -16,13 +15,13 @@ use Rattle.agg_fold.specs.Standing.{StandsFor, IsTable}
 use Rattle.agg_fold.specs.declared.groups.Groups.{Groups}
 use Rattle.agg_fold.proofs.GroupRows.{stand_moved}
 use Rattle.core_events.specs.Events.{Opening, CoreEvent}
-use Rattle.core_events.specs.Groups.{Asks, JobGroup, is_empty, has_all_below, mails_of, has_refusal, is_complete, has_ended}
+use Rattle.core_events.specs.Groups.{JobGroup, mails_of, is_complete, has_ended}
 use Rattle.core_events.specs.Clients.{client_state}
 use Rattle.core_events.specs.ShardView.{brick_rows_seen, epochs_without, rows_shown_to}
 use Rattle.core_events.specs.Cells.{sizes_of_cube, view_of, rows_of_brick}
 use Rattle.core_events.specs.Fitting.{OwnsWriter}
 use Rattle.core_events.specs.Runs.{IsCoreRun, rows_in_span}
-use Rattle.core_events.specs.Serial.{counts_for, has_committed, operations_of, rows_left_below}
+use Rattle.core_events.specs.Serial.{counts_for, has_committed, operations_of}
 use Rattle.core_bricks.proofs.Counts.{count-filter}
 use Rattle.core_bricks.specs.BrickTransactions.{entries_of_epoch, brick_rows_left}
 use Rattle.core_desk.proofs.Finished.{or-is}
@@ -34,7 +33,7 @@ use Rattle.core_transactions.specs.PostedEntries.{posted_of}
 use Rattle.core_transactions.proofs.CountedRows.{IsSettled, settled-rows, answered-counts, asks-writer, asking-clean, and-parts}
 use Rattle.core_serial.specs.CubeRows.{rows_of_serial_run, rows_to_find}
 use Rattle.core_serial.proofs.Permutations.{CountAlike, alike-by-key, permuted-by-counts}
-use Rattle.core_serial.proofs.CubeOperations.{RunAlike, LeaveAlike, leave-alike}
+use Rattle.core_serial.proofs.CubeOperations.{RunAlike, leave-alike}
 use Rattle.core_serial.proofs.PostedOperations.{run-fit-cube, ended-runs, committed-runs}
 
 -- A filter within another.

@@ -3,3 +3,4 @@ pub mod CubeOperations
 pub mod PostedOperations
 pub mod CubeSerial
 pub mod RestingSnapshots
+pub mod OwnCalls

@@ -1,6 +1,6 @@
 -- In every run, the operations of a transaction that goes on well or is committed make of the rows of its cube, brick by
 -- brick, what was posted to the brick's shard makes of the rows of the brick.
-use Rattle.std.proofs.Common.{◌≡◌, ◌⊎◌, ◌∙◌, ℕ, ◌%◌, ◌<◌, ◌≤◌, ◌==◌, Bool, true, false, true≢false, not, ◌&&◌, ◌||◌, List, [], ◌∷◌, ◌++◌, filter, Option, Some, None, IsSomeAnd, All, inl, inr, refl, sym, ap, arith, eqb-true, eq-eqb, ne_eqb, le-leb, mod-lt, if◌then◌else◌}
+use Rattle.std.proofs.Common.{◌≡◌, ◌⊎◌, ◌∙◌, ℕ, ◌%◌, ◌≤◌, ◌==◌, Bool, true, false, true≢false, not, ◌&&◌, ◌||◌, List, [], ◌∷◌, ◌++◌, Option, Some, None, IsSomeAnd, inl, inr, refl, sym, ap, arith, eqb-true, eq-eqb, ne_eqb, le-leb, mod-lt, if◌then◌else◌}
 use Rattle.std.specs.List.{AllByRecursion}
 use Rattle.std.proofs.lemmas.Bool.{false≢true, eqb-false}
 use Rattle.std.proofs.lemmas.List.Elements.{recursion_from_All}
@@ -10,10 +10,10 @@ use Rattle.cube_values.specs.declared.span.Span.{Span}
 use Rattle.brick_address.specs.Addresses.{brick_of, AreCoords}
 use Rattle.core_events.specs.ShardView.{BrickEntry, RowRun, RowMark}
 use Rattle.core_events.specs.Jobs.{CoreJob, Append, DropBox, Scan, Delta, Rollback, Purge, CopyRound, Flush, JobAnswer, is_refusal}
-use Rattle.core_events.specs.Events.{Opening, IsSession, flusher, DeskCall, OpenWrite, OpenRead, Commit, AbortEnd, CloseRead, TakeNote, CreateCube, FindCube, CubesFrom, CountersNow, RoundOpen, RoundClose, StoreFailed, ClientCall, OnDesk, OnNames, Post, Fetch, CloseMail, NoChange, CoreEvent, By, At}
-use Rattle.core_events.specs.Groups.{GroupKind, NoGroup, Puts, Drops, Asks, Compares, RollsBack, Purges, Copies, Flushes, kind_of, Received, JobGroup, no_group, has_number, numbers_without, is_empty, has_all_below, mails_of, has_refusal, is_complete, has_ended, is_ready, is_spoiled}
+use Rattle.core_events.specs.Events.{Opening, IsSession, DeskCall, OpenWrite, OpenRead, Commit, AbortEnd, CloseRead, TakeNote, CreateCube, FindCube, CubesFrom, CountersNow, RoundOpen, RoundClose, StoreFailed, ClientCall, OnDesk, OnNames, Post, Fetch, CloseMail, NoChange, CoreEvent, By, At}
+use Rattle.core_events.specs.Groups.{GroupKind, Puts, Drops, Asks, Compares, RollsBack, Purges, Copies, Flushes, kind_of, JobGroup, no_group, has_number, numbers_without, is_empty, has_all_below, mails_of, has_refusal, is_complete, has_ended, is_ready, is_spoiled}
 use Rattle.core_events.specs.Clients.{ClientState, client_state, client_after_call, held_under, ends_group}
-use Rattle.core_events.specs.Cells.{counters_of_run, sizes_of_cube, rows_of_brick, box_has_brick}
+use Rattle.core_events.specs.Cells.{counters_of_run, sizes_of_cube, rows_of_brick}
 use Rattle.core_events.specs.Fitting.{FitsCall, OwnsWriter, MayPutRow, CutsNoBrick, BeginsGroup, JoinsGroup}
 use Rattle.core_events.specs.Runs.{IsCoreRun}
 use Rattle.core_events.specs.Serial.{CubeOperation, PutRows, DropRows, operations_with, operations_of, commits, has_committed}
@@ -25,7 +25,7 @@ use Rattle.core_runs.proofs.Isolation.{job-fits, holds-stay, shown-within}
 use Rattle.core_runs.proofs.ToldBricks.{writer-of, own-back, own-rolls, is_rolling}
 use Rattle.core_bricks.specs.BrickTransactions.{entries_of_epoch}
 use Rattle.core_transactions.specs.PostedEntries.{entries_of_job, posted_after_post, posted_after, posted_of}
-use Rattle.core_transactions.proofs.Fates.{HasFate, HaveFates, fates-call, fates-move, commit-of}
+use Rattle.core_transactions.proofs.Fates.{HasFate, fates-call, fates-move, commit-of}
 use Rattle.core_transactions.proofs.PostedJobs.{epoch-append, IsOtherEpoch, IsClean, ready-clean, post-clean, spoiled-less, none-fresh, fate-below, other-epoch}
 use Rattle.core_transactions.proofs.PostedRuns.{run-posted-fates, other-post, low-or-high}
 use Rattle.core_transactions.proofs.CountedRows.{call-same, ended-epoch}
@@ -149,7 +149,7 @@ same-or-new e epoch = at (epoch == e) refl
     at true is = inr (eqb-true epoch e is)
     at false is = inl (eqb-false epoch e is)
 
-job-fate : (o : Opening) (es : List CoreEvent) (b mail e : ℕ) (job : CoreJob) → IsCoreRun o es
+pub job-fate : (o : Opening) (es : List CoreEvent) (b mail e : ℕ) (job : CoreJob) → IsCoreRun o es
     → FitsCall o b (Post mail job) (client_state o b es) → IsOtherEpoch e job ⊎ HasFate o es e
 job-fate o es b mail e (Append cube epoch rows) run f = elim (same-or-new e epoch) [
   | inl other ↦ inl other
@@ -168,7 +168,7 @@ job-fate o es b mail e (Purge epoch) run f = inl tt
 job-fate o es b mail e (CopyRound from to) run f = inl tt
 job-fate o es b mail e Flush run f = inl tt
 
-fate-call : (o : Opening) (b : ℕ) (call : ClientCall) (es : List CoreEvent) (e : ℕ) → HasFate o es e → HasFate o (By b call ∷ es) e
+pub fate-call : (o : Opening) (b : ℕ) (call : ClientCall) (es : List CoreEvent) (e : ℕ) → HasFate o es e → HasFate o (By b call ∷ es) e
 fate-call o b call es e f = (fates-call o b call es (RowMark e ∷ []) (f, tt)).0
 
 call-none : (o : Opening) (cube b : ℕ) (call : ClientCall) (es : List CoreEvent) (e : ℕ)
@@ -198,7 +198,7 @@ run-none o (At mail move ∷ es) cube e run = elim (run-none o es cube e run.0) 
   | inr fate ↦ inr (fates-move o mail move es (RowMark e ∷ []) (fate, tt)).0
 ]
 
-none-from-ec : (o : Opening) (es : List CoreEvent) (cube e : ℕ) → IsCoreRun o es → (counters_of_run o es).ec ≤ e → operations_of o cube es e ≡ []
+pub none-from-ec : (o : Opening) (es : List CoreEvent) (cube e : ℕ) → IsCoreRun o es → (counters_of_run o es).ec ≤ e → operations_of o cube es e ≡ []
 none-from-ec o es cube e run high = elim (run-none o es cube e run) [
   | inl none ↦ none
   | inr fate ↦ absurd (let low = fate-below o es e run fate in omega (arith, low, high))

@@ -1,5 +1,5 @@
 -- What a snapshot sees of a brick while its session waits for no job.
-use Rattle.std.proofs.Common.{◌≡◌, ◌∙◌, ℕ, ◌%◌, ◌==◌, Bool, true, ◌&&◌, Some, refl, sym, ap, eqb-true}
+use Rattle.std.proofs.Common.{◌≡◌, ◌∙◌, ℕ, ◌==◌, Some, eqb-true}
 use Rattle.std.specs.List.Sorted.{IsPermutation}
 use Rattle.cube_values.specs.declared.snapshot.Snapshot.{Snapshot}
 use Rattle.cube_journal.specs.Counters.{held_by}

@@ -1,6 +1,6 @@
 //! Laws of queries over a whole cube, over every run of the core.
 
-ghost use Rattle.std.specs.Prelude.{◌≡◌, ℕ, List, map};
+ghost use Rattle.std.specs.Prelude.{◌≡◌, ℕ, true, List, map};
 ghost use Rattle.std.specs.List.Sorted.{IsPermutation};
 ghost use Rattle.cube_values.specs.Answer.{table_of};
 ghost use Rattle.cube_values.specs.declared.query.BoundQuery.{BoundQuery};
@@ -10,11 +10,14 @@ ghost use Rattle.agg_fold.specs.Coded.{row_for};
 ghost use Rattle.agg_fold.specs.Standing.{StandsFor, IsTable};
 ghost use Rattle.agg_fold.specs.declared.groups.Groups.{Groups};
 ghost use Rattle.core_events.specs.Cells.{rows_of_brick, view_of};
-ghost use Rattle.core_events.specs.Clients.{client_state};
+ghost use Rattle.core_events.specs.Clients.{calls_of, client_state};
 ghost use Rattle.core_events.specs.ShardView.{brick_rows_seen};
 ghost use Rattle.core_events.specs.Events.{Opening, CoreEvent};
 ghost use Rattle.core_events.specs.Runs.{IsCoreRun};
 ghost use Rattle.core_runs.specs.Queries.{HasAnswered, rows_fetched};
+ghost use Rattle.core_serial.specs.OwnOperations.{operations_by_calls};
+ghost use Rattle.core_events.specs.Serial.{operations_of};
+ghost use Rattle.core_transactions.specs.PostedEntries.{has_opened};
 ghost use Rattle.core_serial.specs.HeldSnapshots.{HoldsAtRest};
 ghost use Rattle.core_serial.specs.CubeRows.{rows_of_serial_run, rows_to_find};
 
@@ -54,4 +57,13 @@ pub fn answers_are_plain_folds()
         → IsTable query lists groups table
         → table
         ≡ table_of query.group query.items (map (row_for lists) (rows_to_find o es query s)) }
+{}
+
+/// The operations of a transaction in the whole of a cube are read off the calls of the session
+/// that opened it.
+pub fn transactions_are_what_their_sessions_posted()
+    ensures { (o : Opening) (es : List CoreEvent) (client epoch cube : ℕ) → IsCoreRun o es
+        → has_opened epoch (calls_of client es) ≡ true
+        → operations_of o cube es epoch
+        ≡ operations_by_calls o client cube (calls_of client es) epoch }
 {}

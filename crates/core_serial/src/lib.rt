@@ -3,4 +3,7 @@
 
 mod law;
 
-pub use law::{answers_are_plain_folds, queries_run_serially, snapshots_see_serial_runs};
+pub use law::{
+    answers_are_plain_folds, queries_run_serially, snapshots_see_serial_runs,
+    transactions_are_what_their_sessions_posted,
+};

@@ -102,7 +102,7 @@ opened-cases true e call calls is = elim (or-is (opens_writer e call) (has_opene
 opened-cases false e call calls is = inr is
 
 -- The epoch that a call opens is the next one.
-opens-next : (o : Opening) (b e : ℕ) (call : ClientCall) (es : List CoreEvent) → IsCoreRun o (By b call ∷ es) → opens_writer e call ≡ true
+pub opens-next : (o : Opening) (b e : ℕ) (call : ClientCall) (es : List CoreEvent) → IsCoreRun o (By b call ∷ es) → opens_writer e call ≡ true
     → (e ≡ (counters_of_run o es).ec) × (e < (counters_of_run o (By b call ∷ es)).ec)
 opens-next o b e (OnDesk (OpenWrite statement epoch deps)) es run is =
     let same = eqb-true epoch e is in
@@ -188,7 +188,7 @@ call-alike o cube brick e (CloseMail mail) xs ys same = same
 call-alike o cube brick e NoChange xs ys same = same
 
 -- A post of a client that did not open the epoch.
-post-other : (o : Opening) (es : List CoreEvent) (a b e other : ℕ) (job : CoreJob) → IsCoreRun o es → FitsCall o b (Post other job) (client_state o b es)
+pub post-other : (o : Opening) (es : List CoreEvent) (a b e other : ℕ) (job : CoreJob) → IsCoreRun o es → FitsCall o b (Post other job) (client_state o b es)
     → OpenedBy a e es → (b ≡ a → ⊥) → IsOtherEpoch e job
 post-other o es a b e other (Append c epoch rows) run f opened apart = λ same.
     apart (one-opener o es b a e run (owner-opened o es b e (coe 0 1 (i. OwnsWriter b (same i) (client_state o b es)) f.bears.writer)) opened)
