@@ -20,7 +20,7 @@ use Rattle.aosi_register.specs.declared.answer.RoundEnd.TheVariants.{Safe, Lost}
 use Rattle.aosi_desk.specs.Desks.{decl_names, is_cube_code, speaks_of_cubes, cubes_after_all, KeepsCubes, AreCubes, IsLegalDesk}
 
 -- One more entry that the cubes allow.
-allowed-more : (cubes names : List (List ℕ)) (journal : List JournalEntry) (name : List ℕ) (e : JournalEntry)
+pub allowed-more : (cubes names : List (List ℕ)) (journal : List JournalEntry) (name : List ℕ) (e : JournalEntry)
     → CubesAllowAll cubes names journal → CubesAllow (cubes_after_all cubes names journal) name e
     → CubesAllowAll cubes (names ++ name ∷ []) (journal ++ e ∷ [])
 allowed-more cubes [] [] name e all more = (more, tt)
@@ -29,7 +29,7 @@ allowed-more cubes (n ∷ names) (x ∷ journal) name e all more =
 allowed-more cubes [] (x ∷ journal) name e all more = absurd all
 allowed-more cubes (n ∷ names) [] name e all more = absurd all
 
-cubes_after_all-more : (cubes names : List (List ℕ)) (journal : List JournalEntry) (name : List ℕ) (e : JournalEntry)
+pub cubes_after_all-more : (cubes names : List (List ℕ)) (journal : List JournalEntry) (name : List ℕ) (e : JournalEntry)
     → CubesAllowAll cubes names journal
     → cubes_after_all cubes (names ++ name ∷ []) (journal ++ e ∷ [])
     ≡ cubes_after (cubes_after_all cubes names journal) name e
@@ -72,7 +72,7 @@ other_refusal cubes name n other =
     }
 
 -- An entry that does not speak of the cubes is allowed and leaves them.
-other_entry : (cubes : List (List ℕ)) (e : JournalEntry) → speaks_of_cubes e ≡ false
+pub other_entry : (cubes : List (List ℕ)) (e : JournalEntry) → speaks_of_cubes e ≡ false
     → CubesAllow cubes [] e × (cubes_after cubes [] e ≡ cubes)
 other_entry cubes (entry.Begin session statement epoch deps) other = (tt, refl)
 other_entry cubes (entry.Read session statement epoch) other = (tt, refl)

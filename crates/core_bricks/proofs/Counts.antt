@@ -23,7 +23,7 @@ sum-from f n m [] = refl
 sum-from f n m (x ∷ xs) =
     ap (λ (z : ℕ). fold (λ a y. a + f y) z xs) (sym (sum-of-three n m (f x))) ∙ sum-from f n (m + f x) xs
 
-count-cons : (c : CodedRow → Bool) (x : CodedRow) (xs : List CodedRow) → count_by c (x ∷ xs) ≡ cond (c x) 1 0 + count_by c xs
+pub count-cons : (c : CodedRow → Bool) (x : CodedRow) (xs : List CodedRow) → count_by c (x ∷ xs) ≡ cond (c x) 1 0 + count_by c xs
 count-cons c x xs =
     ap (λ (z : ℕ). fold (λ a y. a + cond (c y) 1 0) z xs) (none-first (cond (c x) 1 0))
     ∙ sum-from (λ y. cond (c y) 1 0) (cond (c x) 1 0) 0 xs

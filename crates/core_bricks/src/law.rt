@@ -6,7 +6,7 @@ ghost use Rattle.cube_values.specs.declared.row.CodedRow.{CodedRow};
 ghost use Rattle.cube_values.specs.declared.snapshot.Snapshot.{Snapshot};
 ghost use Rattle.cube_values.specs.Sees.{sees};
 ghost use Rattle.core_bricks.specs.BrickTransactions.{brick_rows_left, rows_over_kept};
-ghost use Rattle.core_events.specs.Clients.{reader_at};
+ghost use Rattle.core_events.specs.Clients.{reader_up_to};
 ghost use Rattle.core_events.specs.Runs.{Sight, rows_shown_besides};
 ghost use Rattle.core_events.specs.ShardView.{
   BrickEntry,
@@ -37,7 +37,7 @@ pub fn deltas_are_differences()
 /// row for row, what a reader at its target sees.
 pub fn copies_restore_bricks()
     ensures { (test : CodedRow → Bool) (from to : ℕ) (entries : List BrickEntry) → from ≤ to
-        → count_by test (rows_over_kept from (brick_rows_seen (reader_at from) entries)
+        → count_by test (rows_over_kept from (brick_rows_seen (reader_up_to from) entries)
         (entries_of_round from to entries))
-        ≡ count_by test (brick_rows_seen (reader_at to) entries) }
+        ≡ count_by test (brick_rows_seen (reader_up_to to) entries) }
 {}

@@ -11,9 +11,10 @@ use Rattle.core_events.specs.Events.{OnDesk, OpenWrite, OpenRead, Post, Take, Wo
 use Rattle.core_events.specs.Clients.{ClientState, client_state}
 use Rattle.core_events.specs.Cells.{brick_after_move, rows_of_brick}
 use Rattle.core_events.specs.Fitting.{MayPutRow}
-use Rattle.core_events.specs.Runs.{IsRun, AreByBrick, rows_in_span}
+use Rattle.core_events.specs.Runs.{IsCoreRun, AreByBrick, rows_in_span}
 use Rattle.core_runs.specs.Queries.{HasAnswered, rows_asked, rows_fetched}
-use Rattle.core_cases.specs.SmallRun.{small_opening, small_row, small_query, small_reader, small_put, small_scan, small_write, small_events}
+use Rattle.brick_address.specs.Addresses.{AreCoords}
+use Rattle.core_cases.specs.SmallRun.{small_shape, small_opening, small_row, small_query, small_reader, small_put, small_scan, small_write, small_events}
 
 abbrev flushes : CoreJob → Bool
 flushes Flush = true
@@ -31,7 +32,7 @@ put-row k = record {
   names = λ dim coord text at. absurd (no-texts dim text);
 }
 
-written : IsRun small_opening small_write
+written : IsCoreRun small_opening small_write
 written = (
   (
     (
@@ -39,7 +40,15 @@ written = (
         (
           (
             (
-              record { some = omega arith; shards = omega arith; sessions = omega arith; safe = omega arith },
+              record {
+                some = omega arith;
+                shards = omega arith;
+                sessions = omega arith;
+                safe = omega arith;
+                cubes = omega arith;
+                rows = λ cube. All-nil (λ row. AreCoords small_shape.shape.sizes row.coords);
+                none = λ begins cube. refl;
+              },
               record {
                 fits = record { session = record { first = omega arith; last = omega arith }; under = inl refl; free = refl; ready = refl };
                 says = (refl, refl);
@@ -106,7 +115,7 @@ found brick =
     let same : 0 ≡ brick % 1 = sym (one-shard brick) in
     coe 1 0 (i. IsFound (eq-eqb 0 (brick % 1) same i) (eq-eqb (brick % 1) 0 (one-shard brick) i) brick) (taken (1 == brick))
 
-pub small-run : IsRun small_opening small_events
+pub small-run : IsCoreRun small_opening small_events
 small-run = (
   (
     (

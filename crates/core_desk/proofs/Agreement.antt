@@ -12,13 +12,13 @@ use Rattle.aosi_desk.specs.declared.cube.CubeFound.TheVariants.{Found, Unknown}
 use Rattle.core_events.specs.Events.{Opening, IsOpening, IsSession, flusher, OpenWrite, OpenRead, Commit, AbortEnd, CloseRead, TakeNote, CreateCube, FindCube, CubesFrom, CountersNow, RoundOpen, RoundClose, StoreFailed, ClientCall, OnDesk, OnNames, Post, Fetch, CloseMail, NoChange, CoreEvent, By, At}
 use Rattle.core_events.specs.Clients.{OwnRound, ClientState, client_state, client_after_call, held_under, round_with_cubes}
 use Rattle.core_events.specs.Cells.{counters_of_run}
-use Rattle.core_events.specs.Fitting.{Fits, IsNumberOf}
-use Rattle.core_events.specs.Runs.{IsRun}
+use Rattle.core_events.specs.Fitting.{FitsCall, IsNumberOf}
+use Rattle.core_events.specs.Runs.{IsCoreRun}
 use Rattle.core_desk.proofs.Lookups.{with_one, without_one}
 use Rattle.core_desk.proofs.DeskSteps.{client_entry, state_with_entry, run-step, HoldChange, Opens, Ends, Keeps, change_by, held_after, desk-held, client-held}
 
 -- The limits of the opening hold all along.
-pub opening-of : (o : Opening) (es : List CoreEvent) → IsRun o es → IsOpening o
+pub opening-of : (o : Opening) (es : List CoreEvent) → IsCoreRun o es → IsOpening o
 opening-of o [] run = run
 opening-of o (By a call ∷ es) run = opening-of o es run.0
 opening-of o (At mail move ∷ es) run = opening-of o es run.0
@@ -29,7 +29,7 @@ NumberFits o a (Opens number snapshot) = IsSession o a × IsNumberOf a number
 NumberFits o a (Ends number) = IsSession o a × IsNumberOf a number
 NumberFits o a Keeps = Unit {0}
 
-number-fits : (o : Opening) (a : ℕ) (call : ClientCall) (k : ClientState) → Fits o a call k
+number-fits : (o : Opening) (a : ℕ) (call : ClientCall) (k : ClientState) → FitsCall o a call k
     → NumberFits o a (change_by (client_entry a call))
 number-fits o a (OnDesk (OpenWrite statement epoch deps)) k f = (f.session, inl refl)
 number-fits o a (OnDesk (OpenRead number statement epoch)) k f = (f.session, f.under)
@@ -117,7 +117,7 @@ agree-step o false a b call k s m own opening sa na fits before =
     ∙ other-change o a b m (change_by (client_entry b call)) (held_by s.snapshots m) opening sa na fits own
     ∙ before
 
-pub agree : (o : Opening) (es : List CoreEvent) → IsRun o es → Agrees o es
+pub agree : (o : Opening) (es : List CoreEvent) → IsCoreRun o es → Agrees o es
 agree o [] run a sa m na = refl
 agree o (By b call ∷ es) run a sa m na =
     ap (λ (s : JournalState). held_by s.snapshots m) (run-step o b call es)
@@ -144,7 +144,7 @@ RoundFits o b (OnDesk (RoundOpen answer)) = b ≡ flusher o
 RoundFits o b (OnDesk (RoundClose epoch end)) = b ≡ flusher o
 RoundFits o b call = Unit {0}
 
-round-fits : (o : Opening) (b : ℕ) (call : ClientCall) (k : ClientState) → Fits o b call k → RoundFits o b call
+round-fits : (o : Opening) (b : ℕ) (call : ClientCall) (k : ClientState) → FitsCall o b call k → RoundFits o b call
 round-fits o b (OnDesk (RoundOpen answer)) k f = f.flusher
 round-fits o b (OnDesk (RoundClose epoch end)) k f = f.flusher
 round-fits o b call k f = tt
@@ -154,7 +154,7 @@ abbrev RoundFree : ClientCall → ClientState → Type 0
 RoundFree (OnDesk (RoundOpen answer)) k = k.round ≡ None
 RoundFree call k = Unit {0}
 
-round-free : (o : Opening) (b : ℕ) (call : ClientCall) (k : ClientState) → Fits o b call k → RoundFree call k
+round-free : (o : Opening) (b : ℕ) (call : ClientCall) (k : ClientState) → FitsCall o b call k → RoundFree call k
 round-free o b (OnDesk (RoundOpen answer)) k f = f.none
 round-free o b call k f = tt
 
@@ -235,7 +235,7 @@ round-step o false a b call k s own is fits free g =
     let stays = round-other o b call s fits (ap (λ (x : ℕ). b == x) (sym is) ∙ own) in
     record { round = stays.round ∙ g.round; store = stays.store ∙ g.store }
 
-pub round-agrees : (o : Opening) (es : List CoreEvent) → IsRun o es
+pub round-agrees : (o : Opening) (es : List CoreEvent) → IsCoreRun o es
     → RoundAgrees o (counters_of_run o es) (client_state o (flusher o) es)
 round-agrees o [] run = record { round = refl; store = refl }
 round-agrees o (By b call ∷ es) run =

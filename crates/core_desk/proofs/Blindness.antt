@@ -15,9 +15,9 @@ use Rattle.cube_journal.specs.Order.{IsInOrder, IsAdmissibleToBound}
 use Rattle.cube_journal.proofs.LeastEpochs.{lt-fold}
 use Rattle.core_events.specs.Events.{Opening, CoreEvent, By, At}
 use Rattle.core_events.specs.Groups.{has_number}
-use Rattle.core_events.specs.Clients.{writer_at, reader_at}
+use Rattle.core_events.specs.Clients.{writer_at, reader_up_to}
 use Rattle.core_events.specs.Cells.{counters_of_run}
-use Rattle.core_events.specs.Runs.{IsRun}
+use Rattle.core_events.specs.Runs.{IsCoreRun}
 use Rattle.core_desk.proofs.Lookups.{with_one, without_one, held-by-append, held-by-without}
 use Rattle.core_desk.proofs.DeskSteps.{client_entry, state_with_entry, run-step}
 use Rattle.core_desk.proofs.InOrder.{StateAllows, AllowsEntry, run-allowed, run-order, lse-below-bounds}
@@ -127,23 +127,23 @@ entry-blind s (entry.Begin session statement k deps) h order b = record {
   held m = held-by-append s.snapshots (record { session = session; bound = lce s; snapshot = writer_at k deps }) m
 entry-blind s (entry.Read session statement k) h order b = record {
   low = b.low;
-  past = λ m e t is seen. elim (with-one-is (held_by s.snapshots m) (session == m) (reader_at k) t (sym (held m) ∙ is)) [
+  past = λ m e t is seen. elim (with-one-is (held_by s.snapshots m) (session == m) (reader_up_to k) t (sym (held m) ∙ is)) [
     | inl old ↦ b.past m e t old seen
-    | inr new ↦ (let l = sees-up (reader_at k) e (ap (λ (x : Snapshot). sees x e) new.1 ∙ seen) in
+    | inr new ↦ (let l = sees-up (reader_up_to k) e (ap (λ (x : Snapshot). sees x e) new.1 ∙ seen) in
         let latest = h.latest in let next = order.next in omega (arith, l, latest, next))
   ];
-  blind = λ m e t is has other. elim (with-one-is (held_by s.snapshots m) (session == m) (reader_at k) t (sym (held m) ∙ is)) [
+  blind = λ m e t is has other. elim (with-one-is (held_by s.snapshots m) (session == m) (reader_up_to k) t (sym (held m) ∙ is)) [
     | inl old ↦ b.blind m e t old has other
     | inr new ↦ false_from_ne_true (sees t e) (λ sure.
-        let l = sees-up (reader_at k) e (ap (λ (x : Snapshot). sees x e) new.1 ∙ sure) in
+        let l = sees-up (reader_up_to k) e (ap (λ (x : Snapshot). sees x e) new.1 ∙ sure) in
         let latest = h.latest in
         let least = least-pending s e has (b.low e has) in
         omega (arith, l, latest, least))
   ];
 } where
   held : (m : ℕ) → held_by (state_after s (entry.Read session statement k)).snapshots m
-      ≡ with_one (held_by s.snapshots m) (session == m) (reader_at k)
-  held m = held-by-append s.snapshots (record { session = session; bound = lce s; snapshot = reader_at k }) m
+      ≡ with_one (held_by s.snapshots m) (session == m) (reader_up_to k)
+  held m = held-by-append s.snapshots (record { session = session; bound = lce s; snapshot = reader_up_to k }) m
 entry-blind s (entry.ReadEnd session statement) h order b =
     blind-less s (state_after s (entry.ReadEnd session statement)) session (held-by-without s.snapshots session) (λ e is. is) refl b
 entry-blind s (entry.Committed session statement k) h order b =
@@ -160,7 +160,7 @@ step-blind : (s : JournalState) (e : Option JournalEntry) → AllowsEntry s e �
 step-blind s None h order b = b
 step-blind s (Some e) h order b = entry-blind s e h order b
 
-pub run-blind : (o : Opening) (es : List CoreEvent) → IsRun o es → AreBlind (counters_of_run o es)
+pub run-blind : (o : Opening) (es : List CoreEvent) → IsCoreRun o es → AreBlind (counters_of_run o es)
 run-blind o [] run = record {
   low = λ e is. absurd (false≢true is);
   past = λ m e t is seen. absurd (none-some t is);
@@ -236,7 +236,7 @@ both-all lse (x ∷ xs) a b =
     (both-all lse xs (All-tail (λ (o : OpenSnapshot). lse ≤ o.bound) x xs a) (All-tail IsAdmissibleToBound x xs b))
 
 -- An open snapshot sees all up to LSE.
-pub sees-safe : (o : Opening) (es : List CoreEvent) (m e : ℕ) (t : Snapshot) → IsRun o es
+pub sees-safe : (o : Opening) (es : List CoreEvent) (m e : ℕ) (t : Snapshot) → IsCoreRun o es
     → held_by (counters_of_run o es).snapshots m ≡ Some t → e ≤ (counters_of_run o es).lse → sees t e ≡ true
 sees-safe o es m e t run is le =
     let s = counters_of_run o es in

@@ -17,7 +17,7 @@ use Rattle.aosi_desk.specs.declared.cube.CubeFound.{CubeFound}
 use Rattle.aosi_desk.specs.declared.cube.CubeFound.TheVariants.{Found, Unknown}
 use Rattle.aosi_desk.specs.Desks.{DeskState, refusal_entry}
 use Rattle.core_events.specs.Events.{Opening, DeskCall, OpenWrite, OpenRead, Commit, AbortEnd, CloseRead, TakeNote, CreateCube, FindCube, CubesFrom, CountersNow, RoundOpen, RoundClose, StoreFailed, ClientCall, OnDesk, OnNames, Post, Fetch, CloseMail, NoChange, CoreEvent, By}
-use Rattle.core_events.specs.Clients.{Holding, writer_at, reader_at, held_under, holds_after}
+use Rattle.core_events.specs.Clients.{Holding, writer_at, reader_up_to, held_under, holds_after}
 use Rattle.core_events.specs.Cells.{desk_after_call, counters_of_run, desk_of}
 use Rattle.core_desk.proofs.Lookups.{with_one, without_one, held-by-append, held-by-without, held-under-append, held-under-without}
 
@@ -58,7 +58,7 @@ abbrev pub register_with : Option JournalEntry → RegisterState → RegisterSta
 register_with None r = r
 register_with (Some e) r = with_entry r e
 
-register-step : (a : ℕ) (call : DeskCall) (desk : DeskState)
+pub register-step : (a : ℕ) (call : DeskCall) (desk : DeskState)
     → (desk_after_call a call desk).register ≡ register_with (desk_entry a call) desk.register
 register-step a (OpenWrite statement epoch deps) desk = refl
 register-step a (OpenRead number statement epoch) desk = refl
@@ -95,7 +95,7 @@ pub data HoldChange : Type 0 where
 
 abbrev pub change_by_entry : JournalEntry → HoldChange
 change_by_entry (entry.Begin session statement epoch deps) = Opens session (writer_at epoch deps)
-change_by_entry (entry.Read session statement epoch) = Opens session (reader_at epoch)
+change_by_entry (entry.Read session statement epoch) = Opens session (reader_up_to epoch)
 change_by_entry (entry.ReadEnd session statement) = Ends session
 change_by_entry (entry.Committed session statement epoch) = Ends session
 change_by_entry (entry.Aborted session statement epoch cause) = Ends session
@@ -115,7 +115,7 @@ entry-held : (s : JournalState) (e : JournalEntry) (m : ℕ)
 entry-held s (entry.Begin session statement epoch deps) m =
     held-by-append s.snapshots (record { session = session; bound = lce s; snapshot = writer_at epoch deps }) m
 entry-held s (entry.Read session statement epoch) m =
-    held-by-append s.snapshots (record { session = session; bound = lce s; snapshot = reader_at epoch }) m
+    held-by-append s.snapshots (record { session = session; bound = lce s; snapshot = reader_up_to epoch }) m
 entry-held s (entry.ReadEnd session statement) m = held-by-without s.snapshots session m
 entry-held s (entry.Committed session statement epoch) m = held-by-without s.snapshots session m
 entry-held s (entry.Aborted session statement epoch cause) m = held-by-without s.snapshots session m
@@ -131,7 +131,7 @@ pub client-held : (a : ℕ) (call : ClientCall) (holds : List Holding) (m : ℕ)
 client-held a (OnDesk (OpenWrite statement epoch deps)) holds m =
     held-under-append holds (record { number = a; snapshot = writer_at epoch deps }) m
 client-held a (OnDesk (OpenRead number statement epoch)) holds m =
-    held-under-append holds (record { number = number; snapshot = reader_at epoch }) m
+    held-under-append holds (record { number = number; snapshot = reader_up_to epoch }) m
 client-held a (OnDesk (Commit statement epoch)) holds m = held-under-without holds a m
 client-held a (OnDesk (AbortEnd statement epoch cause)) holds m = held-under-without holds a m
 client-held a (OnDesk (CloseRead number statement)) holds m = held-under-without holds number m

@@ -15,10 +15,10 @@ use Rattle.aosi_desk.specs.declared.cube.CubeAnswer.TheVariants.{Created, Exists
 use Rattle.aosi_desk.specs.declared.cube.CubeFound.TheVariants.{Found, Unknown}
 use Rattle.core_events.specs.Events.{Opening, OpenWrite, OpenRead, Commit, AbortEnd, CloseRead, TakeNote, CreateCube, FindCube, CubesFrom, CountersNow, RoundOpen, RoundClose, StoreFailed, ClientCall, OnDesk, OnNames, Post, Fetch, CloseMail, NoChange, CoreEvent, By, At}
 use Rattle.core_events.specs.Groups.{has_number}
-use Rattle.core_events.specs.Clients.{writer_at, reader_at}
+use Rattle.core_events.specs.Clients.{writer_at, reader_up_to}
 use Rattle.core_events.specs.Cells.{counters_of_run}
-use Rattle.core_events.specs.Runs.{IsRun}
-use Rattle.core_events.specs.Serial.{commits, is_committed, aborts, is_aborted, counts_for}
+use Rattle.core_events.specs.Runs.{IsCoreRun}
+use Rattle.core_events.specs.Serial.{commits, has_committed, aborts, has_aborted, counts_for}
 use Rattle.core_desk.proofs.Lookups.{with_one, without_one, held-by-append, held-by-without}
 use Rattle.core_desk.proofs.DeskSteps.{client_entry, state_with_entry, run-step}
 use Rattle.core_desk.proofs.InOrder.{StateAllows, AllowsEntry, run-allowed}
@@ -283,8 +283,8 @@ entry-finished s (entry.Begin session statement epoch deps) done gone h f =
     last-is true b is = refl
     last-is false b is = is
 entry-finished s (entry.Read session statement epoch) done gone h f =
-    opens s (state_after s (entry.Read session statement epoch)) done gone session (reader_at epoch)
-    (λ m. held-by-append s.snapshots (record { session = session; bound = lce s; snapshot = reader_at epoch }) m)
+    opens s (state_after s (entry.Read session statement epoch)) done gone session (reader_up_to epoch)
+    (λ m. held-by-append s.snapshots (record { session = session; bound = lce s; snapshot = reader_up_to epoch }) m)
     (λ own. absurd (false≢true own)) (λ own. absurd (false≢true own)) (λ e is. is) (λ e is. inl is) (omega arith) f
 entry-finished s (entry.ReadEnd session statement) done gone h f =
     reader-ends s (state_after s (entry.ReadEnd session statement)) done gone session (held-by-without s.snapshots session) refl refl f
@@ -394,8 +394,8 @@ finished-as s done gone after lost d g f = record {
   not_both = λ e is. sym (d e) ∙ f.not_both e (g e ∙ is);
 }
 
-pub run-finished : (o : Opening) (es : List CoreEvent) → IsRun o es
-    → AreFinished (counters_of_run o es) (is_committed o es) (is_aborted es)
+pub run-finished : (o : Opening) (es : List CoreEvent) → IsCoreRun o es
+    → AreFinished (counters_of_run o es) (has_committed o es) (has_aborted es)
 run-finished o [] run = record {
   writers = λ m t is own. absurd (none-some t is);
   apart = λ m n epoch a b. absurd (none-some a.snapshot a.is);
@@ -409,12 +409,12 @@ run-finished o [] run = record {
 run-finished o (By b call ∷ es) run =
     let s = counters_of_run o es in
     let f =
-    finished-as (state_with_entry (client_entry b call) s) (done_with (client_entry b call) (is_committed o es))
-    (gone_with (client_entry b call) (is_aborted es)) (is_committed o (By b call ∷ es)) (is_aborted (By b call ∷ es))
-    (done-same b call (is_committed o es)) (gone-same b call (is_aborted es))
-    (finished-step s (client_entry b call) (is_committed o es) (is_aborted es) (run-allowed o b call es run) (run-finished o es run.0))
+    finished-as (state_with_entry (client_entry b call) s) (done_with (client_entry b call) (has_committed o es))
+    (gone_with (client_entry b call) (has_aborted es)) (has_committed o (By b call ∷ es)) (has_aborted (By b call ∷ es))
+    (done-same b call (has_committed o es)) (gone-same b call (has_aborted es))
+    (finished-step s (client_entry b call) (has_committed o es) (has_aborted es) (run-allowed o b call es run) (run-finished o es run.0))
     in
-    coe 1 0 (i. AreFinished (run-step o b call es i) (is_committed o (By b call ∷ es)) (is_aborted (By b call ∷ es))) f
+    coe 1 0 (i. AreFinished (run-step o b call es i) (has_committed o (By b call ∷ es)) (has_aborted (By b call ∷ es))) f
 run-finished o (At mail move ∷ es) run = run-finished o es run.0
 
 none-counts : (seen done own : Bool) → done ≡ false → own ≡ false → (seen && (done || own)) ≡ false
@@ -428,15 +428,15 @@ own-is true false e = absurd (false≢true e)
 own-is false same e = absurd (false≢true e)
 
 -- No aborted epoch counts for a snapshot that is open.
-pub aborted-counts-not : (o : Opening) (es : List CoreEvent) (m e : ℕ) (s : Snapshot) → IsRun o es
-    → held_by (counters_of_run o es).snapshots m ≡ Some s → is_aborted es e ≡ true → counts_for o es s e ≡ false
+pub aborted-counts-not : (o : Opening) (es : List CoreEvent) (m e : ℕ) (s : Snapshot) → IsCoreRun o es
+    → held_by (counters_of_run o es).snapshots m ≡ Some s → has_aborted es e ≡ true → counts_for o es s e ≡ false
 aborted-counts-not o es m e s run held gone =
     let f = run-finished o es run in
-    none-counts (sees s e) (is_committed o es e) (s.own && s.epoch == e) (f.not_both e gone)
+    none-counts (sees s e) (has_committed o es e) (s.own && s.epoch == e) (f.not_both e gone)
     (false_from_ne_true (s.own && s.epoch == e) (λ sure.
     let is = own-is s.own (s.epoch == e) sure in
     let pending = f.writers m s held is.0 in
     true≢false (sym pending ∙ ap (has_number (counters_of_run o es).pending) (eqb-true s.epoch e is.1) ∙ f.gone_ended e gone)))
 
-pub none-both : (o : Opening) (es : List CoreEvent) (e : ℕ) → IsRun o es → is_aborted es e ≡ true → is_committed o es e ≡ false
+pub none-both : (o : Opening) (es : List CoreEvent) (e : ℕ) → IsCoreRun o es → has_aborted es e ≡ true → has_committed o es e ≡ false
 none-both o es e run gone = (run-finished o es run).not_both e gone

@@ -24,13 +24,13 @@ use Rattle.aosi_desk.specs.Desks.{DeskState, cube_answer, decl_names}
 use Rattle.core_events.specs.Events.{Opening, IsSession, OpenWrite, OpenRead, Commit, AbortEnd, CloseRead, TakeNote, CreateCube, FindCube, CubesFrom, CountersNow, RoundOpen, RoundClose, StoreFailed, ClientCall, OnDesk, OnNames, Post, Fetch, CloseMail, NoChange, CoreEvent, By, At}
 use Rattle.core_events.specs.Clients.{OwnRound, ClientState, client_state, held_under}
 use Rattle.core_events.specs.Cells.{desk_of, counters_of_run}
-use Rattle.core_events.specs.Fitting.{Fits, IsNumberOf}
-use Rattle.core_events.specs.Runs.{IsRun, CallSays}
+use Rattle.core_events.specs.Fitting.{FitsCall, IsNumberOf}
+use Rattle.core_events.specs.Runs.{IsCoreRun, CallSays}
 use Rattle.core_desk.proofs.DeskSteps.{client_entry, state_with_entry, run-step}
 use Rattle.core_desk.proofs.Agreement.{agree, RoundAgrees, round-agrees, round_epoch}
 
 -- An entry that changes no counter.
-abbrev is_note : JournalEntry → Bool
+abbrev pub is_note : JournalEntry → Bool
 is_note (entry.Refused session statement code) = true
 is_note (entry.Cleared session statement) = true
 is_note (entry.Show session statement) = true
@@ -60,7 +60,7 @@ StateAllows s (entry.Safe epoch) = s.round ≡ Some epoch
 StateAllows s (entry.RoundLost epoch cause) = s.round ≡ Some epoch
 StateAllows s _ = Unit {0}
 
-allows : (safe : ℕ) (s : JournalState) (before : List JournalEntry) (e : JournalEntry) → is_note e ≡ false
+pub allows : (safe : ℕ) (s : JournalState) (before : List JournalEntry) (e : JournalEntry) → is_note e ≡ false
     → s ≡ journal_state safe before → StateAllows s e → CountersAllow safe before e
 allows safe s before (entry.Begin session statement epoch deps) n is h = subst (λ x. MayBegin x session epoch deps) is h
 allows safe s before (entry.Read session statement epoch) n is h = subst (λ x. MayRead x session epoch) is h
@@ -151,7 +151,7 @@ Tied o b (OnDesk (RoundClose epoch end)) s k = RoundAgrees o s k
 Tied o b call s k = IsSession o b → (m : ℕ) → IsNumberOf b m → held_by s.snapshots m ≡ held_under m k.holds
 
 call-allowed : (o : Opening) (b : ℕ) (call : ClientCall) (k : ClientState) (es : List CoreEvent)
-    → Fits o b call k → CallSays o es b call → Tied o b call (counters_of_run o es) k → IsInOrder (counters_of_run o es)
+    → FitsCall o b call k → CallSays o es b call → Tied o b call (counters_of_run o es) k → IsInOrder (counters_of_run o es)
     → AllowsEntry (counters_of_run o es) (client_entry b call)
 call-allowed o b (OnDesk (OpenWrite statement epoch deps)) k es f says tied order =
     record { next = says.0; pending = says.1; free = tied f.session b (inl refl) ∙ f.free }
@@ -195,15 +195,15 @@ call-allowed o b (Fetch mail answer) k es f says tied order = tt
 call-allowed o b (CloseMail mail) k es f says tied order = tt
 call-allowed o b NoChange k es f says tied order = tt
 
-tie : (o : Opening) (b : ℕ) (call : ClientCall) (es : List CoreEvent) → IsRun o es
-    → Fits o b call (client_state o b es) → Tied o b call (counters_of_run o es) (client_state o b es)
+tie : (o : Opening) (b : ℕ) (call : ClientCall) (es : List CoreEvent) → IsCoreRun o es
+    → FitsCall o b call (client_state o b es) → Tied o b call (counters_of_run o es) (client_state o b es)
 tie o b (OnDesk (RoundOpen answer)) es run f =
     coe 1 0 (i. RoundAgrees o (counters_of_run o es) (client_state o (f.flusher i) es)) (round-agrees o es run)
 tie o b (OnDesk (RoundClose epoch end)) es run f =
     coe 1 0 (i. RoundAgrees o (counters_of_run o es) (client_state o (f.flusher i) es)) (round-agrees o es run)
 tie o b call es run f = agree o es run b
 
-pub bare : (o : Opening) (es : List CoreEvent) → IsRun o es → HasBare o.safe (counters_of_run o es)
+pub bare : (o : Opening) (es : List CoreEvent) → IsCoreRun o es → HasBare o.safe (counters_of_run o es)
 bare o [] run = record { journal = []; state = refl; legal = tt }
 bare o (By b call ∷ es) run =
     let before = bare o es run.0 in
@@ -214,11 +214,11 @@ bare o (By b call ∷ es) run =
     before)
 bare o (At mail move ∷ es) run = bare o es run.0
 
-pub run-order : (o : Opening) (es : List CoreEvent) → IsRun o es → IsInOrder (counters_of_run o es)
+pub run-order : (o : Opening) (es : List CoreEvent) → IsCoreRun o es → IsInOrder (counters_of_run o es)
 run-order o es run = order-of o.safe (counters_of_run o es) (bare o es run)
 
 -- What the counters ask of the entry of a call.
-pub run-allowed : (o : Opening) (b : ℕ) (call : ClientCall) (es : List CoreEvent) → IsRun o (By b call ∷ es)
+pub run-allowed : (o : Opening) (b : ℕ) (call : ClientCall) (es : List CoreEvent) → IsCoreRun o (By b call ∷ es)
     → AllowsEntry (counters_of_run o es) (client_entry b call)
 run-allowed o b call es run =
     call-allowed o b call (client_state o b es) es run.1.fits run.1.says (tie o b call es run.0 run.1.fits) (run-order o es run.0)
@@ -229,7 +229,7 @@ all-above low high [] n = All-nil (λ (o : OpenSnapshot). low ≤ o.bound)
 all-above low high (o ∷ xs) n =
     All-cons (λ (o : OpenSnapshot). low ≤ o.bound) o xs n.0 (all-above low high xs (from-lower o.bound low high xs n.0 n.1))
 
-pub lse-below-bounds : (o : Opening) (es : List CoreEvent) → IsRun o es
+pub lse-below-bounds : (o : Opening) (es : List CoreEvent) → IsCoreRun o es
     → All (λ (s : OpenSnapshot). (counters_of_run o es).lse ≤ s.bound) (counters_of_run o es).snapshots
 lse-below-bounds o es run =
     let s = counters_of_run o es in all-above s.lse (lce s) s.snapshots (run-order o es run).bounds
@@ -241,7 +241,7 @@ round-below None s bounds h = tt
 round-below (Some epoch) s bounds h =
     all-above epoch (lce s) s.snapshots (from-oldest s.lse (lce s) epoch s.snapshots h.1 bounds)
 
-pub round-below-bounds : (o : Opening) (es : List CoreEvent) → IsRun o es
+pub round-below-bounds : (o : Opening) (es : List CoreEvent) → IsCoreRun o es
     → IfSome (counters_of_run o es).round
     (λ epoch. All (λ (s : OpenSnapshot). epoch ≤ s.bound) (counters_of_run o es).snapshots)
 round-below-bounds o es run =

@@ -11,8 +11,8 @@ use Rattle.aosi_desk.specs.Desks.{DeskState, cube_answer, decl_names}
 use Rattle.core_events.specs.Cells.{desk_of, desk_after}
 use Rattle.core_events.specs.Clients.{ClientState, client_state, client_after_call, cubes_in, greater_of}
 use Rattle.core_events.specs.Events.{Opening, CreateCube, FindCube, CubesFrom, ClientCall, OnDesk, CoreEvent, By, At}
-use Rattle.core_events.specs.Fitting.{Fits}
-use Rattle.core_events.specs.Runs.{IsRun, CallSays}
+use Rattle.core_events.specs.Fitting.{FitsCall}
+use Rattle.core_events.specs.Runs.{IsCoreRun, CallSays}
 
 -- The list of cubes only grows.
 cubes-grow : (b : ℕ) (call : ClientCall) (desk : DeskState) → length desk.cubes ≤ length (desk_after b call desk).cubes
@@ -43,7 +43,7 @@ place-is-last desk name epoch place is =
     (length desk.cubes)
 
 -- What an answer tells of is there.
-answer-there : (o : Opening) (a : ℕ) (call : ClientCall) (k : ClientState) (es : List CoreEvent) (n : ℕ) → Fits o a call k
+answer-there : (o : Opening) (a : ℕ) (call : ClientCall) (k : ClientState) (es : List CoreEvent) (n : ℕ) → FitsCall o a call k
     → CallSays o es a call → k.cubes ≤ length (desk_of o es).cubes → cubes_in call ≡ Some n
     → n ≤ length (desk_after a call (desk_of o es)).cubes
 answer-there o a (OnDesk (CreateCube statement decl (Created epoch place))) k es n f says known is =
@@ -72,7 +72,7 @@ greater-there None n most le all = le
 greater-there (Some m) n most le all = let l = all m refl in omega (arith, le, l)
 
 call-there : (own : Bool) (o : Opening) (a b : ℕ) (call : ClientCall) (k : ClientState) (es : List CoreEvent)
-    → (own ≡ true → (Fits o a call k) × (b ≡ a)) → CallSays o es b call → k.cubes ≤ length (desk_of o es).cubes
+    → (own ≡ true → (FitsCall o a call k) × (b ≡ a)) → CallSays o es b call → k.cubes ≤ length (desk_of o es).cubes
     → (client_after_call o own a call k).cubes ≤ length (desk_after b call (desk_of o es)).cubes
 call-there true o a b call k es f says known =
     let grows = cubes-grow b call (desk_of o es) in
@@ -83,12 +83,12 @@ call-there true o a b call k es f says known =
 call-there false o a b call k es f says known =
     let grows = cubes-grow b call (desk_of o es) in omega (arith, grows, known)
 
-pub known-cubes : (o : Opening) (es : List CoreEvent) (a : ℕ) → IsRun o es
+pub known-cubes : (o : Opening) (es : List CoreEvent) (a : ℕ) → IsCoreRun o es
     → (client_state o a es).cubes ≤ length (desk_of o es).cubes
 known-cubes o [] a run = omega arith
 known-cubes o (By b call ∷ es) a run =
     call-there (b == a) o a b call (client_state o a es) es
     (λ own. let same = eqb-true b a own in
-    (coe 0 1 (i. Fits o (same i) call (client_state o (same i) es)) run.1.fits, same))
+    (coe 0 1 (i. FitsCall o (same i) call (client_state o (same i) es)) run.1.fits, same))
     run.1.says (known-cubes o es a run.0)
 known-cubes o (At mail move ∷ es) a run = known-cubes o es a run.0

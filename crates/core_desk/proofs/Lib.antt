@@ -6,3 +6,4 @@ pub mod Finished
 pub mod Blindness
 pub mod MayCalls
 pub mod KnownCubes
+pub mod RoundEnds

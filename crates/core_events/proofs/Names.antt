@@ -12,8 +12,8 @@ use Rattle.names_dict.specs.Dictionaries.{Dictionary, number_of, code_of, with_c
 use Rattle.core_events.specs.Events.{Opening, NamesCall, Encode, FindName, CopyFrom, ClientCall, OnNames, CoreEvent, By, At}
 use Rattle.core_events.specs.Clients.{ClientState, client_state, client_after_call, after_client_call, number_in, names_by_number, greater_of, greater_where}
 use Rattle.core_events.specs.Cells.{dictionary_of, dictionary_after, dictionary_after_call}
-use Rattle.core_events.specs.Fitting.{Fits, FitsNames}
-use Rattle.core_events.specs.Runs.{IsRun, NamesSay, CallSays}
+use Rattle.core_events.specs.Fitting.{FitsCall, FitsNames}
+use Rattle.core_events.specs.Runs.{IsCoreRun, NamesSay, CallSays}
 
 -- Where a test passes first, there is an item that passes it.
 record StandsAt {X : Type 0} (p : X → Bool) (xs : List X) (n : ℕ) : Type 0 where
@@ -117,7 +117,7 @@ same-test n = eq-eqb n n refl
 
 -- A code keeps its name.
 pub codes-stay : (o : Opening) (a cube dim n : ℕ) (name : List ℕ) (code : Code) (later es : List CoreEvent)
-    → IsRun o (By a (OnNames (Encode cube dim name code)) ∷ es) → number_in code ≡ Some n
+    → IsCoreRun o (By a (OnNames (Encode cube dim name code)) ∷ es) → number_in code ≡ Some n
     → slice_get (dictionary_of o cube dim (later ++ By a (OnNames (Encode cube dim name code)) ∷ es)).names n ≡ Some name
 codes-stay o a cube dim n name code later es run is =
     let d = dictionary_of o cube dim es in
@@ -211,7 +211,7 @@ own-names-call o a (CopyFrom cube dim from more) k es c d known fits says =
 
 known-step : (o : Opening) (own : Bool) (a b : ℕ) (call : ClientCall) (k : ClientState) (es : List CoreEvent) (c d : ℕ)
     → ((cube dim : ℕ) → k.names cube dim ≤ length (dictionary_of o cube dim es).names)
-    → (own ≡ true → Fits o a call k) → CallSays o es b call
+    → (own ≡ true → FitsCall o a call k) → CallSays o es b call
     → (client_after_call o own a call k).names c d ≤ length (dictionary_after c d call (dictionary_of o c d es)).names
 known-step o true a b (OnNames call) k es c d known fits says = own-names-call o a call k es c d known (fits refl) says
 known-step o true a b call k es c d known fits says = known c d
@@ -224,11 +224,11 @@ known-step o false a b call k es c d known fits says =
     omega (arith, before, longer)
 
 -- The names that a client was told of are there.
-pub told-names : (o : Opening) (es : List CoreEvent) → IsRun o es → (a c d : ℕ)
+pub told-names : (o : Opening) (es : List CoreEvent) → IsCoreRun o es → (a c d : ℕ)
     → (client_state o a es).names c d ≤ length (dictionary_of o c d es).names
 told-names o [] run a c d = omega arith
 told-names o (By b call ∷ es) run a c d =
     known-step o (b == a) a b call (client_state o a es) es c d (told-names o es run.0 a)
-    (λ own. let same = eqb-true b a own in coe 0 1 (i. Fits o (same i) call (client_state o (same i) es)) run.1.fits)
+    (λ own. let same = eqb-true b a own in coe 0 1 (i. FitsCall o (same i) call (client_state o (same i) es)) run.1.fits)
     run.1.says
 told-names o (At mail move ∷ es) run a c d = told-names o es run.0 a c d

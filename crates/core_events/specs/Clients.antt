@@ -74,13 +74,13 @@ holds_with number snapshot holds = holds ++ record { number = number; snapshot =
 abbrev pub writer_at : ℕ → List ℕ → Snapshot
 writer_at epoch deps = record { epoch = epoch; deps = deps; own = true }
 
-abbrev pub reader_at : ℕ → Snapshot
-reader_at epoch = record { epoch = epoch; deps = []; own = false }
+abbrev pub reader_up_to : ℕ → Snapshot
+reader_up_to epoch = record { epoch = epoch; deps = []; own = false }
 
 -- What it holds after a call: a snapshot that was opened stands behind the others.
 abbrev pub holds_after : ℕ → ClientCall → List Holding → List Holding
 holds_after a (OnDesk (OpenWrite statement epoch deps)) holds = holds_with a (writer_at epoch deps) holds
-holds_after a (OnDesk (OpenRead number statement epoch)) holds = holds_with number (reader_at epoch) holds
+holds_after a (OnDesk (OpenRead number statement epoch)) holds = holds_with number (reader_up_to epoch) holds
 holds_after a (OnDesk (Commit statement epoch)) holds = holds_without a holds
 holds_after a (OnDesk (AbortEnd statement epoch cause)) holds = holds_without a holds
 holds_after a (OnDesk (CloseRead number statement)) holds = holds_without number holds

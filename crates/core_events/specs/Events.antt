@@ -1,13 +1,15 @@
 -- The events of the core, in one list, the newest first: a client's call on the desk, the names or a mail, or a move of
 -- the worker that serves a mail. Each carries its answer. Nobody but its worker calls a shard.
 -- Source: this project's own; linearizability (Herlihy and Wing, 1990) makes one list of the calls of all threads.
-use Rattle.std.specs.Prelude.{ℕ, ◌+◌, ◌≤◌, ◌^◌, Bool, List, Option}
+use Rattle.std.specs.Prelude.{◌≡◌, ℕ, ◌+◌, ◌≤◌, ◌^◌, Bool, List, [], length, Option, All}
 use Rattle.cube_values.specs.declared.row.CodedRow.{CodedRow}
 use Rattle.cube_values.specs.declared.shape.CubeShape.{CubeShape}
+use Rattle.cube_language.specs.CubesText.{cubes_limit}
 use Rattle.cube_language.specs.declared.decl.Decl.{Decl}
 use Rattle.cube_journal.specs.declared.counters.Counters.{Counters}
 use Rattle.cube_journal.specs.declared.journal_entry.AbortCause.{AbortCause}
 use Rattle.cube_journal.specs.declared.note.Note.{Note}
+use Rattle.brick_address.specs.Addresses.{AreCoords}
 use Rattle.aosi_register.specs.declared.answer.RoundAnswer.{RoundAnswer}
 use Rattle.aosi_register.specs.declared.answer.RoundEnd.{RoundEnd}
 use Rattle.aosi_desk.specs.declared.cube.CubeAnswer.{CubeAnswer}
@@ -27,12 +29,16 @@ pub record Opening : Type 0 where
   pub names : ℕ → ℕ → Dictionary
   pub rows : ℕ → List CodedRow
 
--- The limits.
+-- The limits, and what is kept: rows with coordinates of their cube, and none where nothing is kept up to a later epoch
+-- than 0.
 pub record IsOpening (o : Opening) : Type 0 where
   pub some : 1 ≤ o.shards
   pub shards : o.shards ≤ 64
   pub sessions : o.sessions ≤ 16
   pub safe : o.safe ≤ 2 ^ 61
+  pub cubes : length o.cubes ≤ cubes_limit
+  pub rows : (cube : ℕ) → All (λ row. AreCoords (o.shapes cube).shape.sizes row.coords) (o.rows cube)
+  pub none : o.safe ≡ 0 → (cube : ℕ) → o.rows cube ≡ []
 
 -- A call on the desk. A session's calls carry its own number but where they say the number of a holder.
 pub data DeskCall : Type 0 where
@@ -88,10 +94,3 @@ pub record IsSession (o : Opening) (client : ℕ) : Type 0 where
 
 abbrev pub flush_mail : Opening → ℕ
 flush_mail o = o.shards
-
--- The two numbers under which a session holds readers besides its own snapshot.
-abbrev pub first_holder : ℕ → ℕ
-first_holder session = 16 + session
-
-abbrev pub second_holder : ℕ → ℕ
-second_holder session = 32 + session

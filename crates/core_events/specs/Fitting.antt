@@ -11,6 +11,7 @@ use Rattle.cube_values.specs.Spans.{span_has}
 use Rattle.cube_language.specs.Cubes.{IsStorable}
 use Rattle.cube_journal.specs.declared.note.Note.{Note}
 use Rattle.cube_journal.specs.declared.note.Note.TheVariants as note
+use Rattle.cube_run.specs.SessionStates.{first_holder, second_holder}
 use Rattle.brick_address.specs.Addresses.{brick_of, AreCoords}
 use Rattle.aosi_register.specs.declared.answer.RoundAnswer.{RoundAnswer}
 use Rattle.aosi_register.specs.declared.answer.RoundAnswer.TheVariants.{Target, Nothing}
@@ -18,7 +19,7 @@ use Rattle.aosi_register.specs.declared.answer.RoundEnd.TheVariants.{Safe}
 use Rattle.aosi_desk.specs.Desks.{is_cube_code}
 use Rattle.names_dict.specs.Dictionaries.{IsTextDimension}
 use Rattle.core_events.specs.Jobs.{CoreJob, Append, DropBox, Scan, Delta, Rollback, Purge, CopyRound, Flush, JobAnswer, Done, StoreLost, OutOfMemory}
-use Rattle.core_events.specs.Events.{Opening, flusher, IsSession, flush_mail, first_holder, second_holder, DeskCall, OpenWrite, OpenRead, Commit, AbortEnd, CloseRead, TakeNote, CreateCube, FindCube, CubesFrom, CountersNow, RoundOpen, RoundClose, StoreFailed, NamesCall, Encode, FindName, CopyFrom, ClientCall, OnDesk, OnNames, Post, Fetch, CloseMail, NoChange, WorkerMove, Take, NoJob, Work, Reply, CoreEvent, By, At}
+use Rattle.core_events.specs.Events.{Opening, flusher, IsSession, flush_mail, DeskCall, OpenWrite, OpenRead, Commit, AbortEnd, CloseRead, TakeNote, CreateCube, FindCube, CubesFrom, CountersNow, RoundOpen, RoundClose, StoreFailed, NamesCall, Encode, FindName, CopyFrom, ClientCall, OnDesk, OnNames, Post, Fetch, CloseMail, NoChange, WorkerMove, Take, NoJob, Work, Reply, CoreEvent, By, At}
 use Rattle.core_events.specs.Groups.{JobGroup, RollsBack, Purges, Copies, kind_of, has_number, is_empty, has_all_below, mails_of, has_refusal, has_ended, is_ready, may_begin}
 use Rattle.core_events.specs.Clients.{Holding, OwnRound, ClientState, client_state, held_under}
 use Rattle.core_events.specs.Cells.{WorkerState, Free, Took, Worked, worker_of, sizes_of_cube, box_has_brick}
@@ -32,7 +33,7 @@ abbrev pub IsNumberOf : ℕ → ℕ → Type 0
 IsNumberOf session number = (number ≡ session) ⊎ ((number ≡ first_holder session) ⊎ (number ≡ second_holder session))
 
 -- The group is complete, of this kind, and nothing of it was refused.
-pub record HasDone (shards : ℕ) (g : JobGroup) : Type 0 where
+pub record HasAllDone (shards : ℕ) (g : JobGroup) : Type 0 where
   pub all : has_all_below shards (mails_of g.answers) ≡ true
   pub fetched : is_empty g.waits ≡ true
   pub none : has_refusal g.answers ≡ false
@@ -149,7 +150,7 @@ pub record MayAbort (o : Opening) (a epoch : ℕ) (k : ClientState) : Type 0 whe
   pub session : IsSession o a
   pub writer : OwnsWriter a epoch k
   pub rolls : k.group.kind ≡ RollsBack
-  pub done : HasDone o.shards k.group
+  pub done : HasAllDone o.shards k.group
 
 pub record MayClose (o : Opening) (a number : ℕ) (k : ClientState) : Type 0 where
   pub session : IsSession o a
@@ -165,7 +166,7 @@ pub record MayRefuse (code : ℕ) (k : ClientState) : Type 0 where
 -- A purge at the epoch has the answer of every shard, and the desk showed the epoch as LSE.
 pub record MayNotePurge (shards epoch : ℕ) (k : ClientState) : Type 0 where
   pub purges : k.group.kind ≡ Purges epoch
-  pub done : HasDone shards k.group
+  pub done : HasAllDone shards k.group
   pub shown : has_number k.shown epoch ≡ true
 
 abbrev pub MayNote : Opening → ℕ → Note → ClientState → Type 0
@@ -184,7 +185,7 @@ pub record MayTakeNote (o : Opening) (a : ℕ) (note : Note) (k : ClientState) :
 pub record HasCopies (shards : ℕ) (g : JobGroup) (round : OwnRound) : Type 0 where
   pub from : ℕ
   pub copies : g.kind ≡ Copies from round.epoch
-  pub done : HasDone shards g
+  pub done : HasAllDone shards g
 
 pub record MayOpenRoundCall (o : Opening) (a : ℕ) (k : ClientState) : Type 0 where
   pub flusher : a ≡ flusher o
@@ -231,13 +232,13 @@ FitsNames o a (FindName cube dim name number) k = MayAskName o a cube dim k
 FitsNames o a (CopyFrom cube dim from names) k = MayCopyNames cube dim from k
 
 -- A client's call fits what it knows.
-abbrev pub Fits : Opening → ℕ → ClientCall → ClientState → Type 0
-Fits o a (OnDesk call) k = FitsDesk o a call k
-Fits o a (OnNames call) k = FitsNames o a call k
-Fits o a (Post mail job) k = MayPost o a mail job k
-Fits o a (Fetch mail answer) k = has_number k.group.waits mail ≡ true
-Fits o a (CloseMail mail) k = a ≡ 0
-Fits o a NoChange k = Unit {0}
+abbrev pub FitsCall : Opening → ℕ → ClientCall → ClientState → Type 0
+FitsCall o a (OnDesk call) k = FitsDesk o a call k
+FitsCall o a (OnNames call) k = FitsNames o a call k
+FitsCall o a (Post mail job) k = MayPost o a mail job k
+FitsCall o a (Fetch mail answer) k = has_number k.group.waits mail ≡ true
+FitsCall o a (CloseMail mail) k = a ≡ 0
+FitsCall o a NoChange k = Unit {0}
 
 -- The workers.
 

@@ -14,9 +14,9 @@ use Rattle.names_dict.specs.Dictionaries.{code_of, number_of}
 use Rattle.core_events.specs.ShardView.{BrickEntry, RowRun, RowMark, ShardView, ShowAlike, Epochs, is_below_mark, epochs_before_mark, rows_where, brick_rows_seen, entries_of_round}
 use Rattle.core_events.specs.Jobs.{CoreJob, Append, DropBox, Scan, Delta, Rollback, Purge, CopyRound, JobAnswer, Done, ShardFull, Found, Compared, Copied, OutOfMemory}
 use Rattle.core_events.specs.Events.{Opening, IsOpening, DeskCall, OpenWrite, OpenRead, TakeNote, CreateCube, FindCube, CubesFrom, CountersNow, RoundOpen, StoreFailed, NamesCall, Encode, FindName, CopyFrom, ClientCall, OnDesk, OnNames, Fetch, WorkerMove, Take, NoJob, Work, Reply, CoreEvent, By, At}
-use Rattle.core_events.specs.Clients.{client_state, reader_at}
+use Rattle.core_events.specs.Clients.{client_state, reader_up_to}
 use Rattle.core_events.specs.Cells.{desk_of, dictionary_of, Letter, letter, queue_of, reply_for, is_closed, view_of, rows_of_brick}
-use Rattle.core_events.specs.Fitting.{Fits, FitsMove}
+use Rattle.core_events.specs.Fitting.{FitsCall, FitsMove}
 
 -- The answers of the desk.
 abbrev pub DeskSays : DeskState → DeskCall → Type 0
@@ -70,7 +70,7 @@ rows_shown_besides one other (RowMark epoch ∷ older) =
     rows_shown_besides (sight_before_mark epoch one) (sight_before_mark epoch other) older
 
 abbrev pub sight_of_reader : ℕ → Sight
-sight_of_reader epoch = record { epochs = sees (reader_at epoch); marks = sees (reader_at epoch) }
+sight_of_reader epoch = record { epochs = sees (reader_up_to epoch); marks = sees (reader_up_to epoch) }
 
 -- Rows are, brick by brick, those that a function gives for the bricks of a shard, and none of other bricks.
 abbrev pub AreByBrick : Opening → ℕ → ℕ → List CodedRow → (ℕ → List CodedRow) → Type 0
@@ -126,7 +126,7 @@ MoveSays o es mail (Reply client answer) = Unit {0}
 
 -- A call that fits, with the answer of its cell, behind events.
 pub record IsCall (o : Opening) (a : ℕ) (call : ClientCall) (es : List CoreEvent) : Type 0 where
-  pub fits : Fits o a call (client_state o a es)
+  pub fits : FitsCall o a call (client_state o a es)
   pub says : CallSays o es a call
 
 -- A move that fits, with its answer.
@@ -136,7 +136,7 @@ pub record IsMove (o : Opening) (mail : ℕ) (move : WorkerMove) (es : List Core
   pub says : MoveSays o es mail move
 
 -- A run of the core.
-abbrev pub IsRun : Opening → List CoreEvent → Type 0
-IsRun o [] = IsOpening o
-IsRun o (By a call ∷ es) = IsRun o es × IsCall o a call es
-IsRun o (At mail move ∷ es) = IsRun o es × IsMove o mail move es
+abbrev pub IsCoreRun : Opening → List CoreEvent → Type 0
+IsCoreRun o [] = IsOpening o
+IsCoreRun o (By a call ∷ es) = IsCoreRun o es × IsCall o a call es
+IsCoreRun o (At mail move ∷ es) = IsCoreRun o es × IsMove o mail move es

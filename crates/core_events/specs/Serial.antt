@@ -18,23 +18,23 @@ abbrev pub commits : ClientCall → Epochs
 commits (OnDesk (Commit statement epoch)) e = epoch == e
 commits call e = false
 
-abbrev pub is_committed : Opening → List CoreEvent → Epochs
-is_committed o [] e = nat_le e o.safe
-is_committed o (By a call ∷ es) e = commits call e || is_committed o es e
-is_committed o (At mail move ∷ es) e = is_committed o es e
+abbrev pub has_committed : Opening → List CoreEvent → Epochs
+has_committed o [] e = nat_le e o.safe
+has_committed o (By a call ∷ es) e = commits call e || has_committed o es e
+has_committed o (At mail move ∷ es) e = has_committed o es e
 
 abbrev pub aborts : ClientCall → Epochs
 aborts (OnDesk (AbortEnd statement epoch cause)) e = epoch == e
 aborts call e = false
 
-abbrev pub is_aborted : List CoreEvent → Epochs
-is_aborted [] e = false
-is_aborted (By a call ∷ es) e = aborts call e || is_aborted es e
-is_aborted (At mail move ∷ es) e = is_aborted es e
+abbrev pub has_aborted : List CoreEvent → Epochs
+has_aborted [] e = false
+has_aborted (By a call ∷ es) e = aborts call e || has_aborted es e
+has_aborted (At mail move ∷ es) e = has_aborted es e
 
 -- The epochs that count for a snapshot: those that it sees and that were committed, and its own.
 abbrev pub counts_for : Opening → List CoreEvent → Snapshot → Epochs
-counts_for o es s e = sees s e && (is_committed o es e || (s.own && s.epoch == e))
+counts_for o es s e = sees s e && (has_committed o es e || (s.own && s.epoch == e))
 
 -- What a transaction does to a cube.
 pub data CubeOperation : Type 0 where

@@ -5,12 +5,12 @@ use Rattle.core_events.specs.Clients.{client_state}
 use Rattle.core_events.specs.Events.{Opening, flusher, Post, Reply, CoreEvent, By, At}
 use Rattle.core_events.specs.Fitting.{FitsWork, RoundProgress, round_progress}
 use Rattle.core_events.specs.Jobs.{CoreJob, JobAnswer}
-use Rattle.core_events.specs.Runs.{IsRun}
+use Rattle.core_events.specs.Runs.{IsCoreRun}
 use Rattle.core_mails.specs.Histories.{has_letter_of, is_serving, HasNoJob, HasJobOut}
 use Rattle.core_mails.proofs.Places.{JobPlace, Nowhere, place, Lacks, IsBusy, FitsPlaces, lacks-unasked, nowhere-asked, nowhere-answered, asked-answered}
 use Rattle.core_mails.proofs.Posted.{run-posted, none-out, not-out}
 
-no-letter : (a : ℕ) (queue : List Letter) → Lacks a queue → has_letter_of a queue ≡ false
+pub no-letter : (a : ℕ) (queue : List Letter) → Lacks a queue → has_letter_of a queue ≡ false
 no-letter a [] lacks = refl
 no-letter a (x ∷ queue) lacks = λ i. ne_eqb x.client a lacks.0 i || no-letter a queue lacks.1 i
 
@@ -26,7 +26,7 @@ not-serving places queue replies a (Took c job) nowhere busy =
 not-serving places queue replies a (Worked c job answer) nowhere busy =
     ne_eqb c a (λ same. nowhere-answered job answer (sym nowhere ∙ ap places (sym same) ∙ busy.answered))
 
-pub may-post : (o : Opening) (a mail : ℕ) (job : CoreJob) (es : List CoreEvent) → IsRun o (By a (Post mail job) ∷ es)
+pub may-post : (o : Opening) (a mail : ℕ) (job : CoreJob) (es : List CoreEvent) → IsCoreRun o (By a (Post mail job) ∷ es)
     → HasNoJob mail a es
 may-post o a mail job es run =
     let before = run-posted o es run.0 in
@@ -64,7 +64,7 @@ out-at places queue replies q lost (Worked c job answer) to said fits f =
     }
 
 pub may-reply : (o : Opening) (mail client : ℕ) (answer : JobAnswer) (es : List CoreEvent)
-    → IsRun o (At mail (Reply client answer) ∷ es)
+    → IsCoreRun o (At mail (Reply client answer) ∷ es)
     → HasJobOut (queue_of mail es) (reply_for mail client es) (worker_of mail es) client
 may-reply o mail client answer es run =
     out-at (λ c. place mail c es) (queue_of mail es) (λ c. reply_for mail c es) (round_progress o es)

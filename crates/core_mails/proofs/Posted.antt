@@ -9,8 +9,8 @@ use Rattle.core_events.specs.Events.{Opening, flusher, OpenWrite, OpenRead, Comm
 use Rattle.core_events.specs.Groups.{JobGroup, no_group, kind_of, has_number, is_empty, has_ended, is_ready, is_complete, is_spoiled, has_refusal, mails_of}
 use Rattle.core_events.specs.Clients.{ClientState, client_state, client_after_call, ends_group}
 use Rattle.core_events.specs.Cells.{Letter, letter, queue_of, queue_after_post, queue_after_move, reply_for, reply_after_fetch, reply_after_move, reply_after_reply, WorkerState, Free, Took, Worked, worker_of, worker_after}
-use Rattle.core_events.specs.Fitting.{Fits, FitsWork, RoundProgress, BeginsGroup, JoinsGroup, round_progress}
-use Rattle.core_events.specs.Runs.{IsRun, CallSays, MoveSays, IsOldest}
+use Rattle.core_events.specs.Fitting.{FitsCall, FitsWork, RoundProgress, BeginsGroup, JoinsGroup, round_progress}
+use Rattle.core_events.specs.Runs.{IsCoreRun, CallSays, MoveSays, IsOldest}
 use Rattle.core_mails.specs.Histories.{DoneJob, job_done, posts_of, letters_after, takes_of, takes_after, jobs_done, done_after, letters_of, job_to_come, last_post, last_after_post, done_since_post, since_after_post, since_after_move, with_own_done, IsAnswered}
 use Rattle.core_mails.proofs.Places.{JobPlace, Nowhere, Asked, Answered, is_out, place, place_after_post, place_after_fetch, place_after_call, place_where, place_with_done, place_after_move, FitsPlaces, after-post, after-fetch, after-take, after-work, after-reply, after-flush}
 use Rattle.core_desk.proofs.Finished.{has-without}
@@ -70,7 +70,7 @@ not-out shards mail job g (inl begins) = empty-has-none g.waits mail (ended-empt
 not-out shards mail job g (inr joins) = joins.not_out
 
 call-posted : (o : Opening) (b : ℕ) (call : ClientCall) (es : List CoreEvent) (mail : ℕ)
-    → Fits o b call (client_state o b es) → CallSays o es b call → IsTied o es → IsPosted mail es
+    → FitsCall o b call (client_state o b es) → CallSays o es b call → IsTied o es → IsPosted mail es
     → IsPosted mail (By b call ∷ es)
 call-posted o b (OnDesk call) es mail fits says tied f = f
 call-posted o b (OnNames call) es mail fits says tied f = f
@@ -112,7 +112,7 @@ fetch-out true p = sym (and-no (is_out p))
 fetch-out false p = sym (and-yes (is_out p))
 
 -- What ends a group finds no open answer.
-pub ends-empty : (o : Opening) (a : ℕ) (call : ClientCall) (k : ClientState) → Fits o a call k → ends_group call ≡ true
+pub ends-empty : (o : Opening) (a : ℕ) (call : ClientCall) (k : ClientState) → FitsCall o a call k → ends_group call ≡ true
     → is_empty k.group.waits ≡ true
 ends-empty o a (OnDesk (OpenWrite statement epoch deps)) k f e = ready-empty o.shards k.group f.ready
 ends-empty o a (OnDesk (OpenRead number statement epoch)) k f e = ready-empty o.shards k.group f.ready
@@ -140,7 +140,7 @@ other-waits true g mail p empty e = sym (empty-has-none g.waits mail (empty refl
 other-waits false g mail p empty e = e
 
 call-tied : (o : Opening) (own : Bool) (a : ℕ) (call : ClientCall) (k : ClientState) (mail : ℕ) (p : JobPlace)
-    → (own ≡ true → Fits o a call k) → has_number k.group.waits mail ≡ is_out p
+    → (own ≡ true → FitsCall o a call k) → has_number k.group.waits mail ≡ is_out p
     → has_number (client_after_call o own a call k).group.waits mail ≡ is_out (place_after_call mail own call p)
 call-tied o true a (Post other job) k mail p fits e =
     post-waits (has_ended o.shards k.group) o.shards other mail job k.group refl
@@ -283,7 +283,7 @@ take-says : (o : Opening) (es : List CoreEvent) (mail : ℕ) (move : WorkerMove)
 take-says o es mail (Take client job) says = says
 take-says o es mail move says = tt
 
-pub run-posted : (o : Opening) (es : List CoreEvent) → IsRun o es → ArePosted o es
+pub run-posted : (o : Opening) (es : List CoreEvent) → IsCoreRun o es → ArePosted o es
 run-posted o [] run = record {
   tied = λ a mail. refl;
   posted = λ mail. record { letters = tt; held = λ a answer is. absurd (none-some answer is); busy = tt };
@@ -293,7 +293,7 @@ run-posted o (By b call ∷ es) run =
     record {
       tied = λ a mail.
           call-tied o (b == a) a call (client_state o a es) mail (place mail a es)
-          (λ own. let same = eqb-true b a own in coe 0 1 (i. Fits o (same i) call (client_state o (same i) es)) run.1.fits)
+          (λ own. let same = eqb-true b a own in coe 0 1 (i. FitsCall o (same i) call (client_state o (same i) es)) run.1.fits)
           (before.tied a mail);
       posted = λ mail. call-posted o b call es mail run.1.fits run.1.says before.tied (before.posted mail);
     }
@@ -332,7 +332,7 @@ take-order true client job posts takes (first ∷ queue) says e =
     e ∙ ap (λ (x : Letter). takes ++ x ∷ queue) (says refl) ∙ sym (append_assoc takes (letter client job ∷ []) queue)
 take-order false client job posts takes queue says e = e
 
-pub taken-in-order : (o : Opening) (es : List CoreEvent) (mail : ℕ) → IsRun o es
+pub taken-in-order : (o : Opening) (es : List CoreEvent) (mail : ℕ) → IsCoreRun o es
     → posts_of mail es ≡ takes_of mail es ++ queue_of mail es
 taken-in-order o [] mail run = refl
 taken-in-order o (By a (OnDesk call) ∷ es) mail run = taken-in-order o es mail run.0
@@ -385,7 +385,7 @@ move-done false q lost (NoJob closed) takes done worker fits e = e
 move-done false q lost (Work made answer) takes done worker fits e = e
 move-done false q lost (Reply to said) takes done worker fits e = e
 
-pub done-in-order : (o : Opening) (es : List CoreEvent) (mail : ℕ) → IsRun o es
+pub done-in-order : (o : Opening) (es : List CoreEvent) (mail : ℕ) → IsCoreRun o es
     → takes_of mail es ≡ letters_of (jobs_done mail es) ++ job_to_come (worker_of mail es)
 done-in-order o [] mail run = refl
 done-in-order o (By a call ∷ es) mail run = done-in-order o es mail run.0
@@ -440,7 +440,7 @@ since-move : (here : Bool) (a : ℕ) (worker : WorkerState) (move : WorkerMove) 
 since-move true a worker move p last done asked f = since-with (job_done worker move) a p last done (asked refl) f
 since-move false a worker move p last done asked f = f
 
-since-run : (o : Opening) (es : List CoreEvent) (mail a : ℕ) → IsRun o es
+since-run : (o : Opening) (es : List CoreEvent) (mail a : ℕ) → IsCoreRun o es
     → SinceFits a (place mail a es) (last_post mail a es) (done_since_post mail a es)
 since-run o [] mail a run = tt
 since-run o (By b (OnDesk call) ∷ es) mail a run = since-run o es mail a run.0
@@ -463,7 +463,7 @@ since-run o (At other move ∷ es) mail a run =
     (coe 0 1 (i. FitsWork q lost (worker_of (same i) es) move) run.1.fits) ((run-posted o es run.0).posted mail) is)
     (since-run o es mail a run.0)
 
-pub fetched-is-done : (o : Opening) (es : List CoreEvent) (mail a : ℕ) (answer : JobAnswer) → IsRun o es
+pub fetched-is-done : (o : Opening) (es : List CoreEvent) (mail a : ℕ) (answer : JobAnswer) → IsCoreRun o es
     → reply_for mail a es ≡ Some answer → IsAnswered mail a answer es
 fetched-is-done o es mail a answer run held =
     let there = ((run-posted o es run).posted mail).held a answer held in

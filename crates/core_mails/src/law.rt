@@ -4,7 +4,7 @@ ghost use Rattle.std.specs.Prelude.{◌≡◌, ℕ, List, ◌∷◌, ◌++◌, S
 ghost use Rattle.core_events.specs.Cells.{queue_of, reply_for, worker_of};
 ghost use Rattle.core_events.specs.Events.{Opening, CoreEvent, By, At, Post, Reply};
 ghost use Rattle.core_events.specs.Jobs.{CoreJob, JobAnswer};
-ghost use Rattle.core_events.specs.Runs.{IsRun};
+ghost use Rattle.core_events.specs.Runs.{IsCoreRun};
 ghost use Rattle.core_mails.specs.Histories.{
   posts_of,
   takes_of,
@@ -18,16 +18,16 @@ ghost use Rattle.core_mails.specs.Histories.{
 
 /// Jobs are taken in the order in which they were posted, and each is done once, in that order.
 pub fn workers_do_what_they_take()
-    ensures order { (o : Opening) (es : List CoreEvent) (mail : ℕ) → IsRun o es
+    ensures order { (o : Opening) (es : List CoreEvent) (mail : ℕ) → IsCoreRun o es
         → posts_of mail es ≡ takes_of mail es ++ queue_of mail es }
-    ensures once { (o : Opening) (es : List CoreEvent) (mail : ℕ) → IsRun o es
+    ensures once { (o : Opening) (es : List CoreEvent) (mail : ℕ) → IsCoreRun o es
         → takes_of mail es ≡ letters_of (jobs_done mail es) ++ job_to_come (worker_of mail es) }
 {}
 
 /// What a mail holds for a client is the answer of the one job that was done for its last post.
 pub fn fetches_serve_posts()
     ensures { (o : Opening) (es : List CoreEvent) (mail client : ℕ) (answer : JobAnswer)
-        → IsRun o es
+        → IsCoreRun o es
         → reply_for mail client es ≡ Some answer → IsAnswered mail client answer es }
 {}
 
@@ -35,8 +35,8 @@ pub fn fetches_serve_posts()
 /// and no answer to fetch, and a reply is to the client whose job is out.
 pub fn mail_calls_meet_their_conditions()
     ensures posts { (o : Opening) (a mail : ℕ) (job : CoreJob) (es : List CoreEvent)
-        → IsRun o (By a (Post mail job) ∷ es) → HasNoJob mail a es }
+        → IsCoreRun o (By a (Post mail job) ∷ es) → HasNoJob mail a es }
     ensures replies { (o : Opening) (mail client : ℕ) (answer : JobAnswer) (es : List CoreEvent)
-        → IsRun o (At mail (Reply client answer) ∷ es)
+        → IsCoreRun o (At mail (Reply client answer) ∷ es)
         → HasJobOut (queue_of mail es) (reply_for mail client es) (worker_of mail es) client }
 {}

@@ -9,8 +9,8 @@ use Rattle.core_events.specs.Events.{Opening, IsSession, flusher, DeskCall, Open
 use Rattle.core_events.specs.Groups.{GroupKind, Asks, kind_of, Received, JobGroup, no_group, has_number, is_empty, has_ended, mails_of, group_after_post}
 use Rattle.core_events.specs.Clients.{Holding, ClientState, client_state, client_after_call, held_under, leader_after, others_hold, ends_group}
 use Rattle.core_events.specs.Cells.{WorkerState, worker_of, queue_of, reply_for}
-use Rattle.core_events.specs.Fitting.{Fits, IsNumberOf, MayScan, BeginsGroup, JoinsGroup, FitsWork, round_progress}
-use Rattle.core_events.specs.Runs.{IsRun}
+use Rattle.core_events.specs.Fitting.{FitsCall, IsNumberOf, MayScan, BeginsGroup, JoinsGroup, FitsWork, round_progress}
+use Rattle.core_events.specs.Runs.{IsCoreRun}
 use Rattle.core_mails.specs.Histories.{DoneJob, job_done}
 use Rattle.core_mails.proofs.Places.{JobPlace, Nowhere, Asked, Answered, is_out, place, place_after_post, place_after_fetch, place_after_call, place_where, place_with_done, place_after_move}
 use Rattle.core_mails.proofs.Posted.{run-posted, ended-empty, ends-empty, empty-has-none, none-out, done-asked}
@@ -89,7 +89,7 @@ fetch-others true mail g p s = s
 fetch-others false mail g p s = s
 
 call-suits : (o : Opening) (own : Bool) (a : ℕ) (call : ClientCall) (k : ClientState) (mail : ℕ) (p : JobPlace)
-    → (own ≡ true → Fits o a call k) → has_number k.group.waits mail ≡ is_out p → SuitsAt mail k.group p
+    → (own ≡ true → FitsCall o a call k) → has_number k.group.waits mail ≡ is_out p → SuitsAt mail k.group p
     → SuitsAt mail (client_after_call o own a call k).group (place_after_call mail own call p)
 call-suits o true a (Post other job) k mail p f tied s =
     post-suits (other == mail) o other mail job k.group p refl (f refl).group tied s
@@ -124,13 +124,13 @@ move-suits : (here : Bool) (mail a : ℕ) (worker : WorkerState) (move : WorkerM
 move-suits true mail a worker move g p asked s = done-suits (job_done worker move) mail a g p (asked refl) s
 move-suits false mail a worker move g p asked s = s
 
-pub own-fits : (o : Opening) (a b : ℕ) (call : ClientCall) (es : List CoreEvent) → Fits o b call (client_state o b es)
-    → (b == a) ≡ true → Fits o a call (client_state o a es)
+pub own-fits : (o : Opening) (a b : ℕ) (call : ClientCall) (es : List CoreEvent) → FitsCall o b call (client_state o b es)
+    → (b == a) ≡ true → FitsCall o a call (client_state o a es)
 own-fits o a b call es f own =
-    let same = eqb-true b a own in coe 0 1 (i. Fits o (same i) call (client_state o (same i) es)) f
+    let same = eqb-true b a own in coe 0 1 (i. FitsCall o (same i) call (client_state o (same i) es)) f
 
 -- The job of a move was asked by its client.
-pub moved-asked : (o : Opening) (es : List CoreEvent) (other mail a : ℕ) (move : WorkerMove) → IsRun o (At other move ∷ es)
+pub moved-asked : (o : Opening) (es : List CoreEvent) (other mail a : ℕ) (move : WorkerMove) → IsCoreRun o (At other move ∷ es)
     → (other == mail) ≡ true → (d : DoneJob) → job_done (worker_of mail es) move ≡ Some d → d.client ≡ a
     → place mail a es ≡ Asked d.job
 moved-asked o es other mail a move run here d is own =
@@ -141,7 +141,7 @@ moved-asked o es other mail a move run here d is own =
     ∙ done-asked q lost move (λ c. place mail c es) (queue_of mail es) (λ c. reply_for mail c es) (worker_of mail es) d
     (coe 0 1 (i. FitsWork q lost (worker_of (same i) es) move) run.1.fits) ((run-posted o es run.0).posted mail) is
 
-pub run-suits : (o : Opening) (es : List CoreEvent) (mail a : ℕ) → IsRun o es
+pub run-suits : (o : Opening) (es : List CoreEvent) (mail a : ℕ) → IsCoreRun o es
     → SuitsAt mail (client_state o a es).group (place mail a es)
 run-suits o [] mail a run = tt
 run-suits o (By b call ∷ es) mail a run =
@@ -166,7 +166,7 @@ close-leader : (gone : Bool) (a : ℕ) (leader : Option ℕ) → LeaderFits a le
 close-leader true a leader l = tt
 close-leader false a leader l = l
 
-call-leader : (o : Opening) (a : ℕ) (call : ClientCall) (k : ClientState) → Fits o a call k → LeaderFits a k.leader
+call-leader : (o : Opening) (a : ℕ) (call : ClientCall) (k : ClientState) → FitsCall o a call k → LeaderFits a k.leader
     → LeaderFits a (leader_after a call k.holds k.leader)
 call-leader o a (OnDesk (OpenRead number statement epoch)) k f l =
     open-leader (number == a || others_hold a k.holds) a number k.leader f.under l
@@ -174,12 +174,12 @@ call-leader o a (OnDesk (CloseRead number statement)) k f l =
     close-leader (option_map_or (λ x. x == number) k.leader false) a k.leader l
 call-leader o a call k f l = l
 
-own-leader : (o : Opening) (own : Bool) (a : ℕ) (call : ClientCall) (k : ClientState) → (own ≡ true → Fits o a call k)
+own-leader : (o : Opening) (own : Bool) (a : ℕ) (call : ClientCall) (k : ClientState) → (own ≡ true → FitsCall o a call k)
     → LeaderFits a k.leader → LeaderFits a (client_after_call o own a call k).leader
 own-leader o true a call k f l = call-leader o a call k (f refl) l
 own-leader o false a call k f l = l
 
-run-leader : (o : Opening) (es : List CoreEvent) (a : ℕ) → IsRun o es → LeaderFits a (client_state o a es).leader
+run-leader : (o : Opening) (es : List CoreEvent) (a : ℕ) → IsCoreRun o es → LeaderFits a (client_state o a es).leader
 run-leader o [] a run = tt
 run-leader o (By b call ∷ es) a run =
     own-leader o (b == a) a call (client_state o a es) (own-fits o a b call es run.1.fits) (run-leader o es a run.0)
@@ -214,7 +214,7 @@ scan-held o a k s session l (inr leads) = by-leader k.leader l leads
     by-leader (Some holder) l leads = record { number = holder; session = session; under = l; held = leads }
 
 -- A job that begins a query has a snapshot that is held.
-job-held : (o : Opening) (a mail : ℕ) (job : CoreJob) (k : ClientState) (q : BoundQuery) (s : Snapshot) → Fits o a (Post mail job) k
+job-held : (o : Opening) (a mail : ℕ) (job : CoreJob) (k : ClientState) (q : BoundQuery) (s : Snapshot) → FitsCall o a (Post mail job) k
     → LeaderFits a k.leader → kind_of job ≡ Asks q s → AsksBy o a k.holds s
 job-held o a mail (Append cube epoch rows) k q s f l e = absurd (false≢true (ap is_asking e))
 job-held o a mail (DropBox cube epoch box) k q s f l e = absurd (false≢true (ap is_asking e))
@@ -228,7 +228,7 @@ job-held o a mail (CopyRound from to) k q s f l e = absurd (false≢true (ap is_
 job-held o a mail Flush k q s f l e = absurd (false≢true (ap is_asking e))
 
 post-held : (ended : Bool) (o : Opening) (a mail : ℕ) (job : CoreJob) (k : ClientState) (q : BoundQuery) (s : Snapshot)
-    → Fits o a (Post mail job) k → LeaderFits a k.leader → AskHeld o a k
+    → FitsCall o a (Post mail job) k → LeaderFits a k.leader → AskHeld o a k
     → (group_posted ended mail job k.group).kind ≡ Asks q s → AsksBy o a k.holds s
 post-held true o a mail job k q s f l h e = job-held o a mail job k q s f l e
 post-held false o a mail job k q s f l h e = h q s e
@@ -240,7 +240,7 @@ ends-held true o a call k q s is h e = absurd (false≢true (ap is_asking e))
 ends-held false o a call k q s is h e =
     coe 1 0 (i. AsksBy o a (holds-stay a (OnDesk call) k.holds is i) s) (h q s e)
 
-call-held : (o : Opening) (own : Bool) (a : ℕ) (call : ClientCall) (k : ClientState) → (own ≡ true → Fits o a call k)
+call-held : (o : Opening) (own : Bool) (a : ℕ) (call : ClientCall) (k : ClientState) → (own ≡ true → FitsCall o a call k)
     → LeaderFits a k.leader → AskHeld o a k → AskHeld o a (client_after_call o own a call k)
 call-held o true a (Post mail job) k f l h q s e = post-held (has_ended o.shards k.group) o a mail job k q s (f refl) l h e
 call-held o true a (Fetch mail answer) k f l h q s e = h q s e
@@ -250,7 +250,7 @@ call-held o true a (CloseMail mail) k f l h q s e = h q s e
 call-held o true a NoChange k f l h q s e = h q s e
 call-held o false a call k f l h q s e = h q s e
 
-pub run-held : (o : Opening) (es : List CoreEvent) (a : ℕ) → IsRun o es → AskHeld o a (client_state o a es)
+pub run-held : (o : Opening) (es : List CoreEvent) (a : ℕ) → IsCoreRun o es → AskHeld o a (client_state o a es)
 run-held o [] a run = λ q s e. absurd (false≢true (ap is_asking e))
 run-held o (By b call ∷ es) a run =
     call-held o (b == a) a call (client_state o a es) (own-fits o a b call es run.1.fits) (run-leader o es a run.0)

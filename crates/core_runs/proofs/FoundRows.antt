@@ -16,10 +16,10 @@ use Rattle.core_events.specs.Groups.{GroupKind, Asks, kind_of, JobGroup, no_grou
 use Rattle.core_events.specs.Clients.{client_state, client_after_call, ends_group, held_under}
 use Rattle.core_events.specs.Cells.{counters_of_run, view_of, rows_of_brick, brick_after_move, sizes_of_cube, WorkerState, Free, Took, Worked, worker_of}
 use Rattle.core_events.specs.Fitting.{OwnsWriter, FitsWork, FitsReply, RoundProgress, round_progress}
-use Rattle.core_events.specs.Runs.{IsRun, CallSays, MoveSays, ShardSays, AreByBrick, rows_in_span}
+use Rattle.core_events.specs.Runs.{IsCoreRun, CallSays, MoveSays, ShardSays, AreByBrick, rows_in_span}
 use Rattle.core_mails.specs.Histories.{DoneJob, job_done}
 use Rattle.core_runs.specs.Isolation.{IsOfOther}
-use Rattle.core_runs.specs.Queries.{rows_in, rows_fetched, rows_asked, HasAnswered}
+use Rattle.core_runs.specs.Queries.{rows_of_answer, rows_fetched, rows_asked, HasAnswered}
 use Rattle.core_desk.proofs.Agreement.{agree, opening-of, one-session}
 use Rattle.core_desk.proofs.Finished.{held-writer, run-finished}
 use Rattle.core_mails.proofs.Places.{JobPlace, Nowhere, Asked, Answered, place, place_after_post, place_after_fetch, place_after_call, place_where, place_with_done, place_after_move}
@@ -52,7 +52,7 @@ HasFound o es g = (q : BoundQuery) (s : Snapshot) → g.kind ≡ Asks q s → ha
 -- The view stays for a snapshot that a client asks by.
 
 -- A job of the snapshot's own transaction is not out while the client asks.
-write-other : (o : Opening) (es : List CoreEvent) (a c mail epoch : ℕ) (job : CoreJob) (q : BoundQuery) (s : Snapshot) → IsRun o es
+write-other : (o : Opening) (es : List CoreEvent) (a c mail epoch : ℕ) (job : CoreJob) (q : BoundQuery) (s : Snapshot) → IsCoreRun o es
     → AsksBy o a (client_state o a es).holds s → (client_state o a es).group.kind ≡ Asks q s → place mail c es ≡ Asked job
     → IsSession o c → OwnsWriter c epoch (client_state o c es) → is_asking (kind_of job) ≡ false
     → s.own ≡ true → s.epoch ≡ epoch → ⊥
@@ -74,7 +74,7 @@ write-other o es a c mail epoch job q s run asks kind asked session owns other o
     let suits = coe 0 1 (i. SuitsAt mail (client_state o a es).group (asked i)) there in
     false≢true (sym other ∙ ap is_asking (suits.kind ∙ kind))
 
-job-other : (o : Opening) (es : List CoreEvent) (a c mail : ℕ) (job : CoreJob) (q : BoundQuery) (s : Snapshot) → IsRun o es
+job-other : (o : Opening) (es : List CoreEvent) (a c mail : ℕ) (job : CoreJob) (q : BoundQuery) (s : Snapshot) → IsCoreRun o es
     → AsksBy o a (client_state o a es).holds s → (client_state o a es).group.kind ≡ Asks q s → place mail c es ≡ Asked job
     → JobFits o c job (client_state o c es) (counters_of_run o es).lse → IsOfOther s job
 job-other o es a c mail (Append cube epoch rows) q s run asks kind asked f =
@@ -91,7 +91,7 @@ job-other o es a c mail Flush q s run asks kind asked f = tt
 
 -- What a query asks for stays, whatever move is made.
 asked-stay : (o : Opening) (es : List CoreEvent) (a other : ℕ) (move : WorkerMove) (q : BoundQuery) (s : Snapshot)
-    → IsRun o (At other move ∷ es) → (client_state o a es).group.kind ≡ Asks q s → (brick : ℕ)
+    → IsCoreRun o (At other move ∷ es) → (client_state o a es).group.kind ≡ Asks q s → (brick : ℕ)
     → rows_asked o (At other move ∷ es) q s brick ≡ rows_asked o es q s brick
 asked-stay o es a other (Work job answer) q s run kind brick =
     let asks = run-held o es a run.0 q s kind in
@@ -253,7 +253,7 @@ call-view o b call es mail Nowhere f = f
 call-view o b call es mail (Asked job) f = f
 call-view o b call es mail (Answered job answer) f = job-as o es (By b call ∷ es) mail job answer (λ q s kind brick. refl) f
 
-pub run-places : (o : Opening) (es : List CoreEvent) (mail a : ℕ) → IsRun o es → PlaceFits o es mail (place mail a es)
+pub run-places : (o : Opening) (es : List CoreEvent) (mail a : ℕ) → IsCoreRun o es → PlaceFits o es mail (place mail a es)
 run-places o [] mail a run = tt
 run-places o (By b call ∷ es) mail a run =
     call-view o b call es mail (place_after_call mail (b == a) call (place mail a es))
@@ -280,7 +280,7 @@ rows-where-both false had old new rows asked apart o n = (λ i. o i ++ n i) ∙ 
 
 answer-rows : (o : Opening) (es : List CoreEvent) (mail brick : ℕ) (q : BoundQuery) (s : Snapshot) (answer : JobAnswer)
     → is_refusal answer ≡ false → AnswerFits o es mail q s answer
-    → rows_of_brick o q.cube brick (rows_in answer) ≡ rows_where (brick % o.shards == mail) (rows_asked o es q s brick)
+    → rows_of_brick o q.cube brick (rows_of_answer answer) ≡ rows_where (brick % o.shards == mail) (rows_asked o es q s brick)
 answer-rows o es mail brick q s Done is f = absurd (false≢true (sym is ∙ f))
 answer-rows o es mail brick q s (ShardFull rows) is f = absurd (false≢true (sym is ∙ f))
 answer-rows o es mail brick q s (Found rows) is f = f brick
@@ -309,13 +309,13 @@ scan-answer o es mail (Purge epoch) answer q s e f = absurd (false≢true (ap is
 scan-answer o es mail (CopyRound from to) answer q s e f = absurd (false≢true (ap is_asking e))
 scan-answer o es mail Flush answer q s e f = absurd (false≢true (ap is_asking e))
 
-swap-test : (a b : ℕ) → (a == b) ≡ (b == a)
+pub swap-test : (a b : ℕ) → (a == b) ≡ (b == a)
 swap-test a b = elim (eqb_tells a b) [
   | inl same ↦ same.0 ∙ sym (eq-eqb b a (sym same.1))
   | inr other ↦ other.0 ∙ sym (ne_eqb b a (λ e. other.1 (sym e)))
 ]
 
-fetch-found : (o : Opening) (es : List CoreEvent) (a mail : ℕ) (answer : JobAnswer) (job : CoreJob) → IsRun o es
+fetch-found : (o : Opening) (es : List CoreEvent) (a mail : ℕ) (answer : JobAnswer) (job : CoreJob) → IsCoreRun o es
     → place mail a es ≡ Answered job answer → HasFound o es (client_state o a es).group
     → HasFound o es (record {
       kind = (client_state o a es).group.kind;
@@ -329,9 +329,9 @@ fetch-found o es a mail answer job run at found q s kind none brick =
     let fits = coe 0 1 (i. PlaceFits o es mail (at i)) (run-places o es mail a run) in
     let rows = answer-rows o es mail brick q s answer parts.0 (scan-answer o es mail job answer q s (suits.kind ∙ kind) fits) in
     let size = brick % o.shards in
-    filter-append (λ (row : CodedRow). brick_of (sizes_of_cube o q.cube) row.coords == brick) (rows_fetched g.answers) (rows_in answer)
+    filter-append (λ (row : CodedRow). brick_of (sizes_of_cube o q.cube) row.coords == brick) (rows_fetched g.answers) (rows_of_answer answer)
     ∙ rows-where-both (mail == size) (has_number (mails_of g.answers) size)
-    (rows_of_brick o q.cube brick (rows_fetched g.answers)) (rows_of_brick o q.cube brick (rows_in answer)) [] (rows_asked o es q s brick)
+    (rows_of_brick o q.cube brick (rows_fetched g.answers)) (rows_of_brick o q.cube brick (rows_of_answer answer)) [] (rows_asked o es q s brick)
     (λ here. ap (has_number (mails_of g.answers)) (sym (eqb-true mail size here)) ∙ suits.unanswered)
     (found q s kind parts.1 brick)
     (rows ∙ ap (λ (b : Bool). rows_where b (rows_asked o es q s brick)) (swap-test size mail))
@@ -346,7 +346,7 @@ ends-found : (ends : Bool) (o : Opening) (es : List CoreEvent) (g : JobGroup) �
 ends-found true o es g found q s kind none brick = absurd (false≢true (ap is_asking kind))
 ends-found false o es g found q s kind none brick = found q s kind none brick
 
-call-found : (o : Opening) (es : List CoreEvent) (own : Bool) (a b : ℕ) (call : ClientCall) → IsRun o es
+call-found : (o : Opening) (es : List CoreEvent) (own : Bool) (a b : ℕ) (call : ClientCall) → IsCoreRun o es
     → (own ≡ true → CallSays o es a call) → HasFound o es (client_state o a es).group
     → HasFound o es (client_after_call o own a call (client_state o a es)).group
 call-found o es true a b (Post other job) run says found =
@@ -361,7 +361,7 @@ call-found o es true a b (CloseMail mail) run says found = found
 call-found o es true a b NoChange run says found = found
 call-found o es false a b call run says found = found
 
-pub run-found : (o : Opening) (es : List CoreEvent) (a : ℕ) → IsRun o es → HasFound o es (client_state o a es).group
+pub run-found : (o : Opening) (es : List CoreEvent) (a : ℕ) → IsCoreRun o es → HasFound o es (client_state o a es).group
 run-found o [] a run q s kind none brick = refl
 run-found o (By b call ∷ es) a run q s kind none brick =
     call-found o es (b == a) a b call run.0
@@ -387,7 +387,7 @@ all-below (suc n) m xs all l =
     both-are true b e = (refl, e)
     both-are false b e = absurd (false≢true e)
 
-pub answered-rows : (o : Opening) (es : List CoreEvent) (a brick : ℕ) (q : BoundQuery) (s : Snapshot) → IsRun o es
+pub answered-rows : (o : Opening) (es : List CoreEvent) (a brick : ℕ) (q : BoundQuery) (s : Snapshot) → IsCoreRun o es
     → HasAnswered o.shards q s (client_state o a es).group
     → rows_of_brick o q.cube brick (rows_fetched (client_state o a es).group.answers) ≡ rows_asked o es q s brick
 answered-rows o es a brick q s run h =

@@ -17,8 +17,8 @@ use Rattle.core_events.specs.Events.{Opening, IsSession, flusher, OpenWrite, Ope
 use Rattle.core_events.specs.Groups.{has_number}
 use Rattle.core_events.specs.Clients.{Holding, ClientState, client_state, client_after_call, held_under, holds_after, ends_group, lse_in, greater_of}
 use Rattle.core_events.specs.Cells.{counters_of_run, view_of, brick_after_job, brick_after_move, rows_of_brick, box_has_brick, WorkerState, Free, Took, Worked, worker_of, queue_of, reply_for}
-use Rattle.core_events.specs.Fitting.{Fits, OwnsWriter, FitsWork, round_progress}
-use Rattle.core_events.specs.Runs.{IsRun, CallSays}
+use Rattle.core_events.specs.Fitting.{FitsCall, OwnsWriter, FitsWork, round_progress}
+use Rattle.core_events.specs.Runs.{IsCoreRun, CallSays}
 use Rattle.core_mails.specs.Histories.{DoneJob, job_done}
 use Rattle.core_runs.specs.Isolation.{IsOfOther}
 use Rattle.core_desk.proofs.DeskSteps.{client_entry, state_with_entry, run-step}
@@ -42,7 +42,7 @@ lse-step : (s : JournalState) (e : Option JournalEntry) → AllowsEntry s e → 
 lse-step s None h order = omega arith
 lse-step s (Some e) h order = lse-entry s e h order
 
-pub lse-rises : (o : Opening) (b : ℕ) (call : ClientCall) (es : List CoreEvent) → IsRun o (By b call ∷ es)
+pub lse-rises : (o : Opening) (b : ℕ) (call : ClientCall) (es : List CoreEvent) → IsCoreRun o (By b call ∷ es)
     → (counters_of_run o es).lse ≤ (counters_of_run o (By b call ∷ es)).lse
 lse-rises o b call es run =
     let l = lse-step (counters_of_run o es) (client_entry b call) (run-allowed o b call es run) (run-order o es run.0) in
@@ -59,7 +59,7 @@ answer-lse true lse target is = eqb-true target lse is
 answer-lse false lse target is = refl
 
 -- An answer shows the LSE that the desk has.
-shown-lse : (o : Opening) (es : List CoreEvent) (b : ℕ) (call : ClientCall) (n : ℕ) → CallSays o es b call
+pub shown-lse : (o : Opening) (es : List CoreEvent) (b : ℕ) (call : ClientCall) (n : ℕ) → CallSays o es b call
     → lse_in call ≡ Some n → n ≡ (counters_of_run o es).lse
 shown-lse o es b (OnDesk (OpenWrite statement epoch deps)) n says is = absurd (none-some n is)
 shown-lse o es b (OnDesk (OpenRead number statement epoch)) n says is = absurd (none-some n is)
@@ -96,7 +96,7 @@ own-lse : (o : Opening) (own : Bool) (a : ℕ) (call : ClientCall) (k : ClientSt
 own-lse o true a call k most le all = greater-within (lse_in call) k.lse most le all
 own-lse o false a call k most le all = le
 
-pub shown-within : (o : Opening) (es : List CoreEvent) (a : ℕ) → IsRun o es
+pub shown-within : (o : Opening) (es : List CoreEvent) (a : ℕ) → IsCoreRun o es
     → (client_state o a es).lse ≤ (counters_of_run o es).lse
 shown-within o [] a run = omega arith
 shown-within o (By b call ∷ es) a run =
@@ -115,7 +115,7 @@ JobFits o a (Rollback epoch) k lse = IsSession o a × OwnsWriter a epoch k
 JobFits o a (Purge epoch) k lse = epoch ≤ lse
 JobFits o a job k lse = Unit {0}
 
-pub job-fits : (o : Opening) (a mail : ℕ) (job : CoreJob) (k : ClientState) (lse : ℕ) → Fits o a (Post mail job) k → k.lse ≤ lse
+pub job-fits : (o : Opening) (a mail : ℕ) (job : CoreJob) (k : ClientState) (lse : ℕ) → FitsCall o a (Post mail job) k → k.lse ≤ lse
     → JobFits o a job k lse
 job-fits o a mail (Append cube epoch rows) k lse f le = (f.bears.session, f.bears.writer)
 job-fits o a mail (DropBox cube epoch box) k lse f le = (f.bears.session, f.bears.writer)
@@ -163,13 +163,13 @@ holds-stay a (CloseMail mail) holds e = refl
 holds-stay a NoChange holds e = refl
 
 -- A client that has a job out ends no group.
-out-goes-on : (o : Opening) (a mail : ℕ) (call : ClientCall) (k : ClientState) (ends : Bool) → ends_group call ≡ ends
-    → Fits o a call k → has_number k.group.waits mail ≡ true → ends_group call ≡ false
+pub out-goes-on : (o : Opening) (a mail : ℕ) (call : ClientCall) (k : ClientState) (ends : Bool) → ends_group call ≡ ends
+    → FitsCall o a call k → has_number k.group.waits mail ≡ true → ends_group call ≡ false
 out-goes-on o a mail call k true e f out =
     absurd (true≢false (sym out ∙ empty-has-none k.group.waits mail (ends-empty o a call k f e)))
 out-goes-on o a mail call k false e f out = e
 
-pub own-holds : (o : Opening) (own : Bool) (a mail : ℕ) (call : ClientCall) (k : ClientState) → (own ≡ true → Fits o a call k)
+pub own-holds : (o : Opening) (own : Bool) (a mail : ℕ) (call : ClientCall) (k : ClientState) → (own ≡ true → FitsCall o a call k)
     → has_number k.group.waits mail ≡ true → (client_after_call o own a call k).holds ≡ k.holds
 own-holds o true a mail call k f out = holds-stay a call k.holds (out-goes-on o a mail call k (ends_group call) refl (f refl) out)
 own-holds o false a mail call k f out = refl
@@ -189,7 +189,7 @@ post-back true true job asked p e = inl (refl, same-asked job asked e)
 post-back true false job asked p e = inr e
 post-back false own job asked p e = inr e
 
-fetch-back : (here own : Bool) (asked : CoreJob) (p : JobPlace) → place_after_fetch here own p ≡ Asked asked → p ≡ Asked asked
+pub fetch-back : (here own : Bool) (asked : CoreJob) (p : JobPlace) → place_after_fetch here own p ≡ Asked asked → p ≡ Asked asked
 fetch-back true true asked p e = absurd (nowhere-asked asked e)
 fetch-back true false asked p e = e
 fetch-back false own asked p e = e
@@ -203,7 +203,7 @@ done-back : (o : Option DoneJob) (a : ℕ) (asked : CoreJob) (p : JobPlace) → 
 done-back None a asked p e = e
 done-back (Some d) a asked p e = where-back (d.client == a) d.job asked d.answer p e
 
-move-back : (here : Bool) (a : ℕ) (worker : WorkerState) (move : WorkerMove) (asked : CoreJob) (p : JobPlace)
+pub move-back : (here : Bool) (a : ℕ) (worker : WorkerState) (move : WorkerMove) (asked : CoreJob) (p : JobPlace)
     → place_after_move here a worker move p ≡ Asked asked → p ≡ Asked asked
 move-back true a worker move asked p e = done-back (job_done worker move) a asked p e
 move-back false a worker move asked p e = e
@@ -221,18 +221,18 @@ call-back mail own (Fetch other answer) asked p e = inr (fetch-back (other == ma
 call-back mail own (CloseMail other) asked p e = inr e
 call-back mail own NoChange asked p e = inr e
 
-pub asked-fits : (o : Opening) (es : List CoreEvent) (mail a : ℕ) (job : CoreJob) → IsRun o es
+pub asked-fits : (o : Opening) (es : List CoreEvent) (mail a : ℕ) (job : CoreJob) → IsCoreRun o es
     → place mail a es ≡ Asked job → JobFits o a job (client_state o a es) (counters_of_run o es).lse
 asked-fits o [] mail a job run e = absurd (nowhere-asked job e)
 asked-fits o (By b call ∷ es) mail a job run e =
     let k = client_state o a es in
     let rises = lse-rises o b call es run in
-    let fits : (b == a) ≡ true → Fits o a call k =
-    λ own. let same = eqb-true b a own in coe 0 1 (i. Fits o (same i) call (client_state o (same i) es)) run.1.fits
+    let fits : (b == a) ≡ true → FitsCall o a call k =
+    λ own. let same = eqb-true b a own in coe 0 1 (i. FitsCall o (same i) call (client_state o (same i) es)) run.1.fits
     in
     elim (call-back mail (b == a) call job (place mail a es) e) [
       | inl new ↦
-          let f = coe 0 1 (i. Fits o a (new.2 i) k) (fits new.1) in
+          let f = coe 0 1 (i. FitsCall o a (new.2 i) k) (fits new.1) in
           job-stays o a job k (client_after_call o (b == a) a call k) (counters_of_run o es).lse
           (counters_of_run o (By b call ∷ es)).lse (posted-holds (b == a) new.0 call k new.2) rises
           (job-fits o a new.0 job k (counters_of_run o es).lse f (shown-within o es a run.0))
@@ -252,7 +252,7 @@ asked-fits o (At other move ∷ es) mail a job run e =
 
 -- The job that a worker makes is asked.
 pub made-asked : (o : Opening) (es : List CoreEvent) (mail : ℕ) (job : CoreJob) (answer : JobAnswer)
-    → IsRun o (At mail (Work job answer) ∷ es) → (a : ℕ) × (place mail a es ≡ Asked job)
+    → IsCoreRun o (At mail (Work job answer) ∷ es) → (a : ℕ) × (place mail a es ≡ Asked job)
 made-asked o es mail job answer run = made (worker_of mail es) run.1.fits ((run-posted o es run.0).posted mail).busy
   where
     made : (w : WorkerState) → FitsWork (round_progress o es) (client_state o (flusher o) es).store_lost w (Work job answer)
@@ -262,14 +262,14 @@ made-asked o es mail job answer run = made (worker_of mail es) run.1.fits ((run-
     made (Worked c j x) fits busy = absurd fits
 
 -- A snapshot does not see what the job of another transaction changes.
-abbrev IsUnseen : Snapshot → CoreJob → Type 0
+abbrev pub IsUnseen : Snapshot → CoreJob → Type 0
 IsUnseen s (Append cube epoch rows) = sees s epoch ≡ false
 IsUnseen s (DropBox cube epoch box) = sees s epoch ≡ false
 IsUnseen s (Rollback epoch) = sees s epoch ≡ false
 IsUnseen s (Purge epoch) = (e : ℕ) → e ≤ epoch → sees s e ≡ true
 IsUnseen s job = Unit {0}
 
-other-unseen : (o : Opening) (es : List CoreEvent) (a m epoch : ℕ) (s : Snapshot) → IsRun o es
+other-unseen : (o : Opening) (es : List CoreEvent) (a m epoch : ℕ) (s : Snapshot) → IsCoreRun o es
     → held_by (counters_of_run o es).snapshots m ≡ Some s → IsSession o a → OwnsWriter a epoch (client_state o a es)
     → (s.own ≡ true → s.epoch ≡ epoch → ⊥) → sees s epoch ≡ false
 other-unseen o es a m epoch s run held session owns other =
@@ -279,7 +279,7 @@ other-unseen o es a m epoch s run held session owns other =
     let pending = ap (has_number c.pending) (sym w.at) ∙ (run-finished o es run).writers a w.snapshot w.is w.own in
     (run-blind o es run).blind m epoch s held pending other
 
-job-unseen : (o : Opening) (es : List CoreEvent) (a m : ℕ) (job : CoreJob) (s : Snapshot) → IsRun o es
+job-unseen : (o : Opening) (es : List CoreEvent) (a m : ℕ) (job : CoreJob) (s : Snapshot) → IsCoreRun o es
     → held_by (counters_of_run o es).snapshots m ≡ Some s
     → JobFits o a job (client_state o a es) (counters_of_run o es).lse → IsOfOther s job → IsUnseen s job
 job-unseen o es a m (Append cube epoch rows) s run held f other = other-unseen o es a m epoch s run held f.0 f.1 other
@@ -303,7 +303,7 @@ mark-where : (here : Bool) (s : Snapshot) (epoch : ℕ) (xs : List BrickEntry) �
 mark-where true s epoch xs hidden = mark-unseen (sees s) (sees s) epoch xs hidden
 mark-where false s epoch xs hidden = refl
 
-job-keeps : (o : Opening) (cube brick : ℕ) (job : CoreJob) (s : Snapshot) (xs : List BrickEntry) → IsUnseen s job
+pub job-keeps : (o : Opening) (cube brick : ℕ) (job : CoreJob) (s : Snapshot) (xs : List BrickEntry) → IsUnseen s job
     → brick_rows_seen s (brick_after_job o cube brick job xs) ≡ brick_rows_seen s xs
 job-keeps o cube brick (Append other epoch rows) s xs hidden = append-where (other == cube) s epoch o cube brick rows xs hidden
 job-keeps o cube brick (DropBox other epoch box) s xs hidden = mark-where (other == cube && box_has_brick o cube box brick) s epoch xs hidden
@@ -314,7 +314,7 @@ job-keeps o cube brick (Purge epoch) s xs hidden = purge-unseen (sees s) (sees s
 job-keeps o cube brick (CopyRound from to) s xs hidden = refl
 job-keeps o cube brick Flush s xs hidden = refl
 
-move-keeps : (o : Opening) (here : Bool) (cube brick : ℕ) (job : CoreJob) (answer : JobAnswer) (s : Snapshot) (xs : List BrickEntry)
+pub move-keeps : (o : Opening) (here : Bool) (cube brick : ℕ) (job : CoreJob) (answer : JobAnswer) (s : Snapshot) (xs : List BrickEntry)
     → brick_rows_seen s (brick_after_job o cube brick job xs) ≡ brick_rows_seen s xs
     → brick_rows_seen s (brick_after_move o here cube brick (Work job answer) xs) ≡ brick_rows_seen s xs
 move-keeps o true cube brick job Done s xs keeps = keeps
@@ -328,7 +328,7 @@ move-keeps o false cube brick job answer s xs keeps = refl
 
 -- Snapshot isolation: what an open snapshot sees stays.
 pub isolated : (o : Opening) (es : List CoreEvent) (mail cube brick m : ℕ) (job : CoreJob) (answer : JobAnswer) (s : Snapshot)
-    → IsRun o (At mail (Work job answer) ∷ es) → held_by (counters_of_run o es).snapshots m ≡ Some s → IsOfOther s job
+    → IsCoreRun o (At mail (Work job answer) ∷ es) → held_by (counters_of_run o es).snapshots m ≡ Some s → IsOfOther s job
     → brick_rows_seen s (view_of o (At mail (Work job answer) ∷ es) cube brick) ≡ brick_rows_seen s (view_of o es cube brick)
 isolated o es mail cube brick m job answer s run held other =
     let asked = made-asked o es mail job answer run in
@@ -338,7 +338,7 @@ isolated o es mail cube brick m job answer s run held other =
 
 -- A purge that a worker makes is not above LSE.
 pub purge-within : (o : Opening) (es : List CoreEvent) (mail epoch : ℕ) (answer : JobAnswer)
-    → IsRun o (At mail (Work (Purge epoch) answer) ∷ es) → epoch ≤ (counters_of_run o es).lse
+    → IsCoreRun o (At mail (Work (Purge epoch) answer) ∷ es) → epoch ≤ (counters_of_run o es).lse
 purge-within o es mail epoch answer run =
     let asked = made-asked o es mail (Purge epoch) answer run in
     asked-fits o es mail asked.0 (Purge epoch) run.0 asked.1

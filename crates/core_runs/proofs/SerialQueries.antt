@@ -11,7 +11,7 @@ use Rattle.core_events.specs.ShardView.{BrickEntry, Epochs, epochs_without, rows
 use Rattle.core_events.specs.Events.{Opening, CoreEvent}
 use Rattle.core_events.specs.Clients.{client_state}
 use Rattle.core_events.specs.Cells.{counters_of_run, rows_of_brick}
-use Rattle.core_events.specs.Runs.{IsRun, rows_in_span}
+use Rattle.core_events.specs.Runs.{IsCoreRun, rows_in_span}
 use Rattle.core_bricks.specs.BrickTransactions.{brick_rows_left}
 use Rattle.core_bricks.proofs.Counts.{count-filter}
 use Rattle.core_bricks.proofs.SerialRows.{epochs_below, serial-counts, sees-below}
@@ -35,7 +35,7 @@ limit-without : (s : Snapshot) (gone : Epochs)
 limit-without s gone = λ i e.
     (and-last (sees s e) (nat_lt e (s.epoch + 1)) (not (gone e)) ∙ ap (λ (b : Bool). b && not (gone e)) (sees-below s e)) i
 
-serial-without : (c : CodedRow → Bool) (s : Snapshot) (gone : Epochs) (told : List BrickEntry)
+pub serial-without : (c : CodedRow → Bool) (s : Snapshot) (gone : Epochs) (told : List BrickEntry)
     → count_by c (rows_shown_to (epochs_without (sees s) gone) (epochs_without (sees s) gone) told)
     ≡ count_by c (brick_rows_left (s.epoch + 1) (epochs_without (sees s) gone) told)
 serial-without c s gone told =
@@ -43,7 +43,7 @@ serial-without c s gone told =
     ∙ ap (λ (set : Epochs). count_by c (rows_shown_to set set told)) (limit-without s gone))
 
 pub answered-serial : (o : Opening) (es : List CoreEvent) (a brick : ℕ) (q : BoundQuery) (s : Snapshot) (c : CodedRow → Bool)
-    → IsRun o es → HasAnswered o.shards q s (client_state o a es).group
+    → IsCoreRun o es → HasAnswered o.shards q s (client_state o a es).group
     → count_by c (rows_of_brick o q.cube brick (rows_fetched (client_state o a es).group.answers))
     ≡ count_by c (rows_in_span q.span (brick_rows_left (s.epoch + 1)
     (epochs_without (sees s) (rolled_back (brick % o.shards) es)) (told_of o es q.cube brick)))

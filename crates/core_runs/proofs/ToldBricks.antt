@@ -17,8 +17,8 @@ use Rattle.core_events.specs.Events.{Opening, IsSession, OpenWrite, OpenRead, Co
 use Rattle.core_events.specs.Groups.{GroupKind, RollsBack, kind_of, JobGroup, has_number, is_empty, has_ended, is_ready, is_complete, is_spoiled, has_refusal, mails_of}
 use Rattle.core_events.specs.Clients.{ClientState, client_state, client_after_call, held_under, holds_without}
 use Rattle.core_events.specs.Cells.{counters_of_run, view_of, rows_of_brick, box_has_brick, brick_after_job, brick_after_move}
-use Rattle.core_events.specs.Fitting.{Fits, OwnsWriter}
-use Rattle.core_events.specs.Runs.{IsRun}
+use Rattle.core_events.specs.Fitting.{FitsCall, OwnsWriter}
+use Rattle.core_events.specs.Runs.{IsCoreRun}
 use Rattle.core_runs.specs.Told.{told_of, told_after_job, told_after_move, rolled_back, rolled_after_job, rolled_after_move}
 use Rattle.core_desk.proofs.Agreement.{agree}
 use Rattle.core_desk.proofs.InOrder.{AllowsEntry, StateAllows, run-allowed, run-order}
@@ -37,7 +37,7 @@ pub record HasWriter (o : Opening) (es : List CoreEvent) (a epoch : ℕ) : Type 
   pub held : Held (counters_of_run o es) a epoch
   pub pending : has_number (counters_of_run o es).pending epoch ≡ true
 
-pub writer-of : (o : Opening) (es : List CoreEvent) (a epoch : ℕ) → IsRun o es → IsSession o a
+pub writer-of : (o : Opening) (es : List CoreEvent) (a epoch : ℕ) → IsCoreRun o es → IsSession o a
     → OwnsWriter a epoch (client_state o a es) → HasWriter o es a epoch
 writer-of o es a epoch run session owns =
     let c = counters_of_run o es in
@@ -48,7 +48,7 @@ writer-of o es a epoch run session owns =
       pending = ap (has_number c.pending) (sym w.at) ∙ (run-finished o es run).writers a w.snapshot w.is w.own;
     }
 
-pub one-writer : (o : Opening) (es : List CoreEvent) (a b epoch : ℕ) → IsRun o es → HasWriter o es a epoch → HasWriter o es b epoch → a ≡ b
+pub one-writer : (o : Opening) (es : List CoreEvent) (a b epoch : ℕ) → IsCoreRun o es → HasWriter o es a epoch → HasWriter o es b epoch → a ≡ b
 one-writer o es a b epoch run x y = (run-finished o es run).apart a b epoch x.held y.held
 
 falls-not : (low high : ℕ) (xs : List OpenSnapshot) → NeverFalls low xs high → low ≤ high
@@ -59,7 +59,7 @@ low-lce : (s : JournalState) → IsInOrder s → s.lse ≤ lce s
 low-lce s order = falls-not s.lse (lce s) s.snapshots order.bounds
 
 -- A pending epoch is above LSE.
-above-lse : (o : Opening) (es : List CoreEvent) (epoch : ℕ) → IsRun o es → has_number (counters_of_run o es).pending epoch ≡ true
+pub above-lse : (o : Opening) (es : List CoreEvent) (epoch : ℕ) → IsCoreRun o es → has_number (counters_of_run o es).pending epoch ≡ true
     → (counters_of_run o es).lse < epoch
 above-lse o es epoch run pending =
     let c = counters_of_run o es in
@@ -92,7 +92,7 @@ rolling-unready shards g e ready =
     left-of false b e = absurd (false≢true e)
 
 -- A call of a client whose group rolls back: it goes on so, or it ends the transaction.
-pub own-rolls : (o : Opening) (a k : ℕ) (call : ClientCall) (s : ClientState) → IsSession o a → Fits o a call s → s.group.kind ≡ RollsBack
+pub own-rolls : (o : Opening) (a k : ℕ) (call : ClientCall) (s : ClientState) → IsSession o a → FitsCall o a call s → s.group.kind ≡ RollsBack
     → OwnsWriter a k (client_after_call o true a call s) → (client_after_call o true a call s).group.kind ≡ RollsBack
 own-rolls o a k (OnDesk (OpenWrite statement epoch deps)) s session f kind owns = absurd (rolling-unready o.shards s.group kind f.ready)
 own-rolls o a k (OnDesk (OpenRead number statement epoch)) s session f kind owns = absurd (rolling-unready o.shards s.group kind f.ready)
@@ -219,7 +219,7 @@ own-back o true a b k call s c own allowed below owns =
     omega (arith, ec, at, below))
 own-back o false a b k call s c own allowed below owns = owns
 
-step-rolls : (o : Opening) (own : Bool) (a k : ℕ) (call : ClientCall) (s : ClientState) → IsSession o a → (own ≡ true → Fits o a call s)
+step-rolls : (o : Opening) (own : Bool) (a k : ℕ) (call : ClientCall) (s : ClientState) → IsSession o a → (own ≡ true → FitsCall o a call s)
     → s.group.kind ≡ RollsBack → OwnsWriter a k (client_after_call o own a call s)
     → (client_after_call o own a call s).group.kind ≡ RollsBack
 step-rolls o true a k call s session f kind owns = own-rolls o a k call s session (f refl) kind owns
@@ -228,16 +228,16 @@ step-rolls o false a k call s session f kind owns = kind
 abbrev pub RollbackFits : Opening → List CoreEvent → ℕ → ℕ → Type 0
 RollbackFits o es mail k = (c : ℕ) × HasWriter o es c k × ((client_state o c es).group.kind ≡ RollsBack)
 
-pub rollback-fits : (o : Opening) (es : List CoreEvent) (mail k : ℕ) (move : WorkerMove) → IsRun o (At mail move ∷ es)
+pub rollback-fits : (o : Opening) (es : List CoreEvent) (mail k : ℕ) (move : WorkerMove) → IsCoreRun o (At mail move ∷ es)
     → move ≡ Work (Rollback k) Done → RollbackFits o es mail k
 rollback-fits o es mail k move run is =
-    let here = coe 0 1 (i. IsRun o (At mail (is i) ∷ es)) run in
+    let here = coe 0 1 (i. IsCoreRun o (At mail (is i) ∷ es)) run in
     let made = made-asked o es mail (Rollback k) Done here in
     let f = asked-fits o es mail made.0 (Rollback k) run.0 made.1 in
     let suits = coe 0 1 (i. SuitsAt mail (client_state o made.0 es).group (made.1 i)) (run-suits o es mail made.0 run.0) in
     (made.0, writer-of o es made.0 k run.0 f.0 f.1, sym suits.kind)
 
-pub run-rolled : (o : Opening) (es : List CoreEvent) (shard : ℕ) → IsRun o es → IsRolled o es shard
+pub run-rolled : (o : Opening) (es : List CoreEvent) (shard : ℕ) → IsCoreRun o es → IsRolled o es shard
 run-rolled o [] shard run = record {
   below = λ k is. absurd (false≢true is);
   rolls = λ a k is session owns. absurd (false≢true is);
@@ -277,7 +277,7 @@ is_rolling RollsBack = true
 is_rolling kind = false
 
 -- A write that is asked was not rolled back on its shard.
-unrolled : (o : Opening) (es : List CoreEvent) (mail a k : ℕ) (job : CoreJob) → IsRun o es → place mail a es ≡ Asked job
+unrolled : (o : Opening) (es : List CoreEvent) (mail a k : ℕ) (job : CoreJob) → IsCoreRun o es → place mail a es ≡ Asked job
     → IsSession o a → OwnsWriter a k (client_state o a es) → is_rolling (kind_of job) ≡ false → rolled_back mail es k ≡ false
 unrolled o es mail a k job run asked session owns writes =
     false_from_ne_true (rolled_back mail es k) (λ rolled.
@@ -337,7 +337,7 @@ keeps-move o true cube brick p (Reply client answer) gone now told j keeps = kee
 keeps-move o false cube brick p move gone now told j keeps = keeps
 
 -- The job of a move is so.
-job-keeps-told : (o : Opening) (es : List CoreEvent) (mail a : ℕ) (job : CoreJob) → IsRun o es → place mail a es ≡ Asked job
+job-keeps-told : (o : Opening) (es : List CoreEvent) (mail a : ℕ) (job : CoreJob) → IsCoreRun o es → place mail a es ≡ Asked job
     → JobFits o a job (client_state o a es) (counters_of_run o es).lse
     → JobKeeps (counters_of_run o es).lse (rolled_back mail es) job
 job-keeps-told o es mail a (Append cube epoch rows) run asked f =
@@ -351,7 +351,7 @@ job-keeps-told o es mail a (Purge epoch) run asked f = f
 job-keeps-told o es mail a (CopyRound from to) run asked f = tt
 job-keeps-told o es mail a Flush run asked f = tt
 
-pub run-keeps : (o : Opening) (es : List CoreEvent) (cube brick : ℕ) → IsRun o es
+pub run-keeps : (o : Opening) (es : List CoreEvent) (cube brick : ℕ) → IsCoreRun o es
     → KeepsTold (counters_of_run o es).lse (rolled_back (brick % o.shards) es) (view_of o es cube brick) (told_of o es cube brick)
 run-keeps o [] cube brick run = keeps-same o.safe (told_of o [] cube brick)
 run-keeps o (By b call ∷ es) cube brick run =
@@ -363,13 +363,13 @@ run-keeps o (At mail move ∷ es) cube brick run =
     (told_of o es cube brick)
     (λ job here is.
     let same = eqb-true mail shard here in
-    let made = made-asked o es mail job Done (coe 0 1 (i. IsRun o (At mail (is i) ∷ es)) run) in
+    let made = made-asked o es mail job Done (coe 0 1 (i. IsCoreRun o (At mail (is i) ∷ es)) run) in
     coe 0 1 (i. JobKeeps (counters_of_run o es).lse (rolled_back (same i) es) job)
     (job-keeps-told o es mail made.0 job run.0 made.1 (asked-fits o es mail made.0 job run.0 made.1)))
     (run-keeps o es cube brick run.0)
 
 -- What an open snapshot sees, by what the brick was told.
-pub seen-of-told : (o : Opening) (es : List CoreEvent) (cube brick m : ℕ) (s : Snapshot) → IsRun o es
+pub seen-of-told : (o : Opening) (es : List CoreEvent) (cube brick m : ℕ) (s : Snapshot) → IsCoreRun o es
     → held_by (counters_of_run o es).snapshots m ≡ Some s
     → brick_rows_seen s (view_of o es cube brick)
     ≡ rows_shown_to (epochs_without (sees s) (rolled_back (brick % o.shards) es))

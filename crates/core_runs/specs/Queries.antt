@@ -9,22 +9,22 @@ use Rattle.core_events.specs.Jobs.{JobAnswer, Found}
 use Rattle.core_events.specs.Events.{Opening, CoreEvent}
 use Rattle.core_events.specs.Groups.{Asks, Received, JobGroup}
 use Rattle.core_events.specs.Cells.{view_of}
-use Rattle.core_events.specs.Fitting.{HasDone}
+use Rattle.core_events.specs.Fitting.{HasAllDone}
 use Rattle.core_events.specs.Runs.{rows_in_span}
 
 -- The rows that answers have.
-abbrev pub rows_in : JobAnswer → List CodedRow
-rows_in (Found rows) = rows
-rows_in answer = []
+abbrev pub rows_of_answer : JobAnswer → List CodedRow
+rows_of_answer (Found rows) = rows
+rows_of_answer answer = []
 
 abbrev pub rows_fetched : List Received → List CodedRow
 rows_fetched [] = []
-rows_fetched (r ∷ answers) = rows_fetched answers ++ rows_in r.answer
+rows_fetched (r ∷ answers) = rows_fetched answers ++ rows_of_answer r.answer
 
 -- The group asks this query, and the client has the answers of all shards, none of them a refusal.
 pub record HasAnswered (shards : ℕ) (query : BoundQuery) (snapshot : Snapshot) (g : JobGroup) : Type 0 where
   pub asks : g.kind ≡ Asks query snapshot
-  pub done : HasDone shards g
+  pub done : HasAllDone shards g
 
 -- The rows of a brick that the query's snapshot sees of the bricks as they are now.
 abbrev pub rows_asked : Opening → List CoreEvent → BoundQuery → Snapshot → ℕ → List CodedRow

@@ -12,7 +12,7 @@ ghost use Rattle.core_events.specs.Cells.{counters_of_run, rows_of_brick, view_o
 ghost use Rattle.core_events.specs.Clients.{client_state};
 ghost use Rattle.core_events.specs.Events.{Opening, CoreEvent, At, Work};
 ghost use Rattle.core_events.specs.Jobs.{CoreJob, JobAnswer, Purge};
-ghost use Rattle.core_events.specs.Runs.{IsRun, rows_in_span};
+ghost use Rattle.core_events.specs.Runs.{IsCoreRun, rows_in_span};
 ghost use Rattle.core_events.specs.ShardView.{brick_rows_seen, epochs_without, rows_shown_to};
 ghost use Rattle.core_runs.specs.Isolation.{IsOfOther};
 ghost use Rattle.core_runs.specs.Queries.{HasAnswered, rows_asked, rows_fetched};
@@ -21,8 +21,8 @@ ghost use Rattle.core_runs.specs.Told.{rolled_back, told_of};
 /// A purge is at an epoch up to LSE, and no client was shown a greater LSE than the desk has.
 pub fn purges_stay_safe()
     ensures purge { (o : Opening) (es : List CoreEvent) (mail epoch : ℕ) (answer : JobAnswer)
-        → IsRun o (At mail (Work (Purge epoch) answer) ∷ es) → epoch ≤ (counters_of_run o es).lse }
-    ensures shown { (o : Opening) (es : List CoreEvent) (client : ℕ) → IsRun o es
+        → IsCoreRun o (At mail (Work (Purge epoch) answer) ∷ es) → epoch ≤ (counters_of_run o es).lse }
+    ensures shown { (o : Opening) (es : List CoreEvent) (client : ℕ) → IsCoreRun o es
         → (client_state o client es).lse ≤ (counters_of_run o es).lse }
 {}
 
@@ -30,7 +30,7 @@ pub fn purges_stay_safe()
 /// another transaction is done, a purge among them.
 pub fn snapshots_are_isolated()
     ensures { (o : Opening) (es : List CoreEvent) (mail cube brick number : ℕ) (job : CoreJob)
-        (answer : JobAnswer) (s : Snapshot) → IsRun o (At mail (Work job answer) ∷ es)
+        (answer : JobAnswer) (s : Snapshot) → IsCoreRun o (At mail (Work job answer) ∷ es)
         → held_by (counters_of_run o es).snapshots number ≡ Some s → IsOfOther s job
         → brick_rows_seen s (view_of o (At mail (Work job answer) ∷ es) cube brick)
         ≡ brick_rows_seen s (view_of o es cube brick) }
@@ -41,7 +41,7 @@ pub fn snapshots_are_isolated()
 /// rolled back there.
 pub fn bricks_keep_what_they_were_told()
     ensures { (o : Opening) (es : List CoreEvent) (cube brick number : ℕ) (s : Snapshot)
-        → IsRun o es
+        → IsCoreRun o es
         → held_by (counters_of_run o es).snapshots number ≡ Some s
         → brick_rows_seen s (view_of o es cube brick)
         ≡ rows_shown_to (epochs_without (sees s) (rolled_back (brick % o.shards) es))
@@ -53,7 +53,7 @@ pub fn bricks_keep_what_they_were_told()
 /// they were appended.
 pub fn queries_see_one_snapshot()
     ensures { (o : Opening) (es : List CoreEvent) (client brick : ℕ) (query : BoundQuery)
-        (s : Snapshot) → IsRun o es → HasAnswered o.shards query s (client_state o client es).group
+        (s : Snapshot) → IsCoreRun o es → HasAnswered o.shards query s (client_state o client es).group
         → rows_of_brick o query.cube brick (rows_fetched (client_state o client es).group.answers)
         ≡ rows_asked o es query s brick }
 {}
@@ -65,7 +65,7 @@ pub fn queries_see_one_snapshot()
 pub fn queries_are_serial()
     ensures { (o : Opening) (es : List CoreEvent) (client brick : ℕ) (query : BoundQuery)
         (s : Snapshot) (test : CodedRow → Bool)
-        → IsRun o es → HasAnswered o.shards query s (client_state o client es).group
+        → IsCoreRun o es → HasAnswered o.shards query s (client_state o client es).group
         → count_by test (rows_of_brick o query.cube brick
         (rows_fetched (client_state o client es).group.answers))
         ≡ count_by test (rows_in_span query.span (brick_rows_left (s.epoch + 1)

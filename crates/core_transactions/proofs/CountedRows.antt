@@ -13,9 +13,9 @@ use Rattle.core_events.specs.Events.{Opening, IsSession, OpenWrite, OpenRead, Co
 use Rattle.core_events.specs.Groups.{GroupKind, Asks, JobGroup, has_number, is_empty, is_spoiled, has_refusal}
 use Rattle.core_events.specs.Clients.{ClientState, client_state, client_after_call, held_under}
 use Rattle.core_events.specs.Cells.{counters_of_run, rows_of_brick}
-use Rattle.core_events.specs.Fitting.{Fits, OwnsWriter}
-use Rattle.core_events.specs.Runs.{IsRun}
-use Rattle.core_events.specs.Serial.{commits, is_committed, is_aborted, counts_for}
+use Rattle.core_events.specs.Fitting.{FitsCall, OwnsWriter}
+use Rattle.core_events.specs.Runs.{IsCoreRun}
+use Rattle.core_events.specs.Serial.{commits, has_committed, has_aborted, counts_for}
 use Rattle.core_runs.specs.Told.{told_of, told_after_move, rolled_back}
 use Rattle.core_desk.proofs.Agreement.{agree, opening-of}
 use Rattle.core_desk.proofs.Finished.{run-finished, or-is}
@@ -109,7 +109,7 @@ run-own-number o (At mail move ∷ es) a n t is own = run-own-number o es a n t 
 
 -- Nothing more is posted or done of an epoch that is not pending.
 
-ended-epoch : (o : Opening) (es : List CoreEvent) (c e lse : ℕ) (job : CoreJob) → IsRun o es
+pub ended-epoch : (o : Opening) (es : List CoreEvent) (c e lse : ℕ) (job : CoreJob) → IsCoreRun o es
     → has_number (counters_of_run o es).pending e ≡ false → JobFits o c job (client_state o c es) lse → IsOtherEpoch e job
 ended-epoch o es c e lse (Append cube epoch rows) run past f = λ same.
     true≢false (sym (writer-of o es c epoch run f.0 f.1).pending ∙ ap (has_number (counters_of_run o es).pending) same ∙ past)
@@ -128,7 +128,7 @@ same-post true o cube brick e job posted out =
     epoch-append e (entries_of_job o cube brick job) posted ∙ ap (λ xs. xs ++ entries_of_epoch e posted) (none-of-job o cube brick e job out)
 same-post false o cube brick e job posted out = refl
 
-call-same : (o : Opening) (b : ℕ) (call : ClientCall) (es : List CoreEvent) (cube brick e : ℕ) → IsRun o (By b call ∷ es)
+pub call-same : (o : Opening) (b : ℕ) (call : ClientCall) (es : List CoreEvent) (cube brick e : ℕ) → IsCoreRun o (By b call ∷ es)
     → has_number (counters_of_run o es).pending e ≡ false
     → entries_of_epoch e (posted_after o cube brick call (posted_of o es cube brick)) ≡ entries_of_epoch e (posted_of o es cube brick)
 call-same o b (Post other job) es cube brick e run past =
@@ -151,7 +151,7 @@ move-same true o cube brick e (Reply client answer) told out = refl
 move-same false o cube brick e move told out = refl
 
 -- What was posted of a transaction whose group is complete was done.
-group-posted : (o : Opening) (es : List CoreEvent) (a e cube brick : ℕ) → IsRun o es → IsSession o a → OwnsWriter a e (client_state o a es)
+group-posted : (o : Opening) (es : List CoreEvent) (a e cube brick : ℕ) → IsCoreRun o es → IsSession o a → OwnsWriter a e (client_state o a es)
     → IsClean (client_state o a es).group → is_empty (client_state o a es).group.waits ≡ true
     → entries_of_epoch e (posted_of o es cube brick) ≡ entries_of_epoch e (told_of o es cube brick)
 group-posted o es a e cube brick run session owns clean empty =
@@ -160,13 +160,13 @@ group-posted o es a e cube brick run session owns clean empty =
     nowhere-posted o cube brick e (posted_of o es cube brick) (told_of o es cube brick) (place mail a es) (none-out (place mail a es) out)
     (run-posted-fits o es a e cube brick run session owns clean)
 
-pub committed-posted : (o : Opening) (es : List CoreEvent) (e cube brick : ℕ) → IsRun o es → is_committed o es e ≡ true
+pub committed-posted : (o : Opening) (es : List CoreEvent) (e cube brick : ℕ) → IsCoreRun o es → has_committed o es e ≡ true
     → entries_of_epoch e (posted_of o es cube brick) ≡ entries_of_epoch e (told_of o es cube brick)
 committed-posted o [] e cube brick run is = refl
-committed-posted o (By b call ∷ es) e cube brick run is = elim (or-is (commits call e) (is_committed o es e) is) [
+committed-posted o (By b call ∷ es) e cube brick run is = elim (or-is (commits call e) (has_committed o es e) is) [
   | inl new ↦
       (let x = commit-of call e new in
-      let f = coe 0 1 (i. Fits o b (x.is i) (client_state o b es)) run.1.fits in
+      let f = coe 0 1 (i. FitsCall o b (x.is i) (client_state o b es)) run.1.fits in
       let g = (client_state o b es).group in
       ap (λ (c : ClientCall). entries_of_epoch e (posted_after o cube brick c (posted_of o es cube brick))) x.is
       ∙ group-posted o es b e cube brick run.0 f.session f.writer (ready-clean o.shards g f.ready) (ready-empty o.shards g f.ready))
@@ -178,7 +178,7 @@ committed-posted o (At mail move ∷ es) e cube brick run is =
     committed-posted o es e cube brick run.0 is
     ∙ sym (move-same (mail == brick % o.shards) o cube brick e move (told_of o es cube brick)
     (λ job answer at.
-    let made = made-asked o es mail job answer (coe 0 1 (i. IsRun o (At mail (at i) ∷ es)) run) in
+    let made = made-asked o es mail job answer (coe 0 1 (i. IsCoreRun o (At mail (at i) ∷ es)) run) in
     ended-epoch o es made.0 e (counters_of_run o es).lse job run.0 ((run-finished o es run.0).done_ended e is)
     (asked-fits o es mail made.0 job run.0 made.1)))
 
@@ -226,14 +226,14 @@ left-same done counts told posted (suc m) alike = left-step done counts told pos
 
 -- Which epochs count for a query.
 
-asking-clean : (g : JobGroup) (q : BoundQuery) (s : Snapshot) → g.kind ≡ Asks q s → IsClean g
+pub asking-clean : (g : JobGroup) (q : BoundQuery) (s : Snapshot) → g.kind ≡ Asks q s → IsClean g
 asking-clean g q s is = record {
   goes_on = ap is_rolling is;
   unspoiled = ap (λ (k : GroupKind). is_spoiled k (has_refusal g.answers)) is;
 }
 
 -- The writer of a query's snapshot.
-asks-writer : (o : Opening) (es : List CoreEvent) (a : ℕ) (s : Snapshot) → AsksBy o a (client_state o a es).holds s → s.own ≡ true
+pub asks-writer : (o : Opening) (es : List CoreEvent) (a : ℕ) (s : Snapshot) → AsksBy o a (client_state o a es).holds s → s.own ≡ true
     → OwnsWriter a s.epoch (client_state o a es)
 asks-writer o es a s asks own =
     let number = run-own-number o es a asks.number s asks.held own in
@@ -242,38 +242,36 @@ asks-writer o es a s asks own =
     in
     coe 1 0 (i. IsSomeAnd (held i) (λ x. (x.own ≡ true) × (x.epoch ≡ s.epoch))) (own, refl)
 
-and-parts : (a b : Bool) → (a && b) ≡ true → (a ≡ true) × (b ≡ true)
+pub and-parts : (a b : Bool) → (a && b) ≡ true → (a ≡ true) × (b ≡ true)
 and-parts true true e = (refl, refl)
 and-parts true false e = absurd (false≢true e)
 and-parts false b e = absurd (false≢true e)
 
-alike-seen : (committed own gone pending : Bool) (o : Opening) (es : List CoreEvent) (a cube brick e : ℕ) (q : BoundQuery) (s : Snapshot)
-    → IsRun o es → HasAnswered o.shards q s (client_state o a es).group → AsksBy o a (client_state o a es).holds s → sees s e ≡ true
-    → is_committed o es e ≡ committed → (s.own && s.epoch == e) ≡ own → is_aborted es e ≡ gone
+-- What a snapshot shows is settled: no pending epoch but its own is seen, and of its own all that was posted was done, and
+-- none of it rolled back.
+pub record IsSettled (o : Opening) (es : List CoreEvent) (s : Snapshot) : Type 0 where
+  pub blind : (e : ℕ) → sees s e ≡ true → has_number (counters_of_run o es).pending e ≡ true → (s.own && s.epoch == e) ≡ true
+  pub stays : (brick e : ℕ) → (s.own && s.epoch == e) ≡ true → rolled_back (brick % o.shards) es e ≡ false
+  pub done : (cube brick e : ℕ) → (s.own && s.epoch == e) ≡ true
+      → entries_of_epoch e (posted_of o es cube brick) ≡ entries_of_epoch e (told_of o es cube brick)
+
+alike-seen : (committed own gone pending : Bool) (o : Opening) (es : List CoreEvent) (cube brick e : ℕ) (s : Snapshot)
+    → IsCoreRun o es → IsSettled o es s → sees s e ≡ true
+    → has_committed o es e ≡ committed → (s.own && s.epoch == e) ≡ own → has_aborted es e ≡ gone
     → has_number (counters_of_run o es).pending e ≡ pending
     → CountsAlike (epochs_without (sees s) (rolled_back (brick % o.shards) es)) (counts_for o es s) (told_of o es cube brick) (posted_of o es cube brick) e
-alike-seen true own gone pending o es a cube brick e q s run h asks seen c w g p =
+alike-seen true own gone pending o es cube brick e s run settled seen c w g p =
     Both (λ i. seen i && not (committed-unrolled o es (brick % o.shards) e run c i)) (λ i. seen i && (c i || (s.own && s.epoch == e)))
     (committed-posted o es e cube brick run c)
-alike-seen false true gone pending o es a cube brick e q s run h asks seen c w g p =
-    let parts = and-parts s.own (s.epoch == e) w in
-    let at = eqb-true s.epoch e parts.1 in
-    let owns = coe 0 1 (i. OwnsWriter a (at i) (client_state o a es)) (asks-writer o es a s asks parts.0) in
-    let group = (client_state o a es).group in
-    let stays = false_from_ne_true (rolled_back (brick % o.shards) es e) (λ rolled.
-    false≢true (sym (ap is_rolling h.asks) ∙ ap is_rolling ((run-rolled o es (brick % o.shards) run).rolls a e rolled asks.session owns))) in
-    Both (λ i. seen i && not (stays i)) (λ i. seen i && (c i || w i))
-    (group-posted o es a e cube brick run asks.session owns (asking-clean group q s h.asks) h.done.fetched)
-alike-seen false false true pending o es a cube brick e q s run h asks seen c w g p =
+alike-seen false true gone pending o es cube brick e s run settled seen c w g p =
+    Both (λ i. seen i && not (settled.stays brick e w i)) (λ i. seen i && (c i || w i)) (settled.done cube brick e w)
+alike-seen false false true pending o es cube brick e s run settled seen c w g p =
     let some = (opening-of o es run).some in
     Neither (λ i. seen i && not (aborted-rolled o es (brick % o.shards) e run (mod-lt brick (omega (arith, some))) g i))
     (λ i. seen i && (c i || w i))
-alike-seen false false false true o es a cube brick e q s run h asks seen c w g p =
-    let d = counters_of_run o es in
-    let held : held_by d.snapshots asks.number ≡ Some s = agree o es run a asks.session asks.number asks.under ∙ asks.held in
-    absurd (true≢false (sym seen ∙ (run-blind o es run).blind asks.number e s held p
-    (λ own at. true≢false (sym (λ i. own i && eq-eqb s.epoch e at i) ∙ w))))
-alike-seen false false false false o es a cube brick e q s run h asks seen c w g p =
+alike-seen false false false true o es cube brick e s run settled seen c w g p =
+    absurd (false≢true (sym w ∙ settled.blind e seen p))
+alike-seen false false false false o es cube brick e s run settled seen c w g p =
     Empty (none-told o es e (told_of o es cube brick) fateless (run-fates o es cube brick run)) (λ i. seen i && (c i || w i))
   where
     fateless : HasFate o es e → ⊥
@@ -281,22 +279,57 @@ alike-seen false false false false o es a cube brick e q s run h asks seen c w g
     fateless (inr (inl x)) = true≢false (sym x ∙ g)
     fateless (inr (inr x)) = true≢false (sym x ∙ p)
 
-alike : (seen : Bool) (o : Opening) (es : List CoreEvent) (a cube brick e : ℕ) (q : BoundQuery) (s : Snapshot)
-    → IsRun o es → HasAnswered o.shards q s (client_state o a es).group → AsksBy o a (client_state o a es).holds s → sees s e ≡ seen
+alike : (seen : Bool) (o : Opening) (es : List CoreEvent) (cube brick e : ℕ) (s : Snapshot)
+    → IsCoreRun o es → IsSettled o es s → sees s e ≡ seen
     → CountsAlike (epochs_without (sees s) (rolled_back (brick % o.shards) es)) (counts_for o es s) (told_of o es cube brick) (posted_of o es cube brick) e
-alike true o es a cube brick e q s run h asks seen =
-    alike-seen (is_committed o es e) (s.own && s.epoch == e) (is_aborted es e) (has_number (counters_of_run o es).pending e)
-    o es a cube brick e q s run h asks seen refl refl refl refl
-alike false o es a cube brick e q s run h asks seen =
-    Neither (λ i. seen i && not (rolled_back (brick % o.shards) es e)) (λ i. seen i && (is_committed o es e || (s.own && s.epoch == e)))
+alike true o es cube brick e s run settled seen =
+    alike-seen (has_committed o es e) (s.own && s.epoch == e) (has_aborted es e) (has_number (counters_of_run o es).pending e)
+    o es cube brick e s run settled seen refl refl refl refl
+alike false o es cube brick e s run settled seen =
+    Neither (λ i. seen i && not (rolled_back (brick % o.shards) es e)) (λ i. seen i && (has_committed o es e || (s.own && s.epoch == e)))
+
+pub settled-rows : (o : Opening) (es : List CoreEvent) (cube brick : ℕ) (s : Snapshot) → IsCoreRun o es → IsSettled o es s
+    → brick_rows_left (s.epoch + 1) (epochs_without (sees s) (rolled_back (brick % o.shards) es)) (told_of o es cube brick)
+    ≡ brick_rows_left (s.epoch + 1) (counts_for o es s) (posted_of o es cube brick)
+settled-rows o es cube brick s run settled =
+    left-same (epochs_without (sees s) (rolled_back (brick % o.shards) es)) (counts_for o es s) (told_of o es cube brick) (posted_of o es cube brick)
+    (s.epoch + 1) (λ e. alike (sees s e) o es cube brick e s run settled refl)
+
+-- A snapshot that its client asks by is settled, also its own one where no group is under way.
+pub held-settled : (o : Opening) (es : List CoreEvent) (a : ℕ) (s : Snapshot) → IsCoreRun o es → AsksBy o a (client_state o a es).holds s
+    → (s.own ≡ true → IsClean (client_state o a es).group × (is_empty (client_state o a es).group.waits ≡ true)) → IsSettled o es s
+held-settled o es a s run asks group = record {
+  blind = λ e seen pending.
+      let held : held_by (counters_of_run o es).snapshots asks.number ≡ Some s = agree o es run a asks.session asks.number asks.under ∙ asks.held in
+      by-own (s.own && s.epoch == e) (s.own && s.epoch == e) refl
+      (λ w. true≢false (sym seen ∙ (run-blind o es run).blind asks.number e s held pending
+      (λ own at. true≢false (sym (λ i. own i && eq-eqb s.epoch e at i) ∙ w))));
+  stays = λ brick e w.
+      let owns = own-writer e w in
+      let own = (and-parts s.own (s.epoch == e) w).0 in
+      false_from_ne_true (rolled_back (brick % o.shards) es e) (λ rolled.
+      false≢true (sym (group own).0.goes_on ∙ ap is_rolling ((run-rolled o es (brick % o.shards) run).rolls a e rolled asks.session owns)));
+  done = λ cube brick e w.
+      let own = (and-parts s.own (s.epoch == e) w).0 in
+      group-posted o es a e cube brick run asks.session (own-writer e w) (group own).0 (group own).1;
+} where
+  by-own : (b c : Bool) → c ≡ b → (c ≡ false → ⊥) → c ≡ true
+  by-own true c is f = is
+  by-own false c is f = absurd (f is)
+
+  own-writer : (e : ℕ) → (s.own && s.epoch == e) ≡ true → OwnsWriter a e (client_state o a es)
+  own-writer e w =
+      let parts = and-parts s.own (s.epoch == e) w in
+      let at = eqb-true s.epoch e parts.1 in
+      coe 0 1 (i. OwnsWriter a (at i) (client_state o a es)) (asks-writer o es a s asks parts.0)
 
 pub answered-counts : (o : Opening) (es : List CoreEvent) (a brick : ℕ) (q : BoundQuery) (s : Snapshot) (c : CodedRow → Bool)
-    → IsRun o es → HasAnswered o.shards q s (client_state o a es).group
+    → IsCoreRun o es → HasAnswered o.shards q s (client_state o a es).group
     → count_by c (rows_of_brick o q.cube brick (rows_fetched (client_state o a es).group.answers))
     ≡ count_by c (rows_in_span q.span (brick_rows_left (s.epoch + 1) (counts_for o es s) (posted_of o es q.cube brick)))
 answered-counts o es a brick q s c run h =
-    let asks = run-held o es a run q s h.asks in
+    let group = (client_state o a es).group in
     answered-serial o es a brick q s c run h
     ∙ ap (λ (rows : List CodedRow). count_by c (rows_in_span q.span rows))
-    (left-same (epochs_without (sees s) (rolled_back (brick % o.shards) es)) (counts_for o es s) (told_of o es q.cube brick) (posted_of o es q.cube brick)
-    (s.epoch + 1) (λ e. alike (sees s e) o es a q.cube brick e q s run h asks refl))
+    (settled-rows o es q.cube brick s run
+    (held-settled o es a s run (run-held o es a run q s h.asks) (λ own. (asking-clean group q s h.asks, h.done.fetched))))

@@ -14,9 +14,9 @@ use Rattle.core_events.specs.Events.{Opening, flusher, DeskCall, Commit, AbortEn
 use Rattle.core_events.specs.Groups.{RollsBack, kind_of, no_group, has_number, has_ended, mails_of}
 use Rattle.core_events.specs.Clients.{ClientState, client_state, client_after_call, held_under, ends_group}
 use Rattle.core_events.specs.Cells.{counters_of_run, view_of, rows_of_brick, box_has_brick, WorkerState, Free, Took, Worked, worker_of, reply_for}
-use Rattle.core_events.specs.Fitting.{Fits, OwnsWriter, FitsWork, FitsReply, RoundProgress, round_progress}
-use Rattle.core_events.specs.Runs.{IsRun, CallSays, MoveSays, ShardSays}
-use Rattle.core_events.specs.Serial.{commits, is_committed, aborts, is_aborted}
+use Rattle.core_events.specs.Fitting.{FitsCall, OwnsWriter, FitsWork, FitsReply, RoundProgress, round_progress}
+use Rattle.core_events.specs.Runs.{IsCoreRun, CallSays, MoveSays, ShardSays}
+use Rattle.core_events.specs.Serial.{commits, has_committed, aborts, has_aborted}
 use Rattle.core_mails.specs.Histories.{DoneJob, job_done}
 use Rattle.core_runs.specs.Told.{told_of, told_after_job, told_after_move, rolled_back, rolled_after_move, rolled_after_job}
 use Rattle.core_desk.proofs.Finished.{run-finished, has-more, has-without, or-is, done_after, gone_after, done_with, gone_with, done-same, gone-same}
@@ -41,7 +41,7 @@ place-stays o a (Asked job) k l lse more same le f = job-stays o a job k l lse m
 place-stays o a (Answered job answer) k l lse more same le f = job-stays o a job k l lse more (same refl) le f
 
 post-bears : (here own : Bool) (o : Opening) (a other : ℕ) (job : CoreJob) (p : JobPlace) (k : ClientState) (lse more : ℕ)
-    → (own ≡ true → Fits o a (Post other job) k) → k.lse ≤ lse → lse ≤ more → PlaceBears o a k lse p
+    → (own ≡ true → FitsCall o a (Post other job) k) → k.lse ≤ lse → lse ≤ more → PlaceBears o a k lse p
     → PlaceBears o a (client_after_call o own a (Post other job) k) more (place_after_post here own job p)
 post-bears true true o a other job p k lse more f shown le b =
     job-stays o a job k (client_after_call o true a (Post other job) k) lse more refl le (job-fits o a other job k lse (f refl) shown)
@@ -60,7 +60,7 @@ fetch-bears false true o a other answer p k lse more le b =
 fetch-bears false false o a other answer p k lse more le b = place-stays o a p k k lse more (λ out. refl) le b
 
 call-bears : (o : Opening) (own : Bool) (a mail : ℕ) (call : ClientCall) (p : JobPlace) (k : ClientState) (lse more : ℕ)
-    → (own ≡ true → Fits o a call k) → has_number k.group.waits mail ≡ is_out p → k.lse ≤ lse → lse ≤ more → PlaceBears o a k lse p
+    → (own ≡ true → FitsCall o a call k) → has_number k.group.waits mail ≡ is_out p → k.lse ≤ lse → lse ≤ more → PlaceBears o a k lse p
     → PlaceBears o a (client_after_call o own a call k) more (place_after_call mail own call p)
 call-bears o own a mail (Post other job) p k lse more f tied shown le b =
     post-bears (other == mail) own o a other job p k lse more f shown le b
@@ -97,7 +97,7 @@ move-bears : (here : Bool) (o : Opening) (a : ℕ) (worker : WorkerState) (move 
 move-bears true o a worker move k lse p asked b = done-bears (job_done worker move) o a k lse p (asked refl) b
 move-bears false o a worker move k lse p asked b = b
 
-pub run-bears : (o : Opening) (es : List CoreEvent) (mail a : ℕ) → IsRun o es
+pub run-bears : (o : Opening) (es : List CoreEvent) (mail a : ℕ) → IsCoreRun o es
     → PlaceBears o a (client_state o a es) (counters_of_run o es).lse (place mail a es)
 run-bears o [] mail a run = tt
 run-bears o (By b call ∷ es) mail a run =
@@ -243,7 +243,7 @@ call-rolled own mail (OnNames call) rolled p r = r
 call-rolled own mail (CloseMail other) rolled p r = r
 call-rolled own mail NoChange rolled p r = r
 
-pub run-place-rolled : (o : Opening) (es : List CoreEvent) (mail a : ℕ) → IsRun o es → PlaceRolled (rolled_back mail es) (place mail a es)
+pub run-place-rolled : (o : Opening) (es : List CoreEvent) (mail a : ℕ) → IsCoreRun o es → PlaceRolled (rolled_back mail es) (place mail a es)
 run-place-rolled o [] mail a run = tt
 run-place-rolled o (By b call ∷ es) mail a run =
     call-rolled (b == a) mail call (rolled_back mail es) (place mail a es) (run-place-rolled o es mail a run.0)
@@ -309,7 +309,7 @@ fetch-rolls-done : (here : Bool) (o : Opening) (es : List CoreEvent) (a mail oth
 fetch-rolls-done true o es a mail other k s is new before kind owns has = new refl kind owns
 fetch-rolls-done false o es a mail other k s is new before kind owns has = before k kind owns has
 
-fetched-rolled : (o : Opening) (es : List CoreEvent) (a mail other : ℕ) (answer : JobAnswer) (k : ℕ) → IsRun o es
+fetched-rolled : (o : Opening) (es : List CoreEvent) (a mail other : ℕ) (answer : JobAnswer) (k : ℕ) → IsCoreRun o es
     → reply_for other a es ≡ Some answer → other ≡ mail → (client_state o a es).group.kind ≡ RollsBack
     → OwnsWriter a k (client_state o a es) → rolled_back mail es k ≡ true
 fetched-rolled o es a mail other answer k run held same kind owns =
@@ -321,7 +321,7 @@ fetched-rolled o es a mail other answer k run held same kind owns =
     ap (λ (m : ℕ). rolled_back m es k) (sym same)
     ∙ answered-rolled o a other k there.0 (client_state o a es) (counters_of_run o es).lse (rolled_back other es) (suits.kind ∙ kind) bears rolled owns
 
-call-rolls-done : (o : Opening) (es : List CoreEvent) (own : Bool) (a mail : ℕ) (call : ClientCall) → IsRun o es
+call-rolls-done : (o : Opening) (es : List CoreEvent) (own : Bool) (a mail : ℕ) (call : ClientCall) → IsCoreRun o es
     → (own ≡ true → CallSays o es a call) → RollsDone o es a mail (client_state o a es)
     → RollsDone o (By a call ∷ es) a mail (client_after_call o own a call (client_state o a es))
 call-rolls-done o es true a mail (Post other job) run says before k kind owns has =
@@ -336,7 +336,7 @@ call-rolls-done o es true a mail (CloseMail other) run says before k kind owns h
 call-rolls-done o es true a mail NoChange run says before k kind owns has = before k kind owns has
 call-rolls-done o es false a mail call run says before k kind owns has = before k kind owns has
 
-pub run-rolls-done : (o : Opening) (es : List CoreEvent) (a mail k : ℕ) → IsRun o es → (client_state o a es).group.kind ≡ RollsBack
+pub run-rolls-done : (o : Opening) (es : List CoreEvent) (a mail k : ℕ) → IsCoreRun o es → (client_state o a es).group.kind ≡ RollsBack
     → OwnsWriter a k (client_state o a es) → has_number (mails_of (client_state o a es).group.answers) mail ≡ true
     → rolled_back mail es k ≡ true
 run-rolls-done o [] a mail k run kind owns has = absurd (false≢true has)
@@ -368,13 +368,13 @@ commit-of (OnDesk (Commit statement epoch)) e h =
     record { statement = statement; is = ap (λ (n : ℕ). OnDesk (Commit statement n)) (eqb-true epoch e h) }
 commit-of call e h = absurd (false≢true h)
 
-pub aborted-rolled : (o : Opening) (es : List CoreEvent) (shard e : ℕ) → IsRun o es → shard < o.shards → is_aborted es e ≡ true
+pub aborted-rolled : (o : Opening) (es : List CoreEvent) (shard e : ℕ) → IsCoreRun o es → shard < o.shards → has_aborted es e ≡ true
     → rolled_back shard es e ≡ true
 aborted-rolled o [] shard e run l is = absurd (false≢true is)
-aborted-rolled o (By b call ∷ es) shard e run l is = elim (or-is (aborts call e) (is_aborted es e) is) [
+aborted-rolled o (By b call ∷ es) shard e run l is = elim (or-is (aborts call e) (has_aborted es e) is) [
   | inl new ↦
       (let x = abort-of call e new in
-      let f = coe 0 1 (i. Fits o b (x.is i) (client_state o b es)) run.1.fits in
+      let f = coe 0 1 (i. FitsCall o b (x.is i) (client_state o b es)) run.1.fits in
       run-rolls-done o es b shard e run.0 f.rolls f.writer
       (all-below o.shards shard (mails_of (client_state o b es).group.answers) f.done.all l))
   | inr old ↦ aborted-rolled o es shard e run.0 l old
@@ -382,13 +382,13 @@ aborted-rolled o (By b call ∷ es) shard e run l is = elim (or-is (aborts call 
 aborted-rolled o (At mail move ∷ es) shard e run l is =
     rolled-stays (mail == shard) move (rolled_back shard es) e (aborted-rolled o es shard e run.0 l is)
 
-pub committed-unrolled : (o : Opening) (es : List CoreEvent) (shard e : ℕ) → IsRun o es → is_committed o es e ≡ true
+pub committed-unrolled : (o : Opening) (es : List CoreEvent) (shard e : ℕ) → IsCoreRun o es → has_committed o es e ≡ true
     → rolled_back shard es e ≡ false
 committed-unrolled o [] shard e run is = refl
-committed-unrolled o (By b call ∷ es) shard e run is = elim (or-is (commits call e) (is_committed o es e) is) [
+committed-unrolled o (By b call ∷ es) shard e run is = elim (or-is (commits call e) (has_committed o es e) is) [
   | inl new ↦
       (let x = commit-of call e new in
-      let f = coe 0 1 (i. Fits o b (x.is i) (client_state o b es)) run.1.fits in
+      let f = coe 0 1 (i. FitsCall o b (x.is i) (client_state o b es)) run.1.fits in
       false_from_ne_true (rolled_back shard es e) (λ rolled.
       rolling-unready o.shards (client_state o b es).group ((run-rolled o es shard run.0).rolls b e rolled f.session f.writer) f.ready))
   | inr old ↦ committed-unrolled o es shard e run.0 old
@@ -403,7 +403,7 @@ committed-unrolled o (At mail move ∷ es) shard e run is =
 -- What became of an epoch: it is committed, aborted or pending.
 
 abbrev pub HasFate : Opening → List CoreEvent → ℕ → Type 0
-HasFate o es e = (is_committed o es e ≡ true) ⊎ ((is_aborted es e ≡ true) ⊎ (has_number (counters_of_run o es).pending e ≡ true))
+HasFate o es e = (has_committed o es e ≡ true) ⊎ ((has_aborted es e ≡ true) ⊎ (has_number (counters_of_run o es).pending e ≡ true))
 
 pub or-left : (a b : Bool) → a ≡ true → (a || b) ≡ true
 or-left true b e = refl
@@ -441,13 +441,13 @@ pending-call o b call es None e is has = inl has
 pending-call o b call es (Some x) e is has = pending-step (counters_of_run o es) x e has
 
 fate-call : (o : Opening) (b : ℕ) (call : ClientCall) (es : List CoreEvent) (e : ℕ) → HasFate o es e → HasFate o (By b call ∷ es) e
-fate-call o b call es e (inl done) = inl (or-right (commits call e) (is_committed o es e) done)
-fate-call o b call es e (inr (inl gone)) = inr (inl (or-right (aborts call e) (is_aborted es e) gone))
+fate-call o b call es e (inl done) = inl (or-right (commits call e) (has_committed o es e) done)
+fate-call o b call es e (inr (inl gone)) = inr (inl (or-right (aborts call e) (has_aborted es e) gone))
 fate-call o b call es e (inr (inr pending)) = elim (pending-call o b call es (client_entry b call) e refl pending) [
   | inl stays ↦ inr (inr (ap (λ (s : JournalState). has_number s.pending e) (run-step o b call es) ∙ stays))
-  | inr (inl done) ↦ inl (or-left (commits call e) (is_committed o es e)
+  | inr (inl done) ↦ inl (or-left (commits call e) (has_committed o es e)
       (sym (or-none (commits call e)) ∙ sym (done-same b call (λ n. false) e) ∙ done))
-  | inr (inr gone) ↦ inr (inl (or-left (aborts call e) (is_aborted es e)
+  | inr (inr gone) ↦ inr (inl (or-left (aborts call e) (has_aborted es e)
       (sym (or-none (aborts call e)) ∙ sym (gone-same b call (λ n. false) e) ∙ gone)))
 ]
 
@@ -476,7 +476,7 @@ mark-where : (here : Bool) (o : Opening) (es : List CoreEvent) (e : ℕ) (xs : L
 mark-where true o es e xs fate f = (fate, f)
 mark-where false o es e xs fate f = f
 
-job-fates : (o : Opening) (es : List CoreEvent) (a cube brick : ℕ) (job : CoreJob) (xs : List BrickEntry) → IsRun o es
+job-fates : (o : Opening) (es : List CoreEvent) (a cube brick : ℕ) (job : CoreJob) (xs : List BrickEntry) → IsCoreRun o es
     → JobFits o a job (client_state o a es) (counters_of_run o es).lse → HaveFates o es xs → HaveFates o es (told_after_job o cube brick job xs)
 job-fates o es a cube brick (Append other epoch rows) xs run f fates =
     run-where (other == cube) o es epoch (rows_of_brick o cube brick rows) xs (inr (inr (writer-of o es a epoch run f.0 f.1).pending)) fates
@@ -504,13 +504,13 @@ told-fates true o es cube brick (NoJob closed) xs new f = f
 told-fates true o es cube brick (Reply client answer) xs new f = f
 told-fates false o es cube brick move xs new f = f
 
-pub run-fates : (o : Opening) (es : List CoreEvent) (cube brick : ℕ) → IsRun o es → HaveFates o es (told_of o es cube brick)
+pub run-fates : (o : Opening) (es : List CoreEvent) (cube brick : ℕ) → IsCoreRun o es → HaveFates o es (told_of o es cube brick)
 run-fates o [] cube brick run = (inl (le-leb o.safe o.safe (omega arith)), tt)
 run-fates o (By b call ∷ es) cube brick run = fates-call o b call es (told_of o es cube brick) (run-fates o es cube brick run.0)
 run-fates o (At mail move ∷ es) cube brick run =
     fates-move o mail move es (told_after_move o (mail == brick % o.shards) cube brick move (told_of o es cube brick))
     (told-fates (mail == brick % o.shards) o es cube brick move (told_of o es cube brick)
     (λ job is.
-    let made = made-asked o es mail job Done (coe 0 1 (i. IsRun o (At mail (is i) ∷ es)) run) in
+    let made = made-asked o es mail job Done (coe 0 1 (i. IsCoreRun o (At mail (is i) ∷ es)) run) in
     job-fates o es made.0 cube brick job (told_of o es cube brick) run.0 (asked-fits o es mail made.0 job run.0 made.1) (run-fates o es cube brick run.0))
     (run-fates o es cube brick run.0))

@@ -9,12 +9,12 @@ use Rattle.core_events.specs.Jobs.{CoreJob, Append, DropBox, Scan, Delta, Rollba
 use Rattle.core_events.specs.Events.{Opening, OpenWrite, OpenRead, Commit, AbortEnd, CloseRead, TakeNote, CreateCube, FindCube, CubesFrom, CountersNow, RoundOpen, RoundClose, StoreFailed, ClientCall, OnDesk, OnNames, Post, Fetch, CloseMail, NoChange, CoreEvent, By, At}
 use Rattle.core_events.specs.Clients.{Holding, ClientState, client_state, client_after_call, held_under, holds_after, writer_at}
 use Rattle.core_events.specs.Cells.{counters_of_run}
-use Rattle.core_events.specs.Fitting.{Fits, OwnsWriter}
-use Rattle.core_events.specs.Runs.{IsRun}
+use Rattle.core_events.specs.Fitting.{FitsCall, OwnsWriter}
+use Rattle.core_events.specs.Runs.{IsCoreRun}
 use Rattle.core_desk.proofs.Finished.{or-is}
 use Rattle.core_desk.proofs.DeskSteps.{client_entry, state_with_entry, run-step}
 use Rattle.core_mails.proofs.Places.{place}
-use Rattle.core_events.specs.Clients.{calls_of, reader_at}
+use Rattle.core_events.specs.Clients.{calls_of, reader_up_to}
 use Rattle.core_bricks.specs.BrickTransactions.{entries_of_epoch}
 use Rattle.core_desk.proofs.Lookups.{with_one, without_one, held-under-append, held-under-without}
 use Rattle.core_transactions.specs.PostedEntries.{entries_of_job, posted_after_post, posted_after, posted_of, posted_by_calls, opens_writer, has_opened}
@@ -47,8 +47,8 @@ owns-or-opens a e (OnDesk (OpenWrite statement epoch deps)) holds owns =
       | inr new ↦ inr (eq-eqb epoch e new.1)
     ]
 owns-or-opens a e (OnDesk (OpenRead number statement epoch)) holds owns =
-    elim (opens-cases (number == a) (held_under a holds) (reader_at epoch) e
-    (coe 0 1 (i. IsWriterAt e (held-under-append holds (record { number = number; snapshot = reader_at epoch }) a i)) owns)) [
+    elim (opens-cases (number == a) (held_under a holds) (reader_up_to epoch) e
+    (coe 0 1 (i. IsWriterAt e (held-under-append holds (record { number = number; snapshot = reader_up_to epoch }) a i)) owns)) [
       | inl old ↦ inl old
       | inr new ↦ absurd (false≢true new.0)
     ]
@@ -102,7 +102,7 @@ opened-cases true e call calls is = elim (or-is (opens_writer e call) (has_opene
 opened-cases false e call calls is = inr is
 
 -- The epoch that a call opens is the next one.
-opens-next : (o : Opening) (b e : ℕ) (call : ClientCall) (es : List CoreEvent) → IsRun o (By b call ∷ es) → opens_writer e call ≡ true
+pub opens-next : (o : Opening) (b e : ℕ) (call : ClientCall) (es : List CoreEvent) → IsCoreRun o (By b call ∷ es) → opens_writer e call ≡ true
     → (e ≡ (counters_of_run o es).ec) × (e < (counters_of_run o (By b call ∷ es)).ec)
 opens-next o b e (OnDesk (OpenWrite statement epoch deps)) es run is =
     let same = eqb-true epoch e is in
@@ -119,7 +119,7 @@ ec-rises : (s : JournalState) (x : Option JournalEntry) → s.ec ≤ (state_with
 ec-rises s None = omega arith
 ec-rises s (Some x) = ec-entry (takes_epoch x) s.ec
 
-opened-below : (o : Opening) (es : List CoreEvent) (a e : ℕ) → IsRun o es → OpenedBy a e es → e < (counters_of_run o es).ec
+opened-below : (o : Opening) (es : List CoreEvent) (a e : ℕ) → IsCoreRun o es → OpenedBy a e es → e < (counters_of_run o es).ec
 opened-below o [] a e run is = absurd (false≢true is)
 opened-below o (By b call ∷ es) a e run is = elim (opened-cases (b == a) e call (calls_of a es) is) [
   | inl new ↦ (opens-next o b e call es run new.1).1
@@ -131,7 +131,7 @@ opened-below o (By b call ∷ es) a e run is = elim (opened-cases (b == a) e cal
 ]
 opened-below o (At mail move ∷ es) a e run is = opened-below o es a e run.0 is
 
-one-opener : (o : Opening) (es : List CoreEvent) (a b e : ℕ) → IsRun o es → OpenedBy a e es → OpenedBy b e es → a ≡ b
+one-opener : (o : Opening) (es : List CoreEvent) (a b e : ℕ) → IsCoreRun o es → OpenedBy a e es → OpenedBy b e es → a ≡ b
 one-opener o [] a b e run x y = absurd (false≢true x)
 one-opener o (By c call ∷ es) a b e run x y = elim (opened-cases (c == a) e call (calls_of a es) x) [
   | inl newa ↦ elim (opened-cases (c == b) e call (calls_of b es) y) [
@@ -147,8 +147,8 @@ one-opener o (At mail move ∷ es) a b e run x y = one-opener o es a b e run.0 x
 
 -- What a client's own calls posted has a fate.
 
-call-fates : (o : Opening) (es : List CoreEvent) (b cube brick : ℕ) (call : ClientCall) (xs : List BrickEntry) → IsRun o es
-    → Fits o b call (client_state o b es) → HaveFates o es xs → HaveFates o es (posted_after o cube brick call xs)
+call-fates : (o : Opening) (es : List CoreEvent) (b cube brick : ℕ) (call : ClientCall) (xs : List BrickEntry) → IsCoreRun o es
+    → FitsCall o b call (client_state o b es) → HaveFates o es xs → HaveFates o es (posted_after o cube brick call xs)
 call-fates o es b cube brick (Post other job) xs run f fates =
     post-fates (other == brick % o.shards) o es (entries_of_job o cube brick job) xs (job-entry-fates o es b other cube brick job run f) fates
 call-fates o es b cube brick (OnDesk call) xs run f fates = fates
@@ -158,13 +158,13 @@ call-fates o es b cube brick (CloseMail mail) xs run f fates = fates
 call-fates o es b cube brick NoChange xs run f fates = fates
 
 own-call-fates : (own : Bool) (o : Opening) (es : List CoreEvent) (a b cube brick : ℕ) (call : ClientCall) (calls : List ClientCall)
-    → IsRun o es → Fits o b call (client_state o b es) → HaveFates o es (posted_by_calls o calls cube brick)
+    → IsCoreRun o es → FitsCall o b call (client_state o b es) → HaveFates o es (posted_by_calls o calls cube brick)
     → HaveFates o es (posted_by_calls o (if own then call ∷ calls else calls) cube brick)
 own-call-fates true o es a b cube brick call calls run f fates =
     call-fates o es b cube brick call (posted_by_calls o calls cube brick) run f fates
 own-call-fates false o es a b cube brick call calls run f fates = fates
 
-own-fates : (o : Opening) (es : List CoreEvent) (a cube brick : ℕ) → IsRun o es → HaveFates o es (posted_by_calls o (calls_of a es) cube brick)
+own-fates : (o : Opening) (es : List CoreEvent) (a cube brick : ℕ) → IsCoreRun o es → HaveFates o es (posted_by_calls o (calls_of a es) cube brick)
 own-fates o [] a cube brick run = tt
 own-fates o (By b call ∷ es) a cube brick run =
     fates-call o b call es (posted_by_calls o (calls_of a (By b call ∷ es)) cube brick)
@@ -188,7 +188,7 @@ call-alike o cube brick e (CloseMail mail) xs ys same = same
 call-alike o cube brick e NoChange xs ys same = same
 
 -- A post of a client that did not open the epoch.
-post-other : (o : Opening) (es : List CoreEvent) (a b e other : ℕ) (job : CoreJob) → IsRun o es → Fits o b (Post other job) (client_state o b es)
+pub post-other : (o : Opening) (es : List CoreEvent) (a b e other : ℕ) (job : CoreJob) → IsCoreRun o es → FitsCall o b (Post other job) (client_state o b es)
     → OpenedBy a e es → (b ≡ a → ⊥) → IsOtherEpoch e job
 post-other o es a b e other (Append c epoch rows) run f opened apart = λ same.
     apart (one-opener o es b a e run (owner-opened o es b e (coe 0 1 (i. OwnsWriter b (same i) (client_state o b es)) f.bears.writer)) opened)
@@ -201,7 +201,7 @@ post-other o es a b e other (Purge epoch) run f opened apart = tt
 post-other o es a b e other (CopyRound from to) run f opened apart = tt
 post-other o es a b e other Flush run f opened apart = tt
 
-call-other : (o : Opening) (es : List CoreEvent) (a b e cube brick : ℕ) (call : ClientCall) → IsRun o es → Fits o b call (client_state o b es)
+call-other : (o : Opening) (es : List CoreEvent) (a b e cube brick : ℕ) (call : ClientCall) → IsCoreRun o es → FitsCall o b call (client_state o b es)
     → OpenedBy a e es → (b ≡ a → ⊥)
     → entries_of_epoch e (posted_after o cube brick call (posted_of o es cube brick)) ≡ entries_of_epoch e (posted_of o es cube brick)
 call-other o es a b e cube brick (Post other job) run f opened apart =
@@ -222,7 +222,7 @@ opener-posts-nothing o cube brick e (CloseMail mail) xs is = refl
 opener-posts-nothing o cube brick e NoChange xs is = refl
 
 step-own : (own : Bool) (o : Opening) (es : List CoreEvent) (a b e cube brick : ℕ) (call : ClientCall) → (b == a) ≡ own
-    → IsRun o (By b call ∷ es)
+    → IsCoreRun o (By b call ∷ es)
     → (OpenedBy a e es → entries_of_epoch e (posted_of o es cube brick) ≡ entries_of_epoch e (posted_by_calls o (calls_of a es) cube brick))
     → has_opened e (if own then call ∷ calls_of a es else calls_of a es) ≡ true
     → entries_of_epoch e (posted_after o cube brick call (posted_of o es cube brick))
@@ -240,13 +240,13 @@ step-own true o es a b e cube brick call is run before opened = elim (or-is (ope
 step-own false o es a b e cube brick call is run before opened =
     call-other o es a b e cube brick call run.0 run.1.fits opened (eqb-false b a is) ∙ before opened
 
-pub own-posts : (o : Opening) (es : List CoreEvent) (a e cube brick : ℕ) → IsRun o es → has_opened e (calls_of a es) ≡ true
+pub own-posts : (o : Opening) (es : List CoreEvent) (a e cube brick : ℕ) → IsCoreRun o es → has_opened e (calls_of a es) ≡ true
     → entries_of_epoch e (posted_of o es cube brick) ≡ entries_of_epoch e (posted_by_calls o (calls_of a es) cube brick)
 own-posts o [] a e cube brick run opened = absurd (false≢true opened)
 own-posts o (By b call ∷ es) a e cube brick run opened =
     step-own (b == a) o es a b e cube brick call refl run (own-posts o es a e cube brick run.0) opened
 own-posts o (At mail move ∷ es) a e cube brick run opened = own-posts o es a e cube brick run.0 opened
 
-pub one-opens : (o : Opening) (es : List CoreEvent) (a b e : ℕ) → IsRun o es → has_opened e (calls_of a es) ≡ true
+pub one-opens : (o : Opening) (es : List CoreEvent) (a b e : ℕ) → IsCoreRun o es → has_opened e (calls_of a es) ≡ true
     → has_opened e (calls_of b es) ≡ true → a ≡ b
 one-opens = one-opener

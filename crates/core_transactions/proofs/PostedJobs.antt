@@ -9,7 +9,7 @@ use Rattle.core_events.specs.Groups.{GroupKind, Puts, Drops, RollsBack, kind_of,
 use Rattle.core_events.specs.Clients.{client_state}
 use Rattle.core_events.specs.Cells.{counters_of_run, rows_of_brick, box_has_brick}
 use Rattle.core_events.specs.Fitting.{OwnsWriter, BeginsGroup, JoinsGroup}
-use Rattle.core_events.specs.Runs.{IsRun}
+use Rattle.core_events.specs.Runs.{IsCoreRun}
 use Rattle.core_runs.specs.Told.{told_after_job}
 use Rattle.core_desk.proofs.Finished.{run-finished}
 use Rattle.core_mails.proofs.Places.{JobPlace, Nowhere, Asked, Answered}
@@ -85,7 +85,7 @@ none-of-job o cube brick e (Purge epoch) out = refl
 none-of-job o cube brick e (CopyRound from to) out = refl
 none-of-job o cube brick e Flush out = refl
 
-pub other-epoch : (o : Opening) (es : List CoreEvent) (a c e lse : ℕ) (job : CoreJob) → IsRun o es → HasWriter o es a e → (c ≡ a → ⊥)
+pub other-epoch : (o : Opening) (es : List CoreEvent) (a c e lse : ℕ) (job : CoreJob) → IsCoreRun o es → HasWriter o es a e → (c ≡ a → ⊥)
     → JobFits o c job (client_state o c es) lse → IsOtherEpoch e job
 other-epoch o es a c e lse (Append cube epoch rows) run w apart f =
     λ same. apart (one-writer o es c a e run (writer-of o es c e run f.0 (coe 0 1 (i. OwnsWriter c (same i) (client_state o c es)) f.1)) w)
@@ -194,13 +194,13 @@ fates-append o es (RowRun e rows ∷ xs) ys f g = (f.0, fates-append o es xs ys 
 fates-append o es (RowMark e ∷ xs) ys f g = (f.0, fates-append o es xs ys f.1 g)
 
 -- An epoch with a fate is below EC.
-pub fate-below : (o : Opening) (es : List CoreEvent) (e : ℕ) → IsRun o es → HasFate o es e → e < (counters_of_run o es).ec
+pub fate-below : (o : Opening) (es : List CoreEvent) (e : ℕ) → IsCoreRun o es → HasFate o es e → e < (counters_of_run o es).ec
 fate-below o es e run (inl done) = (run-finished o es run).done_below e done
 fate-below o es e run (inr (inl gone)) = (run-finished o es run).gone_below e gone
 fate-below o es e run (inr (inr pending)) = (run-finished o es run).below e pending
 
 -- No entry is of an epoch from EC on.
-pub none-fresh : (o : Opening) (es : List CoreEvent) (e : ℕ) (xs : List BrickEntry) → IsRun o es → (counters_of_run o es).ec ≤ e → HaveFates o es xs
+pub none-fresh : (o : Opening) (es : List CoreEvent) (e : ℕ) (xs : List BrickEntry) → IsCoreRun o es → (counters_of_run o es).ec ≤ e → HaveFates o es xs
     → entries_of_epoch e xs ≡ []
 none-fresh o es e [] run le f = refl
 none-fresh o es e (RowRun j rows ∷ xs) run le f =

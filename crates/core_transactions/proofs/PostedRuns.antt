@@ -8,8 +8,8 @@ use Rattle.core_events.specs.Events.{Opening, IsSession, flusher, DeskCall, Open
 use Rattle.core_events.specs.Groups.{no_group, has_ended, has_refusal}
 use Rattle.core_events.specs.Clients.{ClientState, client_state, client_after_call, held_under, ends_group}
 use Rattle.core_events.specs.Cells.{counters_of_run, view_of, rows_of_brick, box_has_brick, WorkerState, Free, Took, Worked, worker_of, queue_of, reply_for}
-use Rattle.core_events.specs.Fitting.{Fits, OwnsWriter, FitsWork, FitsReply, RoundProgress, round_progress}
-use Rattle.core_events.specs.Runs.{IsRun, MoveSays, ShardSays}
+use Rattle.core_events.specs.Fitting.{FitsCall, OwnsWriter, FitsWork, FitsReply, RoundProgress, round_progress}
+use Rattle.core_events.specs.Runs.{IsCoreRun, MoveSays, ShardSays}
 use Rattle.core_mails.specs.Histories.{DoneJob, job_done}
 use Rattle.core_runs.specs.Told.{told_of, told_after_move}
 use Rattle.core_mails.proofs.Places.{JobPlace, Nowhere, Asked, Answered, is_out, place, place_after_post, place_after_fetch, place_after_call, place_where, place_after_move, IsBusy}
@@ -31,8 +31,8 @@ one-fate : (here : Bool) (o : Opening) (es : List CoreEvent) (x : BrickEntry) �
 one-fate true o es x f = f
 one-fate false o es x f = tt
 
-pub job-entry-fates : (o : Opening) (es : List CoreEvent) (b other cube brick : ℕ) (job : CoreJob) → IsRun o es
-    → Fits o b (Post other job) (client_state o b es) → HaveFates o es (entries_of_job o cube brick job)
+pub job-entry-fates : (o : Opening) (es : List CoreEvent) (b other cube brick : ℕ) (job : CoreJob) → IsCoreRun o es
+    → FitsCall o b (Post other job) (client_state o b es) → HaveFates o es (entries_of_job o cube brick job)
 job-entry-fates o es b other cube brick (Append c epoch rows) run f =
     one-fate (c == cube) o es (RowRun epoch (rows_of_brick o cube brick rows))
     (inr (inr (writer-of o es b epoch run f.bears.session f.bears.writer).pending), tt)
@@ -51,7 +51,7 @@ pub post-fates : (here : Bool) (o : Opening) (es : List CoreEvent) (xs ys : List
 post-fates true o es xs ys f g = fates-append o es xs ys f g
 post-fates false o es xs ys f g = g
 
-pub run-posted-fates : (o : Opening) (es : List CoreEvent) (cube brick : ℕ) → IsRun o es → HaveFates o es (posted_of o es cube brick)
+pub run-posted-fates : (o : Opening) (es : List CoreEvent) (cube brick : ℕ) → IsCoreRun o es → HaveFates o es (posted_of o es cube brick)
 run-posted-fates o [] cube brick run = (inl (le-leb o.safe o.safe (omega arith)), tt)
 run-posted-fates o (By b (Post other job) ∷ es) cube brick run =
     fates-call o b (Post other job) es (posted_of o (By b (Post other job) ∷ es) cube brick)
@@ -105,7 +105,7 @@ own-fetch true o cube brick e posted told p new f = new refl
 own-fetch false o cube brick e posted told p new f = f
 
 -- A call that ends a group, and leaves the writer.
-ends-clean : (o : Opening) (a e : ℕ) (call : DeskCall) (k : ClientState) → IsSession o a → Fits o a (OnDesk call) k
+ends-clean : (o : Opening) (a e : ℕ) (call : DeskCall) (k : ClientState) → IsSession o a → FitsCall o a (OnDesk call) k
     → ends_group (OnDesk call) ≡ true → OwnsWriter a e (client_after_call o true a (OnDesk call) k) → IsClean k.group
 ends-clean o a e (OpenWrite statement epoch deps) k session f ends owns = ready-clean o.shards k.group f.ready
 ends-clean o a e (OpenRead number statement epoch) k session f ends owns = ready-clean o.shards k.group f.ready
@@ -123,10 +123,10 @@ ends-clean o a e (RoundClose epoch end) k session f ends owns =
     absurd (let last = session.last in let is = f.flusher in omega (arith, last, is))
 ends-clean o a e (StoreFailed failed) k session f ends owns = absurd (false≢true ends)
 
-low-or-high : (e ec : ℕ) → (e < ec) ⊎ (ec ≤ e)
+pub low-or-high : (e ec : ℕ) → (e < ec) ⊎ (ec ≤ e)
 low-or-high e ec = elim (leb_tells ec e) [ inl high ↦ inr high.1 | inr low ↦ inl low.1 ]
 
-desk-posted : (ends : Bool) (o : Opening) (es : List CoreEvent) (a e cube brick : ℕ) (call : DeskCall) → IsRun o (By a (OnDesk call) ∷ es)
+desk-posted : (ends : Bool) (o : Opening) (es : List CoreEvent) (a e cube brick : ℕ) (call : DeskCall) → IsCoreRun o (By a (OnDesk call) ∷ es)
     → ends_group (OnDesk call) ≡ ends → IsSession o a
     → OwnsWriter a e (client_after_call o true a (OnDesk call) (client_state o a es)) → PostedFits o es a e cube brick
     → IsClean (if ends then no_group else (client_state o a es).group)
@@ -156,7 +156,7 @@ desk-posted false o es a e cube brick call run is session owns before clean =
     clean
 
 -- By the client itself.
-own-posted : (o : Opening) (es : List CoreEvent) (a e cube brick : ℕ) (call : ClientCall) → IsRun o (By a call ∷ es)
+own-posted : (o : Opening) (es : List CoreEvent) (a e cube brick : ℕ) (call : ClientCall) → IsCoreRun o (By a call ∷ es)
     → PostedFits o es a e cube brick → IsSession o a → OwnsWriter a e (client_after_call o true a call (client_state o a es))
     → IsClean (client_after_call o true a call (client_state o a es)).group
     → PlacePosted o cube brick e (posted_after o cube brick call (posted_of o es cube brick)) (told_of o es cube brick)
@@ -192,7 +192,7 @@ own-posted o es a e cube brick (CloseMail other) run before session owns clean =
 own-posted o es a e cube brick NoChange run before session owns clean = before session owns clean
 
 -- By another client.
-other-posted : (o : Opening) (es : List CoreEvent) (a b e cube brick : ℕ) (call : ClientCall) → IsRun o (By b call ∷ es) → (b ≡ a → ⊥)
+other-posted : (o : Opening) (es : List CoreEvent) (a b e cube brick : ℕ) (call : ClientCall) → IsCoreRun o (By b call ∷ es) → (b ≡ a → ⊥)
     → PostedFits o es a e cube brick → IsSession o a → OwnsWriter a e (client_state o a es) → IsClean (client_state o a es).group
     → PlacePosted o cube brick e (posted_after o cube brick call (posted_of o es cube brick)) (told_of o es cube brick)
     (place_after_call (brick % o.shards) false call (place (brick % o.shards) a es))
@@ -218,14 +218,14 @@ other-posted o es a b e cube brick (CloseMail other) run apart before session ow
 other-posted o es a b e cube brick NoChange run apart before session owns clean = before session owns clean
 
 call-posted : (own : Bool) (o : Opening) (es : List CoreEvent) (a b e cube brick : ℕ) (call : ClientCall) → (b == a) ≡ own
-    → IsRun o (By b call ∷ es) → PostedFits o es a e cube brick → IsSession o a
+    → IsCoreRun o (By b call ∷ es) → PostedFits o es a e cube brick → IsSession o a
     → OwnsWriter a e (client_after_call o own a call (client_state o a es))
     → IsClean (client_after_call o own a call (client_state o a es)).group
     → PlacePosted o cube brick e (posted_after o cube brick call (posted_of o es cube brick)) (told_of o es cube brick)
     (place_after_call (brick % o.shards) own call (place (brick % o.shards) a es))
 call-posted true o es a b e cube brick call is run before session owns clean =
     let same = eqb-true b a is in
-    own-posted o es a e cube brick call (coe 0 1 (i. IsRun o (By (same i) call ∷ es)) run) before session owns clean
+    own-posted o es a e cube brick call (coe 0 1 (i. IsCoreRun o (By (same i) call ∷ es)) run) before session owns clean
 call-posted false o es a b e cube brick call is run before session owns clean =
     other-posted o es a b e cube brick call run (eqb-false b a is) before session owns clean
 
@@ -352,12 +352,12 @@ move-posted true o es mail a cube brick e q lost (Worked c j x) (Reply to said) 
 move-posted false o es mail a cube brick e q lost worker move posted told p fits says asked other f = f
 
 -- The job that a worker has taken is asked.
-taken-asked : (o : Opening) (es : List CoreEvent) (mail c : ℕ) (job : CoreJob) → IsRun o es → worker_of mail es ≡ Took c job
+pub taken-asked : (o : Opening) (es : List CoreEvent) (mail c : ℕ) (job : CoreJob) → IsCoreRun o es → worker_of mail es ≡ Took c job
     → place mail c es ≡ Asked job
 taken-asked o es mail c job run is =
     (coe 0 1 (i. IsBusy (λ a. place mail a es) (queue_of mail es) (λ a. reply_for mail a es) (is i)) ((run-posted o es run).posted mail).busy).asked
 
-pub run-posted-fits : (o : Opening) (es : List CoreEvent) (a e cube brick : ℕ) → IsRun o es → PostedFits o es a e cube brick
+pub run-posted-fits : (o : Opening) (es : List CoreEvent) (a e cube brick : ℕ) → IsCoreRun o es → PostedFits o es a e cube brick
 run-posted-fits o [] a e cube brick run = λ session owns clean. refl
 run-posted-fits o (By b call ∷ es) a e cube brick run = λ session owns clean.
     call-posted (b == a) o es a b e cube brick call refl run (run-posted-fits o es a e cube brick run.0) session owns clean

@@ -1,0 +1,2 @@
+pub mod LinkedHistories
+pub mod OwnParts

@@ -1,0 +1,4 @@
+pub mod OverKept
+pub mod OpenRounds
+pub mod CopiedBricks
+pub mod StoreRows

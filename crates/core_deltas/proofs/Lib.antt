@@ -1,0 +1,4 @@
+pub mod FetchedAnswers
+pub mod HeldReaders
+pub mod DeltaRows
+pub mod FetchedDeltas

@@ -1,0 +1,3 @@
+pub mod CubeRows
+pub mod HeldSnapshots
+pub mod OwnOperations
