@@ -1,0 +1,3 @@
+pub mod HeldRows
+pub mod PartRows
+pub mod Parts
