@@ -1,0 +1,5 @@
+pub mod Ranges
+pub mod Fitting
+pub mod Ends
+pub mod Answers
+pub mod Refusing

@@ -1,0 +1,2 @@
+pub mod StepParts
+pub mod Modes
