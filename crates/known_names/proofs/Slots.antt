@@ -5,30 +5,42 @@ use Rattle.std.specs.Str.{bytes_eq}
 use Rattle.std.proofs.lemmas.Bool.{cases_Bool}
 use Rattle.std.proofs.lemmas.List.Elements.{All-get_or, All-nil, All-push, All-set, All-weaker}
 use Rattle.known_names.specs.KnownTexts.{code_of, with_text}
-use Rattle.known_names.specs.Slots.{AreRight, IsRight}
+use Rattle.known_names.specs.ShortKeys.{IsShort, short_key}
+use Rattle.known_names.specs.Slots.{AreRight, IsRight, slot_key}
+use Rattle.known_names.specs.declared.short_keys.ShortKey.{ShortKey}
 use Rattle.known_names.specs.declared.short_texts.Slot.{Slot}
+use Rattle.known_names.proofs.ShortKeys.{len_short, short_same}
 
 pub none_right : (known : List (List ℕ × ℕ)) → AreRight known []
 none_right known = All-nil (IsRight known)
 
-pub free_pushed : (known : List (List ℕ × ℕ)) (slots : List Slot) (slot : Slot) → AreRight known slots
-    → slot.text.items ≡ [] → AreRight known (slots ++ slot ∷ [])
-free_pushed known slots slot right free =
-    All-push (IsRight known) slots slot right (λ some. absurd (omega (arith, some, ap length free)))
+-- a slot of length 0 holds no text
+pub free_right : (known : List (List ℕ × ℕ)) (slot : Slot) → slot.len ≡ 0 → IsRight known slot
+free_right known slot free text short is =
+    let len : slot.len ≡ length text = ap (λ (key : ShortKey). key.len) is ∙ len_short text in
+    absurd (omega (arith, free, len, short.some))
 
-pub slot_set : (known : List (List ℕ × ℕ)) (slots : List Slot) (i : ℕ) (slot : Slot) (text : List ℕ) (code : ℕ)
-    → AreRight known slots → slot.text.items ≡ text → slot.code ≡ code → code_of known text ≡ Some code
-    → AreRight known (set slots i slot)
-slot_set known slots i slot text code right is has so =
-    All-set (IsRight known) slots i slot (λ some. ap (code_of known) is ∙ so ∙ sym (ap Some has)) right
+pub free_pushed : (known : List (List ℕ × ℕ)) (slots : List Slot) (slot : Slot) → AreRight known slots
+    → slot.len ≡ 0 → AreRight known (slots ++ slot ∷ [])
+free_pushed known slots slot right free = All-push (IsRight known) slots slot right (free_right known slot free)
+
+pub right_set : (known : List (List ℕ × ℕ)) (slots : List Slot) (i : ℕ) (slot : Slot)
+    → AreRight known slots → IsRight known slot → AreRight known (set slots i slot)
+right_set known slots i slot right is = All-set (IsRight known) slots i slot is right
+
+-- the slot of a text with its code
+pub right_slot : (known : List (List ℕ × ℕ)) (slot : Slot) (key : ShortKey) (text : List ℕ) (code : ℕ) → IsShort text
+    → key ≡ short_key text → slot_key slot ≡ key → slot.code ≡ code → code_of known text ≡ Some code → IsRight known slot
+right_slot known slot key text code short is holds has so other other_short other_is =
+    let same : other ≡ text = short_same other text other_short short (sym other_is ∙ holds ∙ is) in
+    ap (code_of known) same ∙ so ∙ sym (ap Some has)
 
 -- what is found in a slot is the code
-pub right_code : (known : List (List ℕ × ℕ)) (slots : List Slot) (i : ℕ) (d : Slot) (text : List ℕ)
-    → AreRight known slots → i < length slots → (get_or slots i d).text.items ≡ text → 0 < length text
+pub right_code : (known : List (List ℕ × ℕ)) (slots : List Slot) (i : ℕ) (d : Slot) (text : List ℕ) (key : ShortKey)
+    → AreRight known slots → i < length slots → IsShort text → key ≡ short_key text → slot_key (get_or slots i d) ≡ key
     → code_of known text ≡ Some (get_or slots i d).code
-right_code known slots i d text right lt is some =
-    sym (ap (code_of known) is)
-    ∙ All-get_or (IsRight known) slots i d lt right (subst (λ (t : List ℕ). 0 < length t) (sym is) some)
+right_code known slots i d text key right lt short is holds =
+    All-get_or (IsRight known) slots i d lt right text short (holds ∙ is)
 
 -- ---- a text that is added
 
@@ -58,7 +70,7 @@ pub right_after : (known : List (List ℕ × ℕ)) (text : List ℕ) (code : ℕ
 right_after known text code slots none right =
     subst (λ (k : List (List ℕ × ℕ)). AreRight k slots) (sym (with_new known text code none))
     (All-weaker (IsRight known) (IsRight (known ++ (text, code) ∷ []))
-    (λ slot h some. after known text slot.text.items code slot.code (h some)) slots right)
+    (λ slot h other short is. after known text other code slot.code (h other short is)) slots right)
 
 -- and the text has its code then
 pub code_then : (known : List (List ℕ × ℕ)) (text : List ℕ) (code : ℕ) → code_of known text ≡ None

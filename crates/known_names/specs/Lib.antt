@@ -1,2 +1,3 @@
 pub mod KnownTexts
+pub mod ShortKeys
 pub mod Slots

@@ -2,6 +2,7 @@
 #![tactic(auto)]
 
 mod known;
+mod short_keys;
 mod short_texts;
 
 pub use known::Known;

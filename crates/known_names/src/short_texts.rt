@@ -3,16 +3,16 @@
 //! What stands in the table is so; what is so need not stand in it, where no slot is free or the text is long.
 //! A short text stands in the slot itself, so a look-up mostly touches one line of memory.
 
-ghost use Rattle.std.specs.Prelude.{◌≡◌, ℕ, ◌<◌, ◌*◌, List, length, Some, IfOk, IfSome};
+ghost use Rattle.std.specs.Prelude.{◌≡◌, ◌↔◌, ℕ, ◌<◌, List, length, Some, IfOk, IfSome, IsTrue};
 ghost use Rattle.known_names.specs.KnownTexts.{code_of};
-ghost use Rattle.known_names.specs.Slots.{AreRight, IsRight};
+ghost use Rattle.known_names.specs.ShortKeys.{IsShort};
+ghost use Rattle.known_names.specs.Slots.{AreRight, IsRight, slot_key};
 
-use arrayvec::ArrayVec;
+use crate::short_keys::ShortKey;
 use std::alloc::{AllocError, Global};
-use std::hash::{FoldHasher, Hasher};
 
 /// In how many slots, one after the other, a text may stand.
-const TRIES: usize = 4;
+const TRIES: usize = 8;
 
 /// How many slots there are at first. They are doubled from there, so their number is a power of two.
 const FIRST_SLOTS: usize = 64;
@@ -20,35 +20,50 @@ const FIRST_SLOTS: usize = 64;
 /// There are at least so many slots for each text.
 const SLOTS_PER_TEXT: usize = 2;
 
-/// How many bytes a short text has at most.
-const SHORT_BYTES: usize = 16;
-
-/// The hash of a text, by the library's hasher. It takes the bytes many at a time, where the `Hash` of a
-/// list takes them one by one.
-fn hash_of(text: &[u8]) -> u64 {
-    let mut hasher = FoldHasher::default();
-    hasher.write(text);
-    hasher.finish()
-}
-
-/// A short text with its code. Where the text is empty the slot is free.
-#[derive(Drop)]
+/// The key of a short text, and its code. Where the length is 0 the slot is free. The key's numbers stand
+/// beside the code, so that a slot takes 24 bytes.
+#[derive(Clone, Copy)]
 pub(crate) struct Slot {
-    text: ArrayVec<u8, SHORT_BYTES>,
+    head: u64,
+    tail: u64,
+    len: u32,
     code: u32,
 }
 
-/// A short text with its code, None where the text is long.
-fn slot_of(text: &[u8], code: u32) -> Option<Slot>
-    ensures text { IfSome result (λ slot. slot.text.items ≡ text.now) }
-    ensures code { IfSome result (λ slot. slot.code ≡ code) }
-{
-    let mut copy = ArrayVec::new();
-    match copy.try_extend_from_slice(text) {
-        Ok(()) => Some(Slot { text: copy, code }),
-        Err(_) => None,
+impl Slot {
+    /// A slot of a key with a code.
+    fn new(key: &ShortKey, code: u32) -> Slot
+        ensures key { slot_key result ≡ key.now }
+        ensures code { result.code ≡ code }
+    {
+        Slot {
+            head: key.head,
+            tail: key.tail,
+            len: key.len,
+            code,
+        }
+    }
+
+    /// The key that it holds.
+    #[inline(always)]
+    fn key(&self) -> ShortKey
+        ensures { result ≡ slot_key self.now }
+    {
+        ShortKey {
+            head: self.head,
+            tail: self.tail,
+            len: self.len,
+        }
     }
 }
+
+/// A slot that holds no text.
+const FREE: Slot = Slot {
+    head: 0,
+    tail: 0,
+    len: 0,
+    code: 0,
+};
 
 /// The table. The hasher's seed is fixed: whoever chooses the texts can prepare some of one hash, of which most
 /// then do not stand in it.
@@ -74,38 +89,35 @@ impl ShortTexts {
     {
         let mut slots = Vec::with_capacity(alloc, count)?;
         'slots: for _slot in 0..count {
-            slots.push(Slot {
-                text: ArrayVec::new(),
-                code: 0,
-            })?;
+            slots.push(FREE)?;
         }
         Ok(ShortTexts { slots })
     }
 
     /// The place of a hash's slot at a try.
+    #[inline(always)]
     fn place(&self, hash: u64, tried: usize) -> usize {
         (hash as usize).wrapping_add(tried) & self.slots.len().wrapping_sub(1)
     }
 
     /// The code of a text that stands in the table.
+    #[inline(always)]
     pub(crate) fn find(&self, text: &[u8]) -> Option<u32>
         ensures { IfSome result (λ code. (known : List (List ℕ × ℕ))
             → AreRight known self.now.slots.items → code_of known text.now ≡ Some code) }
     {
-        if text.is_empty() {
-            return None;
-        }
-        let hash = hash_of(text);
+        let key = ShortKey::of(text)?;
+        let hash = key.hash();
         for tried in 0..TRIES {
             let place = self.place(hash, tried);
             if place >= self.slots.len() {
                 return None;
             }
             let slot = &self.slots[place];
-            if slot.text.as_slice() == text {
+            if slot.key() == key {
                 return Some(slot.code);
             }
-            if slot.text.is_empty() {
+            if slot.len == 0 {
                 return None;
             }
         }
@@ -118,37 +130,38 @@ impl ShortTexts {
     {
         for tried in 0..TRIES {
             let place = self.place(hash, tried);
-            if place < self.slots.len() && self.slots[place].text.is_empty() {
+            if place < self.slots.len() && self.slots[place].len == 0 {
                 return Some(place);
             }
         }
         None
     }
 
-    /// Notes the code of a text, where it is short and a slot is free.
-    #[tactic(auto, using(crate::proofs::Slots::slot_set))]
-    pub(crate) fn note(&mut self, text: &[u8], code: u32)
+    /// Puts a slot's text and code into the first free slot for the text, where there is one. One that is free
+    /// changes nothing.
+    #[tactic(auto, using(crate::proofs::Slots::right_set))]
+    fn put(&mut self, slot: Slot)
         ensures { (known : List (List ℕ × ℕ)) → AreRight known self.old.slots.items
-            → code_of known text.now ≡ Some code → AreRight known self.new.slots.items }
+            → IsRight known slot → AreRight known self.new.slots.items }
     {
-        let Some(place) = self.free_place(hash_of(text)) else {
+        if slot.len == 0 {
             return;
-        };
-        let Some(slot) = slot_of(text, code) else {
+        }
+        let Some(place) = self.free_place(slot.key().hash()) else {
             return;
         };
         self.slots[place] = slot;
     }
 
-    /// Notes what a slot holds.
-    fn note_slot(&mut self, slot: &Slot)
+    /// Notes the code of a text, where it is short and a slot is free.
+    pub(crate) fn note(&mut self, text: &[u8], code: u32)
         ensures { (known : List (List ℕ × ℕ)) → AreRight known self.old.slots.items
-            → IsRight known slot.now → AreRight known self.new.slots.items }
+            → code_of known text.now ≡ Some code → AreRight known self.new.slots.items }
     {
-        if slot.text.is_empty() {
+        let Some(key) = ShortKey::of(text) else {
             return;
-        }
-        self.note(slot.text.as_slice(), slot.code);
+        };
+        self.put(Slot::new(&key, code));
     }
 
     /// Twice as many slots, with what stands in these.
@@ -159,7 +172,7 @@ impl ShortTexts {
         let count = self.slots.len().saturating_mul(2).max(FIRST_SLOTS);
         let mut more = ShortTexts::free(*self.slots.allocator(), count)?;
         'slots: for i in 0..self.slots.len() {
-            more.note_slot(&self.slots[i]);
+            more.put(self.slots[i]);
         }
         Ok(more)
     }

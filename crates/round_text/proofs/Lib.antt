@@ -1,4 +1,5 @@
 pub mod EntryWrites
 pub mod HeaderLaws
 pub mod Shorts
+pub mod TextLengths
 pub mod Zips

@@ -1,2 +1,3 @@
 pub mod HeaderReading
+pub mod TextLengths
 pub mod Writing

@@ -4,6 +4,6 @@ use Rattle.known_names.proofs.short_texts.ShortTexts.doubled.Goals as goal
 
 pub slots-preserved : goal.slots-preserved
 slots-preserved c = λ known right.
-    c.note_slot.ensures known (c.slots.invariant known right)
+    c.put.ensures known (c.slots.invariant known right)
     (subst (IsRight known) (sym c.index.ensures)
     (right c.slots.i c.index.result.now (omega (arith, c.slots-test.true, c.len-i-end.ensures))))
