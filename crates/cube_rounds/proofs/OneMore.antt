@@ -10,9 +10,10 @@ use Rattle.cube_rounds.specs.Headers.{open_gate, header_bytes}
 use Rattle.cube_rounds.specs.Stands.{Kept, kept_of_cubes, kept_with, kept_with_all, RoundsMayFollow, rounds_bytes, HeadersStand, RoundsFollow}
 
 pub headers_stand : HeadersStand
-headers_stand digest generation cubes gate rest fits shut =
+headers_stand digest generation cubes gate rest declares fits shut =
     record {
       cubes = cubes;
+      declares = declares;
       header = fits;
       rounds = [];
       chain = tt;
@@ -23,12 +24,12 @@ headers_stand digest generation cubes gate rest fits shut =
       whole = refl;
     }
 
-kept_more : (kept : Kept) (rounds : List Round) (round : Round)
+pub kept_more : (kept : Kept) (rounds : List Round) (round : Round)
     → kept_with_all kept (rounds ++ round ∷ []) ≡ kept_with (kept_with_all kept rounds) round
 kept_more kept [] round = refl
 kept_more kept (first ∷ rounds) round = kept_more (kept_with kept first) rounds round
 
-follow_more : (kept : Kept) (rounds : List Round) (round : Round) → RoundsMayFollow kept rounds
+pub follow_more : (kept : Kept) (rounds : List Round) (round : Round) → RoundsMayFollow kept rounds
     → round.from ≡ (kept_with_all kept rounds).epoch
     → FitsRound (kept_with_all kept rounds).cubes (kept_with_all kept rounds).names round
     → RoundsMayFollow kept (rounds ++ round ∷ [])
@@ -37,10 +38,10 @@ follow_more kept (first ∷ rounds) round chain from fits =
     (chain.0, chain.1, follow_more (kept_with kept first) rounds round chain.2 from fits)
 
 -- A round behind its open gate.
-abbrev behind_gate : (List ℕ → List ℕ) → List Decl → Round → List ℕ
+abbrev pub behind_gate : (List ℕ → List ℕ) → List Decl → Round → List ℕ
 behind_gate digest cubes round = open_gate ∷ round_bytes digest cubes round
 
-bytes_more : (digest : List ℕ → List ℕ) (kept : Kept) (rounds : List Round) (round : Round)
+pub bytes_more : (digest : List ℕ → List ℕ) (kept : Kept) (rounds : List Round) (round : Round)
     → rounds_bytes digest kept.cubes (rounds ++ round ∷ [])
     ≡ rounds_bytes digest kept.cubes rounds ++ behind_gate digest (kept_with_all kept rounds).cubes round
 bytes_more digest kept [] round = ap (λ (b : List ℕ). open_gate ∷ b) (append-nil (round_bytes digest kept.cubes round))
@@ -65,6 +66,7 @@ rounds_follow digest generation kept file round gate rest s from fits shut =
     ∙ ap (λ (k : Kept). before ++ behind_gate digest k.cubes round) (sym same) in
     record {
       cubes = s.cubes;
+      declares = s.declares;
       header = s.header;
       rounds = s.rounds ++ round ∷ [];
       chain = follow_more begun s.rounds round s.chain (from ∙ ap (λ (k : Kept). k.epoch) same)

@@ -4,6 +4,7 @@ use Rattle.std.specs.Prelude.{◌≡◌, ◌≢◌, ◌⊎◌, ℕ, ◌<◌, ◌
 use Rattle.std.specs.List.{zip}
 use Rattle.cube_language.specs.declared.decl.Decl.{Decl}
 use Rattle.cube_language.specs.Cubes.{cubes_text}
+use Rattle.cube_language.specs.CubesText.{Declares}
 use Rattle.cube_rounds.specs.declared.round.Round.{Round}
 use Rattle.cube_rounds.specs.Bytes.{round_bytes}
 use Rattle.cube_rounds.specs.Demands.{DimNames, names_with, no_names, FitsRound}
@@ -64,6 +65,7 @@ file_bytes digest generation cubes rounds =
 -- then anything.
 pub record FileStands (digest : List ℕ → List ℕ) (generation : ℕ) (kept : Kept) (file : List ℕ) : Type 0 where
   pub cubes : List Decl
+  pub declares : Declares (cubes_text cubes) cubes
   pub header : FitsHeader generation (cubes_text cubes)
   pub rounds : List Round
   pub chain : RoundsMayFollow (kept_of_cubes cubes) rounds
@@ -95,11 +97,11 @@ pub record IsCurrent (digest : List ℕ → List ℕ) (kept : Kept) (file other 
 abbrev pub Stands : (List ℕ → List ℕ) → Kept → List ℕ → List ℕ → Type 0
 Stands digest kept first second = IsCurrent digest kept first second ⊎ IsCurrent digest kept second first
 
--- A header and a gate that is shut stand for the header's cubes.
+-- A header and a gate that is shut stand for the cubes that its text declares.
 abbrev pub HeadersStand : Type 0
 HeadersStand =
     (digest : List ℕ → List ℕ) (generation : ℕ) (cubes : List Decl) (gate : ℕ) (rest : List ℕ)
-    → FitsHeader generation (cubes_text cubes) → gate ≢ open_gate
+    → Declares (cubes_text cubes) cubes → FitsHeader generation (cubes_text cubes) → gate ≢ open_gate
     → FileStands digest generation (kept_of_cubes cubes) (file_bytes digest generation cubes [] ++ gate ∷ rest)
 
 -- A file that stands for what is kept stands for one round more with that round behind it.

@@ -1,6 +1,6 @@
 //! Writing from a synced disk to a synced disk.
 
-ghost use Rattle.std.specs.Prelude.{◌≡◌, ◌≤◌, length, take, ◌++◌, Some, OnOk, OnErr, IfSome};
+ghost use Rattle.std.specs.Prelude.{◌≡◌, ◌≤◌, ◌↔◌, length, take, ◌++◌, Some, IsSome, OnOk, OnErr, IfSome};
 ghost use Rattle.outside.specs.Counts.{Rose};
 ghost use Rattle.outside_disk.specs.Views.{IsSynced, AnyMoment};
 ghost use Rattle.outside_disk.specs.Effects.{Torn, AnyFrom, with_bytes};
@@ -15,6 +15,7 @@ pub fn write_through<D: Disk>(disk: &mut D, at: u64, bytes: &[u8]) -> Result<(),
     ensures written { IfSome (D.view disk.old).told (λ f.
         OnOk result ((D.view disk.new).told ≡ Some (with_bytes at bytes.now f))) }
     ensures synced { OnOk result (IsSynced (D.view disk.new)) }
+    ensures tells { IsSome (D.view disk.old).told ↔ IsSome (D.view disk.new).told }
     ensures any_moment { AnyMoment (Torn at (length bytes.now))
         (D.view disk.old) (D.view disk.new) }
     ensures count { (D.view disk.old).faults ≤ (D.view disk.new).faults }
@@ -33,6 +34,7 @@ pub fn replace_from<D: Disk>(disk: &mut D, at: u64, bytes: &[u8]) -> Result<(), 
     ensures written { IfSome (D.view disk.old).told (λ f.
         OnOk result ((D.view disk.new).told ≡ Some (take at f ++ bytes.now))) }
     ensures synced { OnOk result (IsSynced (D.view disk.new)) }
+    ensures tells { IsSome (D.view disk.old).told ↔ IsSome (D.view disk.new).told }
     ensures any_moment { AnyMoment (AnyFrom at (length bytes.now))
         (D.view disk.old) (D.view disk.new) }
     ensures count { (D.view disk.old).faults ≤ (D.view disk.new).faults }
