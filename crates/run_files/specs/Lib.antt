@@ -1,0 +1,3 @@
+pub mod RunFiles
+pub mod Readings
+pub mod Texts
