@@ -1,13 +1,11 @@
 -- What the shards have copied shows, over what was kept, what a reader at the round's target sees now.
-use Rattle.std.proofs.Common.{◌≡◌, ◌⊎◌, ◌∙◌, ℕ, zero, suc, ◌+◌, ◌%◌, ◌<◌, ◌≤◌, ◌==◌, Bool, true, false, true≢false, not, ◌&&◌, ◌||◌, nat_le, nat_lt, List, [], ◌∷◌, ◌++◌, inl, inr, refl, sym, ap, arith, eqb-true, eq-eqb, mod-lt, if◌then◌else◌}
+use Rattle.std.proofs.Common.{◌≡◌, ◌∙◌, ℕ, zero, suc, ◌%◌, ◌≤◌, ◌==◌, Bool, true, false, not, ◌&&◌, ◌||◌, nat_le, nat_lt, List, [], ◌∷◌, ◌++◌, inl, inr, refl, sym, ap, arith, eqb-true, mod-lt, if◌then◌else◌}
 use Rattle.std.specs.List.{count_by}
 use Rattle.std.proofs.lemmas.Bool.{false≢true, leb-true, or_parts}
-use Rattle.cube_values.specs.declared.query.BoundQuery.{BoundQuery}
 use Rattle.cube_values.specs.declared.row.CodedRow.{CodedRow}
-use Rattle.cube_values.specs.declared.snapshot.Snapshot.{Snapshot}
 use Rattle.cube_values.specs.Sees.{sees}
 use Rattle.cube_journal.specs.Counters.{JournalState, lce}
-use Rattle.core_events.specs.ShardView.{BrickEntry, RowRun, RowMark, ShardView, ShowAlike, Epochs, is_below_mark, epochs_above, epochs_before_mark, every_epoch, rows_where, rows_shown_to, brick_rows_seen, entries_without_epoch, is_up_to, entries_after_purge, entries_of_round}
+use Rattle.core_events.specs.ShardView.{BrickEntry, RowRun, RowMark, ShardView, Epochs, is_below_mark, epochs_above, epochs_before_mark, every_epoch, rows_where, rows_shown_to, brick_rows_seen, entries_without_epoch, is_up_to, entries_after_purge, entries_of_round}
 use Rattle.core_events.specs.Jobs.{CoreJob, Append, DropBox, Scan, Delta, Rollback, Purge, CopyRound, Flush, JobAnswer, Done, ShardFull, Found, Compared, Copied, StoreLost, OutOfMemory, is_refusal}
 use Rattle.core_events.specs.Events.{Opening, IsSession, flusher, ClientCall, WorkerMove, Take, NoJob, Work, Reply, CoreEvent, By, At}
 use Rattle.core_events.specs.Groups.{GroupKind, Copies, kind_of, Received, has_number, mails_of, has_refusal}
@@ -19,11 +17,10 @@ use Rattle.core_bricks.specs.BrickTransactions.{rows_over_kept}
 use Rattle.core_bricks.proofs.CopyRows.{sees-low, sees-not, copies-restore}
 use Rattle.core_desk.proofs.Agreement.{opening-of}
 use Rattle.core_desk.proofs.Blindness.{least-pending}
-use Rattle.core_mails.proofs.Places.{Asked, place}
 use Rattle.core_runs.proofs.FoundRows.{all-below}
 use Rattle.core_runs.proofs.Isolation.{JobFits, asked-fits, made-asked, IsUnseen, job-keeps, move-keeps}
 use Rattle.core_runs.proofs.ToldBricks.{writer-of, above-lse}
-use Rattle.core_deltas.proofs.FetchedAnswers.{AnswerFits, AnswersFit, run-answers}
+use Rattle.core_deltas.proofs.FetchedAnswers.{AnswersFit, run-answers}
 use Rattle.core_copies.specs.Copies.{copy_in, copies_by, HasCopied, IsOfOpenRound}
 use Rattle.core_copies.proofs.OpenRounds.{is_copying, of-open-round}
 use Rattle.core_copies.proofs.OverKept.{NoneAtZero, over-alike}

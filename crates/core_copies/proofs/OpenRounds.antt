@@ -1,18 +1,14 @@
 -- A client that copies is the flusher, and its round is open: it begins at LSE, or at 0, and goes up to an epoch that is
 -- not above LCE.
-use Rattle.std.proofs.Common.{◌≡◌, ◌⊎◌, ◌∙◌, ℕ, ◌<◌, ◌≤◌, ◌==◌, Bool, true, false, true≢false, List, [], ◌∷◌, Option, Some, None, IfSome, IsSomeAnd, inl, inr, refl, sym, ap, arith, eqb-true, eq-eqb, if◌then◌else◌}
+use Rattle.std.proofs.Common.{◌≡◌, ◌⊎◌, ◌∙◌, ℕ, ◌<◌, ◌≤◌, ◌==◌, Bool, true, false, true≢false, List, [], ◌∷◌, Option, Some, None, IfSome, IsSomeAnd, inl, inr, refl, sym, ap, arith, eq-eqb, if◌then◌else◌}
 use Rattle.std.proofs.lemmas.Bool.{false≢true}
 use Rattle.std.proofs.lemmas.Option.{none-some, same_Some}
 use Rattle.cube_journal.specs.declared.counters.OpenSnapshot.{OpenSnapshot}
-use Rattle.cube_journal.specs.declared.note.Note.TheVariants as note
 use Rattle.cube_journal.specs.Counters.{JournalState, lce, target, oldest_bound}
-use Rattle.cube_journal.specs.Order.{NeverFalls, IsInOrder}
+use Rattle.cube_journal.specs.Order.{NeverFalls}
 use Rattle.aosi_register.specs.declared.answer.RoundAnswer.{RoundAnswer}
 use Rattle.aosi_register.specs.declared.answer.RoundAnswer.TheVariants.{Target, Nothing}
-use Rattle.aosi_register.specs.declared.answer.RoundEnd.TheVariants.{Safe, Lost}
 use Rattle.aosi_register.specs.State.{round_answer}
-use Rattle.aosi_desk.specs.declared.cube.CubeAnswer.TheVariants.{Created, Exists, TooMany}
-use Rattle.aosi_desk.specs.declared.cube.CubeFound.TheVariants.{Found, Unknown}
 use Rattle.core_events.specs.Jobs.{CoreJob, Append, DropBox, Scan, Delta, Rollback, Purge, CopyRound, Flush}
 use Rattle.core_events.specs.Events.{Opening, flusher, DeskCall, OpenWrite, OpenRead, Commit, AbortEnd, CloseRead, TakeNote, CreateCube, FindCube, CubesFrom, CountersNow, RoundOpen, RoundClose, StoreFailed, ClientCall, OnDesk, OnNames, Post, Fetch, CloseMail, NoChange, CoreEvent, By, At}
 use Rattle.core_events.specs.Groups.{GroupKind, Copies, kind_of, no_group, has_ended}
@@ -21,43 +17,11 @@ use Rattle.core_events.specs.Cells.{counters_of_run}
 use Rattle.core_events.specs.Fitting.{FitsCall, MayCopy}
 use Rattle.core_events.specs.Runs.{IsCoreRun, CallSays}
 use Rattle.core_desk.proofs.Agreement.{round_epoch, round-agrees}
-use Rattle.core_desk.proofs.DeskSteps.{client_entry, state_with_entry, run-step}
+use Rattle.core_desk.proofs.DeskSteps.{run-step}
 use Rattle.core_desk.proofs.InOrder.{run-order}
+use Rattle.core_desk.proofs.RoundEnds.{closes_round, lse-same}
 use Rattle.core_runs.proofs.Asking.{own-fits}
 use Rattle.core_copies.specs.Copies.{IsOfOpenRound}
-
--- Only the end of a round changes LSE.
-abbrev pub closes_round : ClientCall → Bool
-closes_round (OnDesk (RoundClose epoch end)) = true
-closes_round call = false
-
-pub lse-same : (b : ℕ) (call : ClientCall) (s : JournalState) → closes_round call ≡ false → (state_with_entry (client_entry b call) s).lse ≡ s.lse
-lse-same b (OnDesk (OpenWrite statement epoch deps)) s c = refl
-lse-same b (OnDesk (OpenRead number statement epoch)) s c = refl
-lse-same b (OnDesk (Commit statement epoch)) s c = refl
-lse-same b (OnDesk (AbortEnd statement epoch cause)) s c = refl
-lse-same b (OnDesk (CloseRead number statement)) s c = refl
-lse-same b (OnDesk (TakeNote (note.Refused session statement code) counters)) s c = refl
-lse-same b (OnDesk (TakeNote (note.Cleared session statement) counters)) s c = refl
-lse-same b (OnDesk (TakeNote (note.Show session statement) counters)) s c = refl
-lse-same b (OnDesk (TakeNote (note.Flushed session statement) counters)) s c = refl
-lse-same b (OnDesk (TakeNote (note.Purged session statement epoch) counters)) s c = refl
-lse-same b (OnDesk (CreateCube statement decl (Created epoch place))) s c = refl
-lse-same b (OnDesk (CreateCube statement decl Exists)) s c = refl
-lse-same b (OnDesk (CreateCube statement decl TooMany)) s c = refl
-lse-same b (OnDesk (FindCube statement name (Found place decl))) s c = refl
-lse-same b (OnDesk (FindCube statement name Unknown)) s c = refl
-lse-same b (OnDesk (CubesFrom place cubes)) s c = refl
-lse-same b (OnDesk (CountersNow counters)) s c = refl
-lse-same b (OnDesk (RoundOpen (Target from epoch))) s c = refl
-lse-same b (OnDesk (RoundOpen (Nothing epoch))) s c = refl
-lse-same b (OnDesk (RoundClose epoch end)) s c = absurd (true≢false c)
-lse-same b (OnDesk (StoreFailed failed)) s c = refl
-lse-same b (OnNames call) s c = refl
-lse-same b (Post mail job) s c = refl
-lse-same b (Fetch mail answer) s c = refl
-lse-same b (CloseMail mail) s c = refl
-lse-same b NoChange s c = refl
 
 -- The flusher's round begins at LSE.
 abbrev BeginsAt : ℕ → Option OwnRound → Type 0

@@ -1,22 +1,21 @@
 -- A store that takes in the copies of a round has the rows that committed transactions leave.
-use Rattle.std.proofs.Common.{◌≡◌, ◌⊎◌, ◌∙◌, ℕ, zero, suc, ◌+◌, ◌%◌, ◌<◌, ◌≤◌, ◌==◌, Bool, true, false, true≢false, not, ◌&&◌, ◌||◌, List, [], ◌∷◌, ◌++◌, inl, inr, refl, sym, ap, arith, eqb-true, if◌then◌else◌}
+use Rattle.std.proofs.Common.{◌≡◌, ◌∙◌, ℕ, zero, suc, ◌==◌, Bool, true, false, ◌&&◌, List, [], ◌∷◌, inl, inr, refl, sym, ap, arith, eqb-true, if◌then◌else◌}
 use Rattle.std.specs.List.{count_by}
 use Rattle.std.specs.List.Sorted.{IsPermutation}
-use Rattle.std.proofs.lemmas.Bool.{false≢true, leb-true}
+use Rattle.std.proofs.lemmas.Bool.{false≢true}
 use Rattle.std.proofs.lemmas.List.Sorted.{length_permutation}
 use Rattle.cube_values.specs.declared.row.CodedRow.{CodedRow}
 use Rattle.cube_values.specs.Sees.{sees}
-use Rattle.cube_journal.specs.Counters.{JournalState, lce}
 use Rattle.brick_address.specs.Addresses.{brick_of}
-use Rattle.core_events.specs.ShardView.{BrickEntry, brick_rows_seen}
+use Rattle.core_events.specs.ShardView.{brick_rows_seen}
 use Rattle.core_events.specs.Jobs.{CoreJob, Append, DropBox, Scan, Delta, Rollback, Purge, CopyRound, Flush}
-use Rattle.core_events.specs.Events.{Opening, ClientCall, OnDesk, OnNames, Post, Fetch, CloseMail, NoChange, CoreEvent, By, At}
-use Rattle.core_events.specs.Groups.{has_number, has_ended}
+use Rattle.core_events.specs.Events.{Opening, OnDesk, OnNames, Post, Fetch, CloseMail, NoChange, CoreEvent, By, At}
+use Rattle.core_events.specs.Groups.{has_ended}
 use Rattle.core_events.specs.Clients.{client_state, reader_up_to}
 use Rattle.core_events.specs.Cells.{counters_of_run, view_of, rows_of_brick, sizes_of_cube}
 use Rattle.core_events.specs.Fitting.{FitsCall}
 use Rattle.core_events.specs.Runs.{IsCoreRun}
-use Rattle.core_events.specs.Serial.{CubeOperation, PutRows, counts_for, operations_of, rows_after_transaction, rows_left_below}
+use Rattle.core_events.specs.Serial.{CubeOperation, PutRows, counts_for, operations_of, rows_after_transaction}
 use Rattle.core_bricks.specs.BrickTransactions.{rows_over_kept}
 use Rattle.core_bricks.proofs.Counts.{count-filter}
 use Rattle.core_bricks.proofs.CopyRows.{sees-low, sees-not}

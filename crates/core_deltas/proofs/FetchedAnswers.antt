@@ -9,7 +9,7 @@ use Rattle.core_events.specs.Groups.{GroupKind, kind_of, Received, JobGroup, no_
 use Rattle.core_events.specs.Clients.{ClientState, client_state, client_after_call, ends_group}
 use Rattle.core_events.specs.Cells.{view_of, WorkerState, Free, Took, Worked, worker_of}
 use Rattle.core_events.specs.Fitting.{FitsCall, FitsWork, FitsReply, FlushSays, round_progress}
-use Rattle.core_events.specs.Runs.{IsCoreRun, CallSays, MoveSays, ShardSays}
+use Rattle.core_events.specs.Runs.{IsCoreRun, MoveSays, ShardSays}
 use Rattle.core_mails.specs.Histories.{DoneJob, job_done}
 use Rattle.core_mails.proofs.Places.{JobPlace, Nowhere, Asked, Answered, is_out, place, place_after_post, place_after_fetch, place_after_call, place_where, place_with_done, place_after_move}
 use Rattle.core_mails.proofs.Posted.{run-posted}

@@ -1,7 +1,6 @@
 -- What a client has fetched of a delta is the difference of what serial execution leaves for the two readers.
-use Rattle.std.proofs.Common.{◌≡◌, ◌∙◌, ℕ, zero, suc, ◌+◌, ◌%◌, ◌<◌, ◌≤◌, ◌==◌, Bool, true, false, true≢false, not, ◌&&◌, ◌||◌, List, [], ◌∷◌, ◌++◌, filter, Some, inl, inr, refl, sym, ap, subst, arith, eqb-true, eq-eqb, ne_eqb, append-nil, mod-lt}
+use Rattle.std.proofs.Common.{◌≡◌, ◌∙◌, ℕ, ◌+◌, ◌%◌, ◌==◌, Bool, true, false, true≢false, ◌||◌, List, [], ◌∷◌, ◌++◌, Some, refl, sym, ap, arith, eqb-true, append-nil, mod-lt}
 use Rattle.std.specs.List.{count_by}
-use Rattle.std.specs.List.Sorted.{IsPermutation}
 use Rattle.std.proofs.lemmas.Bool.{false≢true, or_parts}
 use Rattle.std.proofs.lemmas.List.Elements.{filter-append}
 use Rattle.cube_values.specs.declared.query.BoundQuery.{BoundQuery}
@@ -31,8 +30,8 @@ use Rattle.core_serial.proofs.Permutations.{count-of-both, counts-permuted, left
 use Rattle.core_bricks.proofs.Counts.{count-append}
 use Rattle.core_deltas.specs.Deltas.{rows_that_came, rows_that_went, came_by, went_by, HasCompared, IsDifference}
 use Rattle.core_deltas.proofs.DeltaRows.{IsBrickDelta, IsShardDelta, delta-of-shard, delta-as}
-use Rattle.core_deltas.proofs.FetchedAnswers.{AnswerFits, AnswersFit, run-answers}
-use Rattle.core_deltas.proofs.HeldReaders.{ComparesBy, is_comparing, run-compares}
+use Rattle.core_deltas.proofs.FetchedAnswers.{AnswersFit, run-answers}
+use Rattle.core_deltas.proofs.HeldReaders.{is_comparing, run-compares}
 
 -- What a reader sees stays while it is held.
 

@@ -1,5 +1,5 @@
 -- The readers of a delta are held under the holder numbers of its session.
-use Rattle.std.proofs.Common.{◌≡◌, ◌⊎◌, ◌∙◌, ℕ, ◌==◌, Bool, true, false, true≢false, not, cond, List, [], ◌∷◌, ◌++◌, map, filter, Option, Some, None, inl, inr, refl, sym, ap, subst, eqb-true, eq-eqb, ne_eqb, if◌then◌else◌}
+use Rattle.std.proofs.Common.{◌≡◌, ◌∙◌, ℕ, ◌==◌, Bool, true, false, true≢false, not, cond, List, [], ◌∷◌, ◌++◌, map, filter, Option, Some, None, inl, refl, sym, ap, subst, eq-eqb, ne_eqb, if◌then◌else◌}
 use Rattle.std.specs.List.{AllByRecursion}
 use Rattle.std.proofs.lemmas.Bool.{false≢true, eqb-false}
 use Rattle.std.proofs.lemmas.Option.{none-some}
@@ -7,7 +7,7 @@ use Rattle.cube_values.specs.declared.query.BoundQuery.{BoundQuery}
 use Rattle.cube_values.specs.declared.snapshot.Snapshot.{Snapshot}
 use Rattle.core_events.specs.Jobs.{CoreJob, Append, DropBox, Scan, Delta, Rollback, Purge, CopyRound, Flush}
 use Rattle.core_events.specs.Events.{Opening, IsSession, DeskCall, OpenWrite, OpenRead, Commit, AbortEnd, CloseRead, TakeNote, CreateCube, FindCube, CubesFrom, CountersNow, RoundOpen, RoundClose, StoreFailed, ClientCall, OnDesk, OnNames, Post, Fetch, CloseMail, NoChange, CoreEvent, By, At}
-use Rattle.core_events.specs.Groups.{GroupKind, Compares, kind_of, JobGroup, no_group, has_ended}
+use Rattle.core_events.specs.Groups.{GroupKind, Compares, kind_of, no_group, has_ended}
 use Rattle.core_events.specs.Clients.{Holding, ClientState, client_state, client_after_call, held_under, holds_without, holds_after, writer_at, reader_up_to, ends_group}
 use Rattle.core_events.specs.Fitting.{FitsCall, IsNumberOf, holder_epochs}
 use Rattle.core_events.specs.Runs.{IsCoreRun}

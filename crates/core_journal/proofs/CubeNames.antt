@@ -1,5 +1,5 @@
 -- Each entry of the journal agrees with the list of cubes.
-use Rattle.std.proofs.Common.{◌≡◌, ◌∙◌, ℕ, ◌+◌, ◌<◌, ◌≤◌, ◌==◌, Bool, true, false, true≢false, List, [], ◌∷◌, ◌++◌, length, refl, sym, ap, arith, eqb-true, length-append, if◌then◌else◌}
+use Rattle.std.proofs.Common.{◌≡◌, ◌∙◌, ℕ, ◌<◌, ◌≤◌, ◌==◌, Bool, true, false, true≢false, List, [], ◌∷◌, ◌++◌, length, refl, ap, arith, eqb-true, length-append, if◌then◌else◌}
 use Rattle.std.proofs.lemmas.Bool.{false≢true, eqb-false}
 use Rattle.cube_language.specs.CubesText.{cubes_limit}
 use Rattle.cube_language.specs.declared.decl.Decl.{Decl}
@@ -18,7 +18,6 @@ use Rattle.aosi_desk.proofs.Kept.{allowed-more, cubes_after_all-more, other_entr
 use Rattle.core_events.specs.Events.{Opening, OpenWrite, OpenRead, Commit, AbortEnd, CloseRead, TakeNote, CreateCube, FindCube, CubesFrom, CountersNow, RoundOpen, RoundClose, StoreFailed, ClientCall, OnDesk, OnNames, Post, Fetch, CloseMail, NoChange, CoreEvent, By, At}
 use Rattle.core_events.specs.Cells.{desk_of}
 use Rattle.core_events.specs.Runs.{IsCoreRun}
-use Rattle.core_desk.proofs.Agreement.{opening-of}
 use Rattle.core_journal.specs.Journals.{journal_of, names_spoken}
 
 -- A journal that the cubes allow, and the cubes that it leads to.

@@ -1,20 +1,19 @@
 -- Which entries a call leaves in the journal, and of which session.
-use Rattle.std.proofs.Common.{◌≡◌, ◌⊎◌, ◌∙◌, ℕ, ◌≤◌, ◌==◌, Bool, true, false, true≢false, List, [], ◌∷◌, ◌++◌, Option, Some, None, inl, inr, refl, sym, ap, arith, eqb-true, eq-eqb, ne_eqb}
-use Rattle.std.proofs.lemmas.Bool.{false≢true, false_from_ne_true}
+use Rattle.std.proofs.Common.{◌≡◌, ◌∙◌, ℕ, ◌==◌, true, false, true≢false, List, [], ◌∷◌, ◌++◌, Option, Some, None, inl, refl, sym, ap, arith, eqb-true, ne_eqb}
+use Rattle.std.proofs.lemmas.Bool.{false_from_ne_true}
 use Rattle.cube_journal.specs.declared.journal_entry.JournalEntry.{JournalEntry}
 use Rattle.cube_journal.specs.declared.note.Note.TheVariants as note
-use Rattle.cube_journal.specs.Counters.{JournalState, journal_state}
+use Rattle.cube_journal.specs.Counters.{journal_state}
 use Rattle.cube_journal.specs.Entries.{is_of_session}
 use Rattle.aosi_register.specs.declared.answer.RoundAnswer.TheVariants.{Target, Nothing}
 use Rattle.aosi_register.specs.declared.answer.RoundEnd.TheVariants.{Safe, Lost}
-use Rattle.aosi_register.specs.State.{RegisterState, state_of}
+use Rattle.aosi_register.specs.State.{RegisterState}
 use Rattle.aosi_desk.specs.declared.cube.CubeAnswer.TheVariants.{Created, Exists, TooMany}
 use Rattle.aosi_desk.specs.declared.cube.CubeFound.TheVariants.{Found, Unknown}
 use Rattle.core_events.specs.Events.{Opening, IsOpening, IsSession, OpenWrite, OpenRead, Commit, AbortEnd, CloseRead, TakeNote, CreateCube, FindCube, CubesFrom, CountersNow, RoundOpen, RoundClose, StoreFailed, ClientCall, OnDesk, OnNames, Post, Fetch, CloseMail, NoChange, CoreEvent, By, At}
 use Rattle.core_events.specs.Clients.{ClientState, is_own_entry, ends_group}
 use Rattle.core_events.specs.Cells.{desk_of, counters_of_run}
 use Rattle.core_events.specs.Fitting.{FitsCall, IsNumberOf}
-use Rattle.core_events.specs.Runs.{IsCoreRun}
 use Rattle.core_desk.proofs.Agreement.{one-session}
 use Rattle.core_desk.proofs.DeskSteps.{client_entry, desk_entry, register_with, register-step}
 use Rattle.core_journal.specs.Journals.{journal_of}

@@ -1,9 +1,9 @@
 -- The journal of a run is legal.
-use Rattle.std.proofs.Common.{◌≡◌, ◌∙◌, ℕ, Bool, true, false, List, [], ◌∷◌, ◌++◌, Option, Some, None, refl, sym, ap, arith}
+use Rattle.std.proofs.Common.{◌≡◌, ◌∙◌, ℕ, false, List, [], ◌∷◌, Option, Some, None, refl, sym, ap, arith}
 use Rattle.cube_journal.specs.declared.journal_entry.JournalEntry.{JournalEntry}
 use Rattle.cube_journal.specs.declared.journal_entry.JournalEntry.TheVariants as entry
 use Rattle.cube_journal.specs.declared.note.Note.TheVariants as note
-use Rattle.cube_journal.specs.Counters.{JournalState, journal_state}
+use Rattle.cube_journal.specs.Counters.{JournalState}
 use Rattle.cube_journal.specs.Legal.{CountersAllow, CountersAllowAll, WasFlushed, WasSafe, IsLegal}
 use Rattle.cube_journal.proofs.Orders.{legal-with}
 use Rattle.aosi_register.specs.declared.answer.RoundAnswer.TheVariants.{Target, Nothing}

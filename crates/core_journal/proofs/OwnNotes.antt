@@ -1,28 +1,28 @@
 -- What a session was told of a FLUSH, of a store that was lost and of LSE since its last entry stands in the journal.
-use Rattle.std.proofs.Common.{◌≡◌, ◌∙◌, ℕ, ◌==◌, Bool, true, false, true≢false, ◌||◌, List, [], ◌∷◌, ◌++◌, append-nil, Option, Some, None, refl, sym, ap, arith, eqb-true, eq-eqb, if◌then◌else◌}
+use Rattle.std.proofs.Common.{◌≡◌, ◌∙◌, ℕ, ◌==◌, Bool, true, false, ◌||◌, List, [], ◌∷◌, append-nil, Option, Some, None, refl, sym, ap, eqb-true, eq-eqb, if◌then◌else◌}
 use Rattle.std.specs.List.{AllByRecursion}
 use Rattle.std.proofs.lemmas.Bool.{false≢true}
 use Rattle.std.proofs.lemmas.Option.{none-some, same_Some}
 use Rattle.cube_journal.specs.declared.journal_entry.JournalEntry.{JournalEntry}
 use Rattle.cube_journal.specs.declared.journal_entry.JournalEntry.TheVariants as entry
 use Rattle.cube_journal.specs.declared.journal_entry.LostCause.TheVariants as cause
-use Rattle.cube_journal.specs.Counters.{JournalState, journal_state, state_after}
+use Rattle.cube_journal.specs.Counters.{JournalState, state_after}
 use Rattle.cube_journal.specs.Legal.{WasFlushed, WasSafe}
 use Rattle.core_events.specs.Jobs.{CoreJob, Append, DropBox, Scan, Delta, Rollback, Purge, CopyRound, Flush, JobAnswer, Done, ShardFull, Found, Compared, Copied, StoreLost, OutOfMemory}
 use Rattle.core_events.specs.Events.{Opening, IsSession, flusher, OpenWrite, OpenRead, Commit, AbortEnd, CloseRead, TakeNote, CreateCube, FindCube, CubesFrom, CountersNow, RoundOpen, RoundClose, StoreFailed, ClientCall, OnDesk, OnNames, Post, Fetch, CloseMail, NoChange, WorkerMove, CoreEvent, By, At}
 use Rattle.core_events.specs.Groups.{GroupKind, Flushes, kind_of, has_number}
 use Rattle.core_events.specs.Clients.{ClientState, client_state, client_after_call, is_own_entry, ends_group, flush_after, flush_after_fetch, lse_in, with_lse}
 use Rattle.core_events.specs.Cells.{counters_of_run, view_of, Took, worker_of}
-use Rattle.core_events.specs.Fitting.{FitsCall, FlushSays, round_progress}
+use Rattle.core_events.specs.Fitting.{FlushSays, round_progress}
 use Rattle.core_events.specs.Runs.{IsCoreRun, ShardSays}
 use Rattle.core_desk.proofs.Agreement.{opening-of, round-agrees}
 use Rattle.core_desk.proofs.DeskSteps.{client_entry, state_with_entry, run-step}
-use Rattle.core_mails.proofs.Places.{JobPlace, Nowhere, Asked, Answered, place}
+use Rattle.core_desk.proofs.RoundEnds.{closes_round, lse-same}
+use Rattle.core_mails.proofs.Places.{place}
 use Rattle.core_mails.proofs.Posted.{run-posted}
 use Rattle.core_runs.proofs.Asking.{SuitsAt, run-suits}
 use Rattle.core_runs.proofs.Isolation.{shown-lse}
 use Rattle.core_deltas.proofs.FetchedAnswers.{PlaceClaims, run-places}
-use Rattle.core_copies.proofs.OpenRounds.{closes_round, lse-same}
 use Rattle.core_journal.specs.Journals.{journal_of}
 use Rattle.core_journal.proofs.Entries.{journal_with, journal-step, run-counters, IsNotOf, entry-not-of, goes-unnoted}
 use Rattle.core_journal.proofs.RoundNotes.{saved-noted}

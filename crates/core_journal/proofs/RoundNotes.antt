@@ -1,6 +1,6 @@
 -- While the flusher does a FLUSH of a session, the journal has its rounds since the session's last entry.
-use Rattle.std.proofs.Common.{◌≡◌, ◌∙◌, ℕ, ◌==◌, Bool, true, false, true≢false, ◌&&◌, List, [], ◌∷◌, ◌++◌, Option, Some, None, refl, sym, ap, eqb-true, eq-eqb, ne_eqb}
-use Rattle.std.proofs.lemmas.Bool.{false≢true, eqb-false}
+use Rattle.std.proofs.Common.{◌≡◌, ◌∙◌, ℕ, ◌==◌, Bool, true, false, true≢false, List, [], ◌∷◌, ◌++◌, refl, sym, ap, eqb-true}
+use Rattle.std.proofs.lemmas.Bool.{false≢true}
 use Rattle.cube_journal.specs.declared.journal_entry.JournalEntry.{JournalEntry}
 use Rattle.cube_journal.specs.declared.journal_entry.JournalEntry.TheVariants as entry
 use Rattle.cube_journal.specs.declared.note.Note.TheVariants as note
@@ -12,13 +12,13 @@ use Rattle.aosi_desk.specs.declared.cube.CubeAnswer.TheVariants.{Created, Exists
 use Rattle.aosi_desk.specs.declared.cube.CubeFound.TheVariants.{Found, Unknown}
 use Rattle.core_events.specs.Jobs.{CoreJob, Flush, JobAnswer}
 use Rattle.core_events.specs.Events.{Opening, IsSession, flush_mail, OpenWrite, OpenRead, Commit, AbortEnd, CloseRead, TakeNote, CreateCube, FindCube, CubesFrom, CountersNow, RoundOpen, RoundClose, StoreFailed, ClientCall, OnDesk, OnNames, Post, Fetch, CloseMail, NoChange, WorkerMove, Take, NoJob, Work, Reply, CoreEvent, By, At}
-use Rattle.core_events.specs.Clients.{ClientState, client_state, is_own_entry, ends_group}
+use Rattle.core_events.specs.Clients.{ClientState, client_state, ends_group}
 use Rattle.core_events.specs.Cells.{WorkerState, Free, Took, Worked, worker_after, worker_of}
 use Rattle.core_events.specs.Fitting.{FitsCall, IsFor, RoundProgress, NoRound, RoundUnderWay, AllSaved, progress_after_call, progress_after_move, round_progress}
 use Rattle.core_events.specs.Runs.{IsCoreRun}
 use Rattle.core_desk.proofs.Agreement.{opening-of}
 use Rattle.core_desk.proofs.DeskSteps.{client_entry}
-use Rattle.core_mails.proofs.Places.{JobPlace, Nowhere, Asked, Answered, is_out, nowhere-asked, place, place_after_post, place_after_call}
+use Rattle.core_mails.proofs.Places.{JobPlace, Asked, is_out, nowhere-asked, place, place_after_post, place_after_call}
 use Rattle.core_mails.proofs.Posted.{run-posted}
 use Rattle.core_runs.proofs.Asking.{own-fits}
 use Rattle.core_runs.proofs.Isolation.{fetch-back, move-back, out-goes-on}
