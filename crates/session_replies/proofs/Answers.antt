@@ -1,5 +1,5 @@
 -- The replies to statements that are done.
-use Rattle.std.proofs.Common.{◌≡◌, ℕ, zero, suc, Bool, List, [], ◌∷◌, Option, Some, None, refl, subst}
+use Rattle.std.proofs.Common.{◌≡◌, ℕ, zero, suc, List, [], ◌∷◌, None, refl}
 use Rattle.std.specs.Option.{option_map}
 use Rattle.cube_language.specs.Cubes.{schema_fault, first_some}
 use Rattle.cube_language.specs.declared.decl.Decl.{Decl}
@@ -12,7 +12,7 @@ use Rattle.cube_journal.specs.declared.refusal.Refusal.TheVariants as refusal
 use Rattle.cube_journal.specs.declared.reply.Reply.TheVariants as reply
 use Rattle.cube_values.specs.declared.snapshot.Snapshot.{Snapshot}
 use Rattle.cube_run.specs.Merge.{RoundFollows, round_is_due}
-use Rattle.cube_run.specs.RunRecords.{RunRecord, Sentence, Says, catalog_of}
+use Rattle.cube_run.specs.RunRecords.{RunRecord, Says}
 use Rattle.cube_run.specs.RunText.{IsReply, state_before}
 use Rattle.cube_run.specs.SessionStates.{Mode, Idle, Open, Aborted}
 use Rattle.cube_run.specs.SessionSteps.{SessionStep, journal_before}

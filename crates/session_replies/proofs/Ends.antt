@@ -1,5 +1,5 @@
 -- How a step ends that its parts tell.
-use Rattle.std.proofs.Common.{◌≡◌, ◌∙◌, ℕ, ◌+◌, ◌%◌, ◌==◌, zero, suc, Bool, true, false, ◌&&◌, List, [], ◌∷◌, Option, Some, None, refl, sym, ap, subst}
+use Rattle.std.proofs.Common.{◌≡◌, ℕ, ◌+◌, ◌%◌, ◌==◌, zero, suc, Bool, false, ◌&&◌, List, [], ◌∷◌, Option, Some, None, refl, sym, ap, subst}
 use Rattle.std.specs.List.{list_any}
 use Rattle.cube_language.specs.declared.misfit.Misfit.{Misfit}
 use Rattle.cube_language.specs.declared.statement.Statement.{Statement}
@@ -11,7 +11,7 @@ use Rattle.cube_run.specs.RunRecords.{RunRecord, Sentence, Says, catalog_of}
 use Rattle.cube_run.specs.RunText.{IsReply}
 use Rattle.cube_run.specs.SessionStates.{KeptWatch, Mode, is_commit}
 use Rattle.cube_run.specs.SessionSteps.{SessionStep}
-use Rattle.cube_run.specs.StepOutcomes.{IsMisfitOf, Meets, MeetsAtBinding, bound_refusal, data_refusal, refused_by_mode, refused_by_watch, refused_declaration, told_unknown}
+use Rattle.cube_run.specs.StepOutcomes.{Meets, bound_refusal, refused_by_mode, refused_by_watch, refused_declaration, told_unknown}
 use Rattle.cube_language.specs.Cubes.{first_some}
 use Rattle.session_replies.specs.StepParts.{IsStep}
 use Rattle.session_replies.proofs.Fitting.{misfit_of}

@@ -1,12 +1,11 @@
 -- The replies to statements that are refused and leave nothing else.
-use Rattle.std.proofs.Common.{◌≡◌, ℕ, Bool, true, false, List, [], ◌∷◌, Option, Some, None, refl, ap, sym, subst, ◌∙◌}
+use Rattle.std.proofs.Common.{◌≡◌, ℕ, true, false, List, [], ◌∷◌, Some, None, refl, ap, sym, subst, ◌∙◌}
 use Rattle.std.specs.Option.{option_map}
 use Rattle.std.proofs.lemmas.Bool.{both_ways}
 use Rattle.std.proofs.lemmas.Option.{none-some, same_Some}
 use Rattle.cube_language.specs.Cubes.{schema_fault, first_some}
 use Rattle.cube_language.specs.declared.cubes_fault.SchemaFault.{SchemaFault}
 use Rattle.cube_language.specs.declared.decl.Decl.{Decl}
-use Rattle.cube_language.specs.declared.misfit.Misfit.{Misfit}
 use Rattle.cube_language.specs.declared.statement.Statement.{Statement}
 use Rattle.cube_language.specs.declared.statement.Statement.TheVariants.{Begin, Commit, Rollback, Flush, Purge, ShowEpochs, CreateCube}
 use Rattle.cube_journal.specs.Refusals.{code, of_misfit}

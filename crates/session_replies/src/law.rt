@@ -31,10 +31,12 @@ pub fn transactions_are_answered()
     ensures begun { (run : RunRecord) (step : SessionStep) (epoch : ℕ) (deps : List ℕ)
         → IsStep step Idle (Says Begin) (entry.Begin step.session step.number epoch deps ∷ [])
         → IsReply run step (reply.Begun epoch) }
-    ensures committed { (run : RunRecord) (step : SessionStep) (writer : Snapshot) (round : List JournalEntry)
+    ensures committed { (run : RunRecord) (step : SessionStep) (writer : Snapshot)
+        (round : List JournalEntry)
         → IsStep step (Open writer) (Says Commit)
         (entry.Committed step.session step.number writer.epoch ∷ round)
-        → RoundFollows step.session step.number (round_follows run.round_every step.state.commits) round
+        → RoundFollows step.session step.number
+        (round_follows run.round_every step.state.commits) round
         → IsReply run step (reply.Committed writer.epoch) }
     ensures rolled_back { (run : RunRecord) (step : SessionStep) (writer : Snapshot)
         → IsStep step (Open writer) (Says Rollback)
@@ -85,10 +87,12 @@ pub fn refusals_are_answered()
     ensures syntax { (run : RunRecord) (step : SessionStep) (mode : Mode) (at : ℕ)
         → IsStep step mode (SaysNone at) (entry.Refused step.session step.number 1 ∷ [])
         → IsReply run step (reply.Refused (refusal.Syntax (record { at = at }))) }
-    ensures by_mode { (run : RunRecord) (step : SessionStep) (mode : Mode) (s : Statement) (r : Refusal)
+    ensures by_mode { (run : RunRecord) (step : SessionStep) (mode : Mode) (s : Statement)
+        (r : Refusal)
         → IsStep step mode (Says s) (entry.Refused step.session step.number (code r) ∷ [])
         → refused_by_mode mode s ≡ Some r → IsReply run step (reply.Refused r) }
-    ensures unknown { (run : RunRecord) (step : SessionStep) (mode : Mode) (s : Statement) (name : List ℕ)
+    ensures unknown { (run : RunRecord) (step : SessionStep) (mode : Mode) (s : Statement)
+        (name : List ℕ)
         → IsStep step mode (Says s) (entry.Refused step.session step.number 2 ∷ [])
         → refused_by_mode mode s ≡ None → refused_by_watch step.state.watch s ≡ None
         → cube_needed s ≡ Some name → IsReply run step (reply.Refused (refusal.UnknownCube name)) }

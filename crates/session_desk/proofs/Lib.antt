@@ -1,0 +1,11 @@
+pub mod RoundEntries
+pub mod Following
+pub mod May
+pub mod Growing
+pub mod Begun
+pub mod Staying
+pub mod Refused
+pub mod Replying
+pub mod Finishing
+pub mod Asking
+pub mod Making

@@ -1,0 +1,20 @@
+use Rattle.std.proofs.Common.{◌≡◌, ◌+◌, refl}
+use Rattle.cube_journal.specs.declared.journal_entry.JournalEntry.TheVariants as entry
+use Rattle.cube_journal.specs.declared.refusal.Refusal.TheVariants as refusal
+use Rattle.cube_run.specs.RunRecords.{SaysNone}
+use Rattle.aosi_desk.specs.Desks.{desk_with_entry}
+use Rattle.session_desk.specs.Executed.{ExecutesAtDesk}
+use Rattle.session_desk.proofs.Refused.{refuses_syntax}
+use Rattle.session_desk.proofs.Replying.{counted, if_refused, refuses_next}
+use Rattle.session_desk.proofs.refusals.refuse_syntax.Goals as goal
+
+pub returns-clause-executed : goal.returns-clause-executed
+returns-clause-executed c =
+    let desk = c.args.desk.now in
+    let session = c.args.session.now in
+    if_refused c.refuse.result (refusal.Syntax c.args.fault)
+    (ExecutesAtDesk (SaysNone c.args.fault.at) desk session c.refuse.new.desk (counted session))
+    (c.refuse.new.desk ≡ desk_with_entry desk (entry.Refused 1 (session.statements + 1) 1))
+    c.refuse.ensures.said c.refuse.ensures.desk
+    (λ added. refuses_syntax c.args.fault.at desk session c.refuse.new.desk (counted session)
+    (refuses_next 1 desk session desk c.refuse.new.desk refl added))

@@ -1,0 +1,44 @@
+use Rattle.std.proofs.Common.{◌∙◌, ◌+◌, ℕ, ap, refl, subst, sym}
+use Rattle.cube_values.specs.declared.snapshot.Snapshot.{Snapshot}
+use Rattle.cube_language.specs.declared.statement.Statement.TheVariants.{Begin}
+use Rattle.cube_journal.specs.declared.reply.Reply.TheVariants as reply
+use Rattle.cube_run.specs.RunRecords.{Says}
+use Rattle.cube_run.specs.SessionStates.{Open}
+use Rattle.aosi_register.specs.State.{after_begin}
+use Rattle.aosi_desk.specs.Desks.{desk_over}
+use Rattle.session_replies.specs.declared.mode.SessionMode.TheVariants as variant
+use Rattle.session_desk.specs.declared.session.Session.{Session}
+use Rattle.session_desk.specs.Executed.{ExecutesAtDesk}
+use Rattle.session_desk.proofs.Begun.{begin_executes}
+use Rattle.session_desk.proofs.May.{begin_idle}
+use Rattle.session_desk.proofs.Replying.{memory_refused}
+use Rattle.session_desk.proofs.transactions.begin.Goals as goal
+
+pub returns-in-Ok-clause-executed : goal.returns-in-Ok-clause-executed
+returns-in-Ok-clause-executed c =
+    let desk = c.args.desk.now in
+    let session = c.args.session.now in
+    let snapshot = c.in-Ok.ensures.snapshot in
+    let now : Session = record {
+      mode = variant.Open c.in-Ok.writer;
+      statements = session.statements + 1;
+      commits = session.commits;
+      round_every = session.round_every;
+    } in
+    subst (λ (e : ℕ). ExecutesAtDesk (Says Begin) desk session c.open_write.new.self now (reply.Begun e))
+    (sym (ap (λ (s : Snapshot). s.epoch) snapshot))
+    (begin_executes desk session c.open_write.new.self now (record {
+      was = begin_idle session.mode c.requires.may;
+      desk_is =
+          c.in-Ok.ensures.desk
+          ∙ ap (λ (s : Snapshot). desk_over desk (after_begin desk.register 1 (session.statements + 1) s)) snapshot;
+      mode_is = ap (λ (s : Snapshot). Open s) snapshot;
+      statements = refl;
+      commits = refl;
+      every = refl;
+    }))
+
+pub returns-in-Err-clause-executed : goal.returns-in-Err-clause-executed
+returns-in-Err-clause-executed c =
+    memory_refused (Says Begin) c.refuse.result c.args.desk.now c.args.session.now c.open_write.new.self
+    c.refuse.new.desk c.in-Err.ensures.same c.refuse.ensures.said c.refuse.ensures.desk

@@ -1,0 +1,6 @@
+pub mod AtDesk
+pub mod Standing
+pub mod Executed
+pub mod Entries
+pub mod Ended
+pub mod CubeReplies

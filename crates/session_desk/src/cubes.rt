@@ -1,0 +1,128 @@
+//! CREATE CUBE.
+
+ghost use Rattle.std.specs.Prelude.{◌≡◌, ◌+◌, ◌<◌, None, Some, IfOk};
+ghost use Rattle.cube_language.specs.declared.statement.Statement.TheVariants as statement;
+ghost use Rattle.cube_language.specs.Cubes.{IsStorable, schema_fault};
+ghost use Rattle.cube_run.specs.RunRecords.{Says};
+ghost use Rattle.cube_run.specs.SessionStates.{Idle};
+ghost use Rattle.cube_run.specs.StepOutcomes.{refused_by_mode};
+ghost use Rattle.session_replies.specs.Modes.{mode_of};
+ghost use Rattle.session_desk.specs.AtDesk.{IsAtDesk};
+ghost use Rattle.session_desk.specs.CubeReplies.{created_reply};
+ghost use Rattle.session_desk.specs.Executed.{ExecutesAtDesk, IfReplied};
+
+use crate::answered::Answered;
+use crate::refusals::refuse_memory;
+use crate::refusing::refuse;
+use crate::session::{SESSION, Session};
+use aosi_desk::{CubeAnswer, Desk};
+use cube_journal::{Refusal, Reply};
+use cube_language::{Decl, MOST_STATEMENTS, SchemaFault};
+use cube_schema::check;
+use cube_values::{CallError, Text};
+use std::alloc::{AllocError, Global};
+
+/// The reply to who asked for a cube of this name.
+fn created_reply(answer: CubeAnswer, name: Text) -> Reply
+    ensures { result ≡ created_reply answer name }
+{
+    match answer {
+        CubeAnswer::Created { epoch, .. } => Reply::Created { epoch },
+        CubeAnswer::Exists => Reply::Refused {
+            refusal: Refusal::CubeExists { name },
+        },
+        CubeAnswer::TooMany => Reply::Refused {
+            refusal: Refusal::TooManyCubes,
+        },
+    }
+}
+
+/// Makes a cube that can be stored, if none has its name, of which this is a copy, and there is a place for it.
+fn create_named(desk: &mut Desk, session: &mut Session, decl: Decl, name: Text) -> Answered
+    requires at { IsAtDesk desk.old session.old }
+    requires few { session.old.statements < MOST_STATEMENTS }
+    requires idle { mode_of session.old.mode ≡ Idle }
+    requires storable { IsStorable decl }
+    requires copy { name ≡ decl.name }
+    ensures at { IsAtDesk desk.new session.new }
+    ensures number { session.new.statements ≡ session.old.statements + 1 }
+    ensures executed { IfReplied result
+        (ExecutesAtDesk (Says (statement.CreateCube decl))
+        desk.old session.old desk.new session.new) }
+{
+    session.statements += 1;
+    match desk.create_cube(SESSION, session.statements, decl) {
+        Ok(answer) => Answered::Replied(created_reply(answer, name)),
+        Err(_) => refuse(desk, session.statements, Refusal::NoMemory),
+    }
+}
+
+fn copy_name(name: &Text) -> Result<Text, AllocError>
+    ensures { IfOk result (λ n. n ≡ name.now) }
+{
+    name.clone()
+}
+
+/// Refuses a CREATE CUBE for which memory ran out.
+fn refuse_create(desk: &mut Desk, session: &mut Session, decl: &Decl) -> Answered
+    requires at { IsAtDesk desk.old session.old }
+    requires few { session.old.statements < MOST_STATEMENTS }
+    ensures at { IsAtDesk desk.new session.new }
+    ensures number { session.new.statements ≡ session.old.statements + 1 }
+    ensures executed { IfReplied result (ExecutesAtDesk (Says (statement.CreateCube decl.now))
+        desk.old session.old desk.new session.new) }
+{
+    refuse_memory(desk, session)
+}
+
+/// Makes a cube that can be stored, if none has its name and there is a place for it.
+fn create_storable(desk: &mut Desk, session: &mut Session, decl: Decl) -> Answered
+    requires at { IsAtDesk desk.old session.old }
+    requires few { session.old.statements < MOST_STATEMENTS }
+    requires idle { mode_of session.old.mode ≡ Idle }
+    requires storable { IsStorable decl }
+    ensures at { IsAtDesk desk.new session.new }
+    ensures number { session.new.statements ≡ session.old.statements + 1 }
+    ensures executed { IfReplied result
+        (ExecutesAtDesk (Says (statement.CreateCube decl))
+        desk.old session.old desk.new session.new) }
+{
+    match copy_name(&decl.name) {
+        Ok(name) => create_named(desk, session, decl, name),
+        Err(_) => refuse_create(desk, session, &decl),
+    }
+}
+
+/// Refuses a CREATE CUBE whose declaration cannot be stored.
+fn refuse_fault(desk: &mut Desk, session: &mut Session, decl: &Decl, fault: SchemaFault) -> Answered
+    requires at { IsAtDesk desk.old session.old }
+    requires few { session.old.statements < MOST_STATEMENTS }
+    requires idle { mode_of session.old.mode ≡ Idle }
+    requires fault { schema_fault decl.now ≡ Some fault }
+    ensures at { IsAtDesk desk.new session.new }
+    ensures number { session.new.statements ≡ session.old.statements + 1 }
+    ensures executed { IfReplied result (ExecutesAtDesk (Says (statement.CreateCube decl.now))
+        desk.old session.old desk.new session.new) }
+{
+    session.statements += 1;
+    refuse(desk, session.statements, Refusal::BadCube { fault })
+}
+
+/// CREATE CUBE: makes the cube, if it can be stored, none has its name and there is a place for it. Its
+/// dictionaries and rows are to be made beside this.
+pub fn create_cube(alloc: Global, desk: &mut Desk, session: &mut Session, decl: Decl) -> Answered
+    requires at { IsAtDesk desk.old session.old }
+    requires few { session.old.statements < MOST_STATEMENTS }
+    requires may { refused_by_mode (mode_of session.old.mode) (statement.CreateCube decl) ≡ None }
+    ensures at { IsAtDesk desk.new session.new }
+    ensures number { session.new.statements ≡ session.old.statements + 1 }
+    ensures executed { IfReplied result
+        (ExecutesAtDesk (Says (statement.CreateCube decl))
+        desk.old session.old desk.new session.new) }
+{
+    match check(alloc, &decl) {
+        Ok(_) => create_storable(desk, session, decl),
+        Err(CallError::Fault(fault)) => refuse_fault(desk, session, &decl, fault),
+        Err(_) => refuse_create(desk, session, &decl),
+    }
+}

@@ -1,0 +1,40 @@
+//! The end of the script, and the closing round.
+
+ghost use Rattle.std.specs.Prelude.{◌≡◌, ◌≤◌, OnOk, OnErr};
+ghost use Rattle.one_session.specs.Pasts.{Beginning, SessionPast};
+ghost use Rattle.cube_run.specs.SessionStates.{SessionState};
+ghost use Rattle.session_desk.specs.AtDesk.{IsAtDesk, IsOpen};
+ghost use Rattle.session_desk.specs.Ended.{EndsAtDesk, HasEnded};
+
+use crate::rounds::make_round;
+use crate::session::{SESSION, Session};
+use aosi_desk::Desk;
+use cube_journal::AbortCause;
+use cube_language::MOST_STATEMENTS;
+use session_replies::SessionMode;
+use std::alloc::AllocError;
+
+/// The end of the script: a transaction that is open is rolled back. What it wrote is to be undone beside this.
+pub fn end(desk: &mut Desk, session: &mut Session)
+    requires at { IsAtDesk desk.old session.old }
+    requires few { session.old.statements ≤ MOST_STATEMENTS }
+    ensures at { IsAtDesk desk.new session.new }
+    ensures closed { IsOpen session.new.mode → ⊥ }
+    ensures ended { EndsAtDesk desk.old session.old desk.new }
+{
+    if let SessionMode::Open { .. } = session.mode {
+        desk.abort_end(SESSION, session.statements + 1, AbortCause::EndOfScript);
+        session.mode = SessionMode::Idle;
+    }
+}
+
+/// The closing round, once the script has ended. The only error is out of memory.
+pub fn close(desk: &mut Desk, session: &Session) -> Result<(), AllocError>
+    requires at { IsAtDesk desk.old session.now }
+    ensures at { IsAtDesk desk.new session.now }
+    ensures ended { OnOk result ((beginning : Beginning) (past : SessionPast) (state : SessionState)
+        → HasEnded beginning past state desk.old → HasEnded beginning past state desk.new) }
+    ensures same { OnErr result (desk.new ≡ desk.old) }
+{
+    make_round(desk)
+}

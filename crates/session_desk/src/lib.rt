@@ -1,0 +1,22 @@
+//! The statements of the one session of a run that touch no rows, at its desk.
+#![tactic(auto)]
+
+mod answered;
+mod cubes;
+mod ending;
+mod refusals;
+mod refusing;
+mod requests;
+mod rounds;
+mod session;
+mod start;
+mod transactions;
+
+pub use answered::Answered;
+pub use cubes::create_cube;
+pub use ending::{close, end};
+pub use refusals::{refuse_by_mode, refuse_memory, refuse_syntax};
+pub use requests::{flush, purge, show_epochs};
+pub use rounds::follow_commit;
+pub use session::Session;
+pub use transactions::{begin, commit, rollback};

@@ -1,0 +1,46 @@
+//! Refusals at the desk.
+
+ghost use Rattle.std.specs.Prelude.{◌≡◌, ◌≢◌, false, OnOk, OnErr};
+ghost use Rattle.cube_journal.specs.Refusals.{code};
+ghost use Rattle.cube_journal.specs.declared.journal_entry.JournalEntry.TheVariants as entry;
+ghost use Rattle.cube_journal.specs.declared.reply.Reply.TheVariants as reply;
+ghost use Rattle.aosi_desk.specs.Desks.{desk_with_entry, is_cube_code};
+ghost use Rattle.session_desk.specs.Executed.{IfReplied, OnStopped};
+
+use crate::answered::Answered;
+use crate::session::SESSION;
+use aosi_desk::Desk;
+use cube_journal::{Note, Refusal, Reply};
+use std::alloc::AllocError;
+
+/// Adds the entry of a refusal that neither the list of cubes nor the store is the cause of. The only error is
+/// out of memory.
+pub(crate) fn note_refusal(desk: &mut Desk, statement: u32, code: u32) -> Result<(), AllocError>
+    requires cubes { is_cube_code code ≡ false }
+    requires store { code ≢ 17 }
+    ensures desk { OnOk result (desk.new
+        ≡ desk_with_entry desk.old (entry.Refused 1 statement code)) }
+    ensures same { OnErr result (desk.new ≡ desk.old) }
+{
+    let _counters = desk.note(&Note::Refused {
+        session: SESSION,
+        statement,
+        code,
+    })?;
+    Ok(())
+}
+
+/// Adds the entry of such a refusal, and answers it.
+pub(crate) fn refuse(desk: &mut Desk, statement: u32, refusal: Refusal) -> Answered
+    requires cubes { is_cube_code (code refusal) ≡ false }
+    requires store { code refusal ≢ 17 }
+    ensures said { IfReplied result (λ said. said ≡ reply.Refused refusal) }
+    ensures desk { IfReplied result (λ said. desk.new
+        ≡ desk_with_entry desk.old (entry.Refused 1 statement (code refusal))) }
+    ensures same { OnStopped result (desk.new ≡ desk.old) }
+{
+    match note_refusal(desk, statement, refusal.code()) {
+        Ok(()) => Answered::Replied(Reply::Refused { refusal }),
+        Err(_) => Answered::Stopped,
+    }
+}
