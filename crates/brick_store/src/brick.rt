@@ -251,6 +251,13 @@ impl Brick {
         self.epochs.entries()
     }
 
+    /// The brick's number.
+    pub fn number(&self) -> u64
+        ensures { result ≡ self.now.home.number }
+    {
+        self.number
+    }
+
     /// How many rows there are. Each lies in the brick.
     pub fn len(&self) -> u64
         ensures rows { result ≡ length self.now.rows }

@@ -1,0 +1,13 @@
+pub mod Births
+pub mod Lists
+pub mod Counts
+pub mod BatchRuns
+pub mod Placed
+pub mod Content
+pub mod EachBrick
+pub mod Appending
+pub mod Coverage
+pub mod Scans
+pub mod Newborn
+pub mod Readied
+pub mod Cubes
