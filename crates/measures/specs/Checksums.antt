@@ -1,10 +1,8 @@
 -- The checksum of each hot call, by the data that it worked on.
-use Rattle.std.specs.Prelude.{◌≡◌, ◌⊎◌, ℕ, ◌+◌, ◌-◌, ◌%◌, ◌^◌, List, length, map, unsigned_abs}
+use Rattle.std.specs.Prelude.{◌≡◌, ◌⊎◌, ℕ, ◌+◌, ◌-◌, ◌%◌, ◌^◌, List, length, map}
 use Rattle.std.specs.List.{sum_by, range_with_len}
 use Rattle.std.specs.Option.{option_map_or}
 use Rattle.cube_values.specs.declared.entry.Entry.{Entry}
-use Rattle.cube_values.specs.declared.table.Field.{Field}
-use Rattle.cube_values.specs.declared.table.Field.TheVariants.{Whole}
 use Rattle.cube_values.specs.BitRows.{set_bits}
 use Rattle.cube_language.specs.declared.piece.ScriptFault.{ScriptFault}
 use Rattle.cube_language.specs.declared.piece.Piece.{Piece}
@@ -31,18 +29,6 @@ codes_sum known names = sum_by (λ name. option_map_or (λ n. n + 1) (code_of kn
 abbrev pub purge_sum : ℕ → List Entry → ℕ
 purge_sum p entries = (length (spared_bits p entries) - set_bits (spared_bits p entries)
     + length (purged_entries p entries)) % 2 ^ 64
-
--- What a field counts: a whole number without its sign, and nothing else.
-abbrev pub field_count : Field → ℕ
-field_count (Whole n) = unsigned_abs n
-field_count field = 0
-
--- Of a line of an answer, and of an answer: the fields' counts, in 64 bits.
-abbrev pub line_sum : List Field → ℕ
-line_sum line = sum_by field_count line % 2 ^ 64
-
-abbrev pub table_sum : List (List Field) → ℕ
-table_sum table = sum_by line_sum table % 2 ^ 64
 
 -- Of counters: their sum, in 64 bits.
 abbrev pub counters_sum : List ℕ → ℕ

@@ -1,6 +1,7 @@
 -- Names encoded one after the other.
-use Rattle.std.specs.Prelude.{ℕ, List, [], ◌∷◌}
+use Rattle.std.specs.Prelude.{ℕ, List, [], ◌∷◌, map}
 use Rattle.std.specs.Option.{option_map_or}
+use Rattle.arrayvec.specs.ArrayString.{ArrayString}
 use Rattle.known_names.specs.KnownTexts.{with_text}
 use Rattle.names_dict.specs.Dictionaries.{Dictionary, code_of, number_of, with_code}
 
@@ -18,3 +19,7 @@ abbrev pub known_by : Dictionary → List (List ℕ × ℕ) → List (List ℕ) 
 known_by d known [] = known
 known_by d known (name ∷ names) =
     known_by d (with_text known name (option_map_or (λ n. n) (number_of d name) 0)) names
+
+-- The texts of names that are kept in place.
+abbrev pub texts_of_names : List ArrayString → List (List ℕ)
+texts_of_names names = map (λ name. name.bytes) names

@@ -1,6 +1,5 @@
 pub mod Checksums
 pub mod Encoded
-pub mod Folded
 pub mod Lines
 pub mod Loads
 pub mod Words

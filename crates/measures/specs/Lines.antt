@@ -2,7 +2,7 @@
 use Rattle.std.specs.Prelude.{ℕ, ◌*◌, ◌/◌, ◌%◌, ◌&&◌, nat_lt, List, [], ◌++◌, codes, if◌then◌else◌}
 use Rattle.std.specs.Fmt.{decimal}
 use Rattle.measures.specs.declared.request.Request.{Request}
-use Rattle.measures.specs.declared.work.Measured.{Measured}
+use Rattle.timed_work.specs.declared.work.Measured.{Measured}
 use Rattle.measures.specs.Words.{done_of}
 
 -- So many tenths as a number with one decimal.

@@ -2,8 +2,22 @@
 use Rattle.std.specs.Prelude.{◌≡◌, ℕ, ◌<◌, ◌^◌, Bool, true, false, ◌&&◌, nat_le, List, [], ◌∷◌, Option, Some, None, bytes_eq, codes, if◌then◌else◌}
 use Rattle.std.specs.Str.Parse.{IsNumeral, digits_value, without_leading_plus}
 use Rattle.measures.specs.declared.request.HotPath.{HotPath}
-use Rattle.measures.specs.declared.request.HotPath.TheVariants.{Split, Encode, Lookup, Known, Visible, Plan, Fold, Mail, Desk, Lock, Call, Cells, Records, LoadStep}
+use Rattle.measures.specs.declared.request.HotPath.TheVariants.{Split, Encode, Lookup, Known, Visible, Plan, Fold, Mail, Desk, Lock, Call, Cells, Records, LoadStep, Digest, RoundWrite, RoundRead, Copy, BrickAppend, Sum, BrickScan, BrickCount, BrickKeep}
 use Rattle.measures.specs.declared.request.Request.{Request}
+
+-- The path of a name among those over rounds and bricks.
+abbrev pub row_path_of : List ℕ → Option HotPath
+row_path_of word =
+    if bytes_eq word (codes "digest") then Some Digest
+    else if bytes_eq word (codes "round_write") then Some RoundWrite
+    else if bytes_eq word (codes "round_read") then Some RoundRead
+    else if bytes_eq word (codes "copy") then Some Copy
+    else if bytes_eq word (codes "brick_append") then Some BrickAppend
+    else if bytes_eq word (codes "sum") then Some Sum
+    else if bytes_eq word (codes "brick_scan") then Some BrickScan
+    else if bytes_eq word (codes "brick_count") then Some BrickCount
+    else if bytes_eq word (codes "brick_keep") then Some BrickKeep
+    else None
 
 -- The path of a name.
 abbrev pub path_of : List ℕ → Option HotPath
@@ -22,7 +36,7 @@ path_of word =
     else if bytes_eq word (codes "cells") then Some Cells
     else if bytes_eq word (codes "records") then Some Records
     else if bytes_eq word (codes "load_step") then Some LoadStep
-    else None
+    else row_path_of word
 
 -- How many items a path takes at most.
 abbrev pub most_of : HotPath → ℕ
@@ -40,6 +54,15 @@ most_of Call = 1_000_000_000
 most_of Cells = 1_000_000_000
 most_of Records = 10_000_000
 most_of LoadStep = 10_000_000
+most_of Digest = 100_000_000
+most_of RoundWrite = 100_000_000
+most_of RoundRead = 100_000_000
+most_of Copy = 1_000_000_000
+most_of BrickAppend = 1_000_000_000
+most_of Sum = 1_000_000_000
+most_of BrickScan = 1_000_000_000
+most_of BrickCount = 1_000_000_000
+most_of BrickKeep = 1_000_000_000
 
 -- What a path does with its items.
 abbrev pub done_of : HotPath → List ℕ
@@ -57,6 +80,15 @@ done_of Call = codes "calls made"
 done_of Cells = codes "calls made on each of four cells"
 done_of Records = codes "records read"
 done_of LoadStep = codes "records loaded"
+done_of Digest = codes "rows of a round digested"
+done_of RoundWrite = codes "rows written in a round"
+done_of RoundRead = codes "rows read in a round"
+done_of Copy = codes "rows copied"
+done_of BrickAppend = codes "rows appended to a brick"
+done_of Sum = codes "numbers summed"
+done_of BrickScan = codes "rows summed and counted in a brick"
+done_of BrickCount = codes "rows counted in a brick"
+done_of BrickKeep = codes "rows of columns kept or left out"
 
 -- A text spells a number below 2 ^ 32 in decimal digits, or none.
 abbrev pub IsRead : List ℕ → Option ℕ → Type 0

@@ -4,12 +4,12 @@
 ghost use Rattle.std.specs.Prelude.{◌≡◌};
 ghost use Rattle.measures.specs.Checksums.{counters_sum};
 
-use crate::work::{Measured, measured_since};
 use std::alloc::Global;
 use std::io;
 use std::sync::{Mutex, Wait};
 use std::thread::Threads;
 use std::time::{Clock, Instant};
+use timed_work::{Measured, measured_since};
 use turn_board_uses::{count, count_in_four, counters};
 
 /// Locks a mutex and lets it go, so many times, with 1 added to the number in it. The checksum is that number.

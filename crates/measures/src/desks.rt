@@ -3,10 +3,10 @@
 ghost use Rattle.std.specs.Prelude.{◌≡◌, ◌+◌, ◌≤◌, [], IfOk, OnOk};
 ghost use Rattle.aosi_register.specs.State.{state_of};
 
-use crate::work::Work;
 use aosi_desk::{Desk, MOST_SESSIONS};
 use cube_journal::one_more_entry;
 use std::alloc::{AllocError, Global};
+use timed_work::Work;
 
 /// How many entries a turn adds to the journal.
 const ENTRIES: u32 = 4;

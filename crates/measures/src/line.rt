@@ -1,9 +1,9 @@
 //! The line that is printed.
 
 use crate::request::Request;
-use crate::work::Measured;
 use std::fmt;
 use std::fmt::{Display, Formatter, Write};
+use timed_work::Measured;
 
 /// What was asked for and what was measured.
 #[derive(Clone, Copy, Debug)]

@@ -3,11 +3,11 @@
 ghost use Rattle.std.specs.Prelude.{◌≡◌, ◌+◌, ◌%◌, ◌^◌, [], IfOk, IfNone, IfSome, if◌then◌else◌};
 ghost use Rattle.measures.specs.Loads.{TakesRow, records_sum, rows_sum};
 
-use crate::work::Work;
 use csv_load::{Loader, Source, Step};
 use cube_gen::{cubes_text, part};
 use cube_schema::read_cubes;
 use std::alloc::{AllocError, Global};
+use timed_work::Work;
 
 /// A file of so many records: a quarter of the rows that the generator makes.
 fn file_of(alloc: Global, items: u32) -> Result<Vec<u8>, AllocError> {

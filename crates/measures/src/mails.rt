@@ -4,10 +4,9 @@ ghost use Rattle.std.specs.Prelude.{◌≡◌, ◌+◌, ◌%◌, ◌^◌, IfOk};
 ghost use Rattle.mail_cell.specs.State.{new_mail};
 ghost use Rattle.measures.specs.Checksums.{answers_sum};
 
-use crate::seed::{below, seeded};
-use crate::work::Work;
 use mail_cell::{Fetched, Mail, Taken};
 use std::alloc::{AllocError, Global};
+use timed_work::{Work, below, seeded};
 
 /// How many clients the mail has.
 const CLIENTS: u32 = 16;

@@ -4,7 +4,6 @@
 
 mod board;
 mod desks;
-mod groups;
 mod known;
 mod line;
 mod loads;
@@ -12,17 +11,17 @@ mod mails;
 mod names;
 mod request;
 mod scripts;
-mod seed;
 mod vectors;
-mod work;
 
 use board::{measure_calls, measure_cells, measure_locks};
 use desks::Turns;
-use groups::Fold;
 use known::FindKnown;
 use line::Line;
 use loads::{LoadStep, Records};
 use mails::Deliver;
+use measured_rows::{
+    Copies, Count, Digest, Fold, Keep, ReadRound, Scan, Sum, measure_append, measure_write,
+};
 use names::{Encode, Lookup};
 use request::{HotPath, Request, asked_for};
 use scripts::Split;
@@ -33,14 +32,15 @@ use std::sync::Wait;
 use std::thread::Threads;
 use std::time::Clock;
 use std::{env, io};
+use timed_work::{Measured, measure};
 use vectors::{Plan, Visible};
-use work::{Measured, measure};
 
 #[cfg(test)]
 mod tests;
 
 const USAGE: &str = "usage: measures [--time] \
-    split|encode|lookup|known|visible|plan|fold|mail|desk|lock|call|cells|records|load_step N";
+    split|encode|lookup|known|visible|plan|fold|mail|desk|lock|call|cells|records|load_step|\
+    digest|round_write|round_read|copy|brick_append|sum|brick_scan|brick_count|brick_keep N";
 
 /// The words after the program's name, and none where a word is not UTF-8. The error is want of memory.
 fn words<R: Env + AllocGlobal>(rt: &R) -> io::Result<Vec<String>> {
@@ -72,6 +72,15 @@ fn ran<R: Clock + AllocGlobal + Threads + Wait + Sync>(
         HotPath::Cells => measure_cells(rt, rt.alloc(), items),
         HotPath::Records => measure::<Records, R>(rt, rt.alloc(), items),
         HotPath::LoadStep => measure::<LoadStep, R>(rt, rt.alloc(), items),
+        HotPath::Digest => measure::<Digest, R>(rt, rt.alloc(), items),
+        HotPath::RoundWrite => measure_write(rt, rt.alloc(), items),
+        HotPath::RoundRead => measure::<ReadRound, R>(rt, rt.alloc(), items),
+        HotPath::Copy => measure::<Copies, R>(rt, rt.alloc(), items),
+        HotPath::BrickAppend => measure_append(rt, rt.alloc(), items),
+        HotPath::Sum => measure::<Sum, R>(rt, rt.alloc(), items),
+        HotPath::BrickScan => measure::<Scan, R>(rt, rt.alloc(), items),
+        HotPath::BrickCount => measure::<Count, R>(rt, rt.alloc(), items),
+        HotPath::BrickKeep => measure::<Keep, R>(rt, rt.alloc(), items),
     }
 }
 

@@ -1,25 +1,53 @@
 //! Names in a dictionary.
 
-ghost use Rattle.std.specs.Prelude.{◌≡◌, ◌-◌, ◌^◌, length, map, string_bytes, IfOk};
+ghost use Rattle.std.specs.Prelude.{◌≡◌, ◌+◌, ◌-◌, ◌/◌, ◌^◌, length, IfOk};
 ghost use Rattle.measures.specs.Checksums.{numbers_sum};
-ghost use Rattle.measures.specs.Encoded.{encoded, empty};
+ghost use Rattle.measures.specs.Encoded.{encoded, empty, texts_of_names};
 
-use crate::seed::{below, seeded};
-use crate::work::Work;
+use arrayvec::ArrayString;
 use names_dict::Dict;
 use std::alloc::{AllocError, Global};
+use std::fmt::Write;
+use timed_work::{Work, below, seeded};
+
+/// A name. It has no memory of its own: names lie in one block, one after the other, as the fields of records
+/// do in a reader's buffer.
+pub(crate) type Name = ArrayString<16>;
 
 /// How often each name stands among the names, in the mean.
 const TIMES: u32 = 10;
 
-/// Names, of which one in ten is another than those before it.
-pub(crate) fn names(alloc: Global, items: u32) -> Result<Vec<String>, AllocError> {
+/// The name of a number, which has seven digits at most. A longer one counts as want of memory.
+fn name_of(n: u32) -> Result<Name, AllocError> {
+    let mut name = Name::new();
+    match write!(name, "customer {n}") {
+        Ok(()) => Ok(name),
+        Err(_) => Err(AllocError),
+    }
+}
+
+/// The names of the numbers below one, in order.
+pub(crate) fn distinct_names(alloc: Global, count: u32) -> Result<Vec<Name>, AllocError> {
+    let mut names = Vec::with_capacity(alloc, count as usize)?;
+    for n in 0..count {
+        names.push(name_of(n)?)?;
+    }
+    Ok(names)
+}
+
+/// How many distinct names there are among so many.
+pub(crate) fn distinct_among(items: u32) -> u32
+    ensures { result ≡ items / TIMES + 1 }
+{
+    items / TIMES + 1
+}
+
+/// So many names in an order by chance. They are those of the numbers below `distinct_among`, nearly all of them.
+pub(crate) fn names(alloc: Global, items: u32) -> Result<Vec<Name>, AllocError> {
     let mut numbers = seeded();
-    let distinct = items / TIMES + 1;
     let mut names = Vec::with_capacity(alloc, items as usize)?;
     for _item in 0..items {
-        let n = below(&mut numbers, distinct);
-        names.push(format!(in alloc; "customer {n}")?)?;
+        names.push(name_of(below(&mut numbers, distinct_among(items)))?)?;
     }
     Ok(names)
 }
@@ -27,13 +55,13 @@ pub(crate) fn names(alloc: Global, items: u32) -> Result<Vec<String>, AllocError
 /// Names for an empty dictionary.
 #[derive(Drop)]
 pub(crate) struct Encode {
-    names: Vec<String>,
+    names: Vec<Name>,
 }
 
 /// A dictionary in which all names were encoded, in order.
-pub(crate) fn dictionary(alloc: Global, names: &[String]) -> Result<Dict, AllocError>
+pub(crate) fn dictionary(alloc: Global, names: &[Name]) -> Result<Dict, AllocError>
     ensures { IfOk result
-        (λ dict. dict ≡ encoded (empty (2 ^ 32 - 1)) (map string_bytes names.now)) }
+        (λ dict. dict ≡ encoded (empty (2 ^ 32 - 1)) (texts_of_names names.now)) }
 {
     let mut dict = Dict::new(alloc, u32::MAX);
     let mut left = names;
@@ -54,7 +82,7 @@ impl Work for Encode {
     /// The checksum is the number of names in the dictionary.
     fn work(&mut self, alloc: Global) -> Result<u64, AllocError>
         ensures { IfOk result (λ sum. sum
-            ≡ length (encoded (empty (2 ^ 32 - 1)) (map string_bytes self.old.names.items)).names) }
+            ≡ length (encoded (empty (2 ^ 32 - 1)) (texts_of_names self.old.names.items)).names) }
     {
         let dict = dictionary(alloc, self.names.as_slice())?;
         Ok(u64::from(dict.len()))
@@ -62,8 +90,8 @@ impl Work for Encode {
 }
 
 /// The sum of the numbers of names, counted from 1.
-fn numbers_sum(dict: &Dict, names: &[String]) -> u64
-    ensures { result ≡ numbers_sum dict.now (map string_bytes names.now) }
+fn numbers_sum(dict: &Dict, names: &[Name]) -> u64
+    ensures { result ≡ numbers_sum dict.now (texts_of_names names.now) }
 {
     let mut sum: u64 = 0;
     let mut left = names;
@@ -81,20 +109,22 @@ fn numbers_sum(dict: &Dict, names: &[String]) -> u64
 #[derive(Drop)]
 pub(crate) struct Lookup {
     dict: Dict,
-    names: Vec<String>,
+    names: Vec<Name>,
 }
 
 impl Work for Lookup {
     fn prepared(alloc: Global, items: u32) -> Result<Lookup, AllocError> {
-        let names = names(alloc, items)?;
-        let dict = dictionary(alloc, names.as_slice())?;
-        Ok(Lookup { dict, names })
+        let all = distinct_names(alloc, distinct_among(items))?;
+        Ok(Lookup {
+            dict: dictionary(alloc, all.as_slice())?,
+            names: names(alloc, items)?,
+        })
     }
 
     /// The checksum is the sum of the numbers that are found, and 1 for each.
     fn work(&mut self, _alloc: Global) -> Result<u64, AllocError>
         ensures { IfOk result
-            (λ sum. sum ≡ numbers_sum self.old.dict (map string_bytes self.old.names.items)) }
+            (λ sum. sum ≡ numbers_sum self.old.dict (texts_of_names self.old.names.items)) }
     {
         Ok(numbers_sum(&self.dict, self.names.as_slice()))
     }

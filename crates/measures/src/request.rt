@@ -1,7 +1,7 @@
 //! What the words ask for.
 
 ghost use Rattle.std.specs.Prelude.{◌≡◌, map, string_bytes};
-ghost use Rattle.measures.specs.Words.{Asks, AsksFor, IsRead, done_of, most_of, path_of, request_of};
+ghost use Rattle.measures.specs.Words.{Asks, AsksFor, IsRead, done_of, most_of, path_of, request_of, row_path_of};
 
 /// A call whose time is measured.
 #[derive(Clone, Copy, Debug, PartialEq, Eq)]
@@ -34,6 +34,24 @@ pub(crate) enum HotPath {
     Records,
     /// `Loader::step` over the same records.
     LoadStep,
+    /// SHA-256 of the bytes of a round, beside which the next two stand.
+    Digest,
+    /// `write_round` of a round of the generator's rows.
+    RoundWrite,
+    /// `read_round` of the same.
+    RoundRead,
+    /// A plain copy of batches of rows, beside which the next stands.
+    Copy,
+    /// `Brick::append` of batches of a thousand rows.
+    BrickAppend,
+    /// A plain sum of a list of numbers, beside which the next two stand.
+    Sum,
+    /// `Brick::scan` for a sum and a count by one dimension of eight coordinates.
+    BrickScan,
+    /// `Brick::scan` for a count.
+    BrickCount,
+    /// `Columns::keep` of half the rows, by chance.
+    BrickKeep,
 }
 
 impl HotPath {
@@ -56,6 +74,24 @@ impl HotPath {
             "cells" => Some(HotPath::Cells),
             "records" => Some(HotPath::Records),
             "load_step" => Some(HotPath::LoadStep),
+            _ => HotPath::from_row_word(word),
+        }
+    }
+
+    /// The path of this name among those over rounds and bricks.
+    fn from_row_word(word: &str) -> Option<HotPath>
+        ensures { result ≡ row_path_of word.now }
+    {
+        match word {
+            "digest" => Some(HotPath::Digest),
+            "round_write" => Some(HotPath::RoundWrite),
+            "round_read" => Some(HotPath::RoundRead),
+            "copy" => Some(HotPath::Copy),
+            "brick_append" => Some(HotPath::BrickAppend),
+            "sum" => Some(HotPath::Sum),
+            "brick_scan" => Some(HotPath::BrickScan),
+            "brick_count" => Some(HotPath::BrickCount),
+            "brick_keep" => Some(HotPath::BrickKeep),
             _ => None,
         }
     }
@@ -80,6 +116,15 @@ impl HotPath {
             HotPath::Cells => 1_000_000_000,
             HotPath::Records => 10_000_000,
             HotPath::LoadStep => 10_000_000,
+            HotPath::Digest => 100_000_000,
+            HotPath::RoundWrite => 100_000_000,
+            HotPath::RoundRead => 100_000_000,
+            HotPath::Copy => 1_000_000_000,
+            HotPath::BrickAppend => 1_000_000_000,
+            HotPath::Sum => 1_000_000_000,
+            HotPath::BrickScan => 1_000_000_000,
+            HotPath::BrickCount => 1_000_000_000,
+            HotPath::BrickKeep => 1_000_000_000,
         }
     }
 
@@ -102,6 +147,15 @@ impl HotPath {
             HotPath::Cells => "calls made on each of four cells",
             HotPath::Records => "records read",
             HotPath::LoadStep => "records loaded",
+            HotPath::Digest => "rows of a round digested",
+            HotPath::RoundWrite => "rows written in a round",
+            HotPath::RoundRead => "rows read in a round",
+            HotPath::Copy => "rows copied",
+            HotPath::BrickAppend => "rows appended to a brick",
+            HotPath::Sum => "numbers summed",
+            HotPath::BrickScan => "rows summed and counted in a brick",
+            HotPath::BrickCount => "rows counted in a brick",
+            HotPath::BrickKeep => "rows of columns kept or left out",
         }
     }
 }

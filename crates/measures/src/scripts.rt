@@ -3,11 +3,10 @@
 ghost use Rattle.std.specs.Prelude.{IfOk};
 ghost use Rattle.measures.specs.Checksums.{CountsStatements};
 
-use crate::seed::{below, seeded};
-use crate::work::Work;
 use cube_values::CallError;
 use sql_words::split;
 use std::alloc::{AllocError, Global};
+use timed_work::{Work, below, seeded};
 
 /// A script of INSERTs, one a line.
 #[derive(Drop)]

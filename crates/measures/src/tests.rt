@@ -3,7 +3,6 @@
 
 use crate::board::{measure_calls, measure_cells, measure_locks};
 use crate::desks::Turns;
-use crate::groups::Fold;
 use crate::known::FindKnown;
 use crate::line::Line;
 use crate::loads::{LoadStep, Records};
@@ -12,9 +11,12 @@ use crate::names::{Encode, Lookup};
 use crate::request::{HotPath, Request, asked_for};
 use crate::scripts::Split;
 use crate::vectors::{Plan, Visible};
-use crate::work::{Measured, Work};
+use measured_rows::{
+    Copies, Count, Digest, Fold, Keep, ReadRound, Scan, Sum, measure_append, measure_write,
+};
 use std::alloc::{AllocError, Global};
 use std::test::Fail;
+use timed_work::{Measured, Work};
 
 /// What words with a space between each two ask for.
 fn asked(alloc: Global, words: &str) -> Result<Option<Request>, AllocError> {
@@ -103,8 +105,8 @@ fn checksum<W: Work + Drop>(alloc: Global) -> Result<u64, AllocError> {
 fn checksums(rt: HostRuntime) -> Result<(), Fail> {
     assert_eq!(rt; checksum::<Split>(rt.alloc())?, 1_000);
     assert_eq!(rt; checksum::<Encode>(rt.alloc())?, 101);
-    assert_eq!(rt; checksum::<Lookup>(rt.alloc())?, 49_542);
-    assert_eq!(rt; checksum::<FindKnown>(rt.alloc())?, 49_542);
+    assert_eq!(rt; checksum::<Lookup>(rt.alloc())?, 50_961);
+    assert_eq!(rt; checksum::<FindKnown>(rt.alloc())?, 50_961);
     assert_eq!(rt; checksum::<Visible>(rt.alloc())?, 40_000);
     assert_eq!(rt; checksum::<Plan>(rt.alloc())?, 10_401);
     assert_eq!(rt; checksum::<Fold>(rt.alloc())?, 8_001_016);
@@ -112,6 +114,15 @@ fn checksums(rt: HostRuntime) -> Result<(), Fail> {
     assert_eq!(rt; checksum::<Turns>(rt.alloc())?, 251);
     assert_eq!(rt; checksum::<Records>(rt.alloc())?, 1_000);
     assert_eq!(rt; checksum::<LoadStep>(rt.alloc())?, 1_000);
+    assert_eq!(rt; checksum::<Digest>(rt.alloc())?, 21);
+    assert_eq!(rt; measure_write(&rt, rt.alloc(), 1_000)?.checksum, 18_633);
+    assert_eq!(rt; checksum::<ReadRound>(rt.alloc())?, 18_633);
+    assert_eq!(rt; checksum::<Copies>(rt.alloc())?, 2_000);
+    assert_eq!(rt; measure_append(&rt, rt.alloc(), 1_000)?.checksum, 1_000);
+    assert_eq!(rt; checksum::<Sum>(rt.alloc())?, 504_293);
+    assert_eq!(rt; checksum::<Scan>(rt.alloc())?, 49_899);
+    assert_eq!(rt; checksum::<Count>(rt.alloc())?, 1_000);
+    assert_eq!(rt; checksum::<Keep>(rt.alloc())?, 513);
     assert_eq!(rt; measure_locks(&rt, 1_000)?.checksum, 1_000);
     assert_eq!(rt; measure_calls(&rt, rt.alloc(), 1_000)?.checksum, 1_000);
     assert_eq!(rt; measure_cells(&rt, rt.alloc(), 1_000)?.checksum, 4_000);

@@ -5,13 +5,12 @@ ghost use Rattle.cube_values.specs.BitRows.{set_bits};
 ghost use Rattle.epochs_vector.specs.Seen.{seen_rows};
 ghost use Rattle.measures.specs.Checksums.{purge_sum};
 
-use crate::seed::{below, seeded};
-use crate::work::Work;
 use cube_values::{Bits, Entry, EpochList, Snapshot};
 use epochs_vector::Epochs;
 use purge_plan::plan;
 use std::alloc::{AllocError, Global};
 use std::marker::Model;
+use timed_work::{Work, below, seeded};
 
 /// How many epochs there are.
 const EPOCHS: u64 = 1_000;

@@ -1,0 +1,2 @@
+pub mod FoundRounds
+pub mod OneBrick

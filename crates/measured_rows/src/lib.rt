@@ -1,0 +1,19 @@
+//! Work on rows: folded, appended to a brick, scanned and left in it, and written and read as a round; and the
+//! plain work that it is held against.
+#![tactic(auto)]
+
+mod bricks;
+mod groups;
+mod kept;
+mod one_brick;
+mod plain;
+mod round_made;
+mod rounds;
+mod scans;
+
+pub use bricks::measure_append;
+pub use groups::Fold;
+pub use kept::Keep;
+pub use plain::{Copies, Sum};
+pub use rounds::{Digest, ReadRound, measure_write};
+pub use scans::{Count, Scan};
