@@ -1,4 +1,6 @@
+pub mod AddedLaws
 pub mod AppendLaws
+pub mod AroundLaws
 pub mod CountLaws
 pub mod StandsBy
 pub mod StoreLaws

@@ -4,6 +4,7 @@
 mod append_round;
 mod data;
 mod next;
+mod round;
 mod store;
 mod whole_round;
 
