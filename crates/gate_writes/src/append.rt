@@ -1,6 +1,6 @@
 //! A round behind those of a file.
 
-ghost use Rattle.std.specs.Prelude.{◌≡◌, ◌+◌, ◌<◌, ◌≤◌, ◌^◌, ℕ, List, length, OnOk, OnErr, IfSome};
+ghost use Rattle.std.specs.Prelude.{◌≡◌, ◌+◌, ◌<◌, ◌≤◌, ◌^◌, ℕ, List, length, OnOk, OnErr, IfSome, ◌↔◌, IsSome};
 ghost use Rattle.outside.specs.Counts.{Rose};
 ghost use Rattle.outside_disk.specs.Views.{IsSynced, LeavesOnly};
 ghost use Rattle.gate_writes.specs.Gates.{EndsShut, EndsOpen, Appending};
@@ -28,6 +28,7 @@ pub fn append_bytes<D: Disk>(disk: &mut D, end: u64, bytes: &[u8]) -> Result<(),
         → IfSome (D.view disk.old).told (λ f. EndsShut front f
         → OnOk result (IfSome (D.view disk.new).told (EndsOpen front bytes.now))) }
     ensures synced { OnOk result (IsSynced (D.view disk.new)) }
+    ensures tells { IsSome (D.view disk.old).told ↔ IsSome (D.view disk.new).told }
     ensures count { (D.view disk.old).faults ≤ (D.view disk.new).faults }
     ensures failed { OnErr result (Rose (D.view disk.old).faults (D.view disk.new).faults) }
     ensures quiet { OnOk result ((D.view disk.new).faults ≡ (D.view disk.old).faults) }

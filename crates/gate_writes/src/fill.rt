@@ -35,6 +35,7 @@ pub fn fill_file<D: Disk>(disk: &mut D, bytes: &[u8]) -> Result<(), Failed>
     ensures written { IfSome (D.view disk.old).told (λ f.
         OnOk result ((D.view disk.new).told ≡ Some (open_gate ∷ bytes.now))) }
     ensures synced { OnOk result (IsSynced (D.view disk.new)) }
+    ensures tells { IsSome (D.view disk.old).told ↔ IsSome (D.view disk.new).told }
     ensures count { (D.view disk.old).faults ≤ (D.view disk.new).faults }
     ensures failed { OnErr result (Rose (D.view disk.old).faults (D.view disk.new).faults) }
     ensures quiet { OnOk result ((D.view disk.new).faults ≡ (D.view disk.old).faults) }

@@ -1,6 +1,6 @@
 //! A file that is replaced.
 
-ghost use Rattle.std.specs.Prelude.{◌≡◌, ◌≤◌, ◌∷◌, Some, OnOk, OnErr, IfSome};
+ghost use Rattle.std.specs.Prelude.{◌≡◌, ◌≤◌, ◌∷◌, Some, OnOk, OnErr, IfSome, ◌↔◌, IsSome};
 ghost use Rattle.cube_rounds.specs.Headers.{open_gate};
 ghost use Rattle.outside.specs.Counts.{Rose};
 ghost use Rattle.outside_disk.specs.Views.{IsSynced, LeavesOnly};
@@ -21,6 +21,7 @@ pub fn replace_file<D: Disk>(disk: &mut D, shut: bool, bytes: &[u8]) -> Result<(
     ensures written { IfSome (D.view disk.old).told (λ f.
         OnOk result ((D.view disk.new).told ≡ Some (open_gate ∷ bytes.now))) }
     ensures synced { OnOk result (IsSynced (D.view disk.new)) }
+    ensures tells { IsSome (D.view disk.old).told ↔ IsSome (D.view disk.new).told }
     ensures count { (D.view disk.old).faults ≤ (D.view disk.new).faults }
     ensures failed { OnErr result (Rose (D.view disk.old).faults (D.view disk.new).faults) }
     ensures quiet { OnOk result ((D.view disk.new).faults ≡ (D.view disk.old).faults) }

@@ -191,3 +191,8 @@ front_was digest told file h e = tested (is_closed file) e
     tested : (b : Bool) → cond b (Ok None) (opened_front digest told file) ≡ Ok (Some h) → header_from digest told file ≡ Ok h
     tested true e = absurd cc
     tested false e = version_was (four_from (drop 8 file)) (header_from digest told file) h e
+
+-- A file that begins with a header is not closed.
+pub begins_open : (digest : List ℕ → List ℕ) → ((m : List ℕ) → length (digest m) ≡ 32) → (generation : ℕ) (text file : List ℕ) → BeginsWithHeader digest generation text file → IsClosed file → ⊥
+begins_open digest wide generation text file begins closed =
+    not_closed_by file (header_is_open (front_at digest generation text file begins).0 file (front_long digest wide generation text file begins) (front_at digest generation text file begins).1) closed
