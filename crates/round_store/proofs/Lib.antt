@@ -2,6 +2,7 @@ pub mod AddedLaws
 pub mod AppendLaws
 pub mod AroundLaws
 pub mod CountLaws
+pub mod OpenLaws
 pub mod StandsBy
 pub mod StoreLaws
 pub mod WholeLaws

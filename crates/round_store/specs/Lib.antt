@@ -1,3 +1,4 @@
 pub mod Counts
+pub mod Opening
 pub mod States
 pub mod Wholes

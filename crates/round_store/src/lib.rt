@@ -3,10 +3,14 @@
 
 mod append_round;
 mod data;
+mod fault;
 mod next;
+mod old_store;
 mod round;
 mod store;
 mod whole_round;
 
 pub use data::CubeShapes;
+pub use fault::OpenFault;
+pub use old_store::open_store;
 pub use store::Store;

@@ -1,0 +1,25 @@
+-- What opening a store answers.
+-- Source: this project's own.
+use Rattle.std.specs.Prelude.{◌≡◌, ℕ, List, Option, Result, Ok, Err}
+use Rattle.cube_language.specs.declared.decl.Decl.{Decl}
+use Rattle.cube_rounds.specs.Stands.{Kept}
+use Rattle.cube_values.specs.declared.call_error.CallError.{CallError}
+use Rattle.cube_values.specs.declared.call_error.CallError.TheVariants.{Fault, NoMemory}
+use Rattle.store_reading.specs.declared.fault.PairFault.{PairFault}
+use Rattle.store_reading.specs.Pairs.{PairContent, pair_content}
+use Rattle.round_store.specs.declared.fault.OpenFault.{OpenFault}
+use Rattle.round_store.specs.declared.fault.OpenFault.TheVariants.{Pair, Disk}
+use Rattle.round_store.specs.States.{StoreState}
+
+-- An answer is what reading the two files gives, unless a disk failed or memory ran out.
+abbrev pub OpensAs : Result (StoreState × Kept) (CallError OpenFault) → Result PairContent PairFault → Type 0
+OpensAs (Ok opened) read = read ≡ Ok (pair_content opened.1 opened.0.place)
+OpensAs (Err (Fault (Pair fault))) read = read ≡ Err fault
+OpensAs (Err (Fault Disk)) read = Unit {0}
+OpensAs (Err NoMemory) read = Unit {0}
+
+-- What is answered besides refusals of the files: that memory ran out or a disk failed.
+abbrev pub IsNoRefusal : CallError OpenFault → Type 0
+IsNoRefusal (Fault (Pair fault)) = ⊥
+IsNoRefusal (Fault Disk) = Unit {0}
+IsNoRefusal NoMemory = Unit {0}
