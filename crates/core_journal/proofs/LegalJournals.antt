@@ -30,7 +30,7 @@ bare-allowed : (o : Opening) (es : List CoreEvent) (e : JournalEntry) → is_not
     → CountersAllow o.safe (journal_of o es) e
 bare-allowed o es e bare h = allows o.safe (counters_of_run o es) (journal_of o es) e bare (run-counters o es) h
 
-next-allowed : (o : Opening) (es : List CoreEvent) (b : ℕ) (call : ClientCall) → IsCoreRun o (By b call ∷ es)
+pub next-allowed : (o : Opening) (es : List CoreEvent) (b : ℕ) (call : ClientCall) → IsCoreRun o (By b call ∷ es)
     → AllowsNext o es (client_entry b call)
 next-allowed o es b (OnDesk (OpenWrite statement epoch deps)) run =
     bare-allowed o es (entry.Begin b statement epoch deps) refl (run-allowed o b (OnDesk (OpenWrite statement epoch deps)) es run)

@@ -4,3 +4,4 @@ pub mod RoundNotes
 pub mod OwnNotes
 pub mod CubeNames
 pub mod LegalJournals
+pub mod NoteCalls

@@ -3,4 +3,4 @@
 
 mod law;
 
-pub use law::journals_are_legal;
+pub use law::{journals_are_legal, notes_and_ends_meet_their_conditions};
