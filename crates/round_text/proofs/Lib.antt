@@ -1,4 +1,5 @@
 pub mod EntryWrites
+pub mod Fronts
 pub mod HeaderLaws
 pub mod Shorts
 pub mod TextLengths

@@ -1,8 +1,8 @@
 -- How long the canonical text of cubes is.
-use Rattle.std.proofs.Common.{◌≡◌, ℕ, suc, ◌+◌, ◌*◌, ◌^◌, ◌<◌, ◌≤◌, Bool, true, false, ◌&&◌, ◌||◌, not, nat_le, nat_lt, nat_eq, cond, List, [], ◌∷◌, ◌++◌, length, codes, decimal, filter_map, refl, sym, ap, subst, ◌∙◌, inl, inr, arith, Some, None}
+use Rattle.std.proofs.Common.{◌≡◌, ℕ, ◌*◌, ◌^◌, ◌<◌, ◌≤◌, Bool, true, false, nat_le, List, [], ◌∷◌, length, decimal, filter_map, refl, ap, subst, ◌∙◌, inl, inr, arith}
 use Rattle.std.specs.Prelude.{IsTrue, All}
 use Rattle.std.specs.List.{flat_map, AllByRecursion}
-use Rattle.std.proofs.lemmas.Bool.{cases_Bool, leb-true, ltb-false}
+use Rattle.std.proofs.lemmas.Bool.{cases_Bool, leb-true}
 use Rattle.std.proofs.lemmas.List.{length-append}
 use Rattle.std.proofs.lemmas.List.Elements.{All-head, All-tail}
 use Rattle.std.proofs.lemmas.Fmt.{length-decimal-le}
@@ -10,8 +10,7 @@ use Rattle.cube_language.specs.Names.{is_name, is_word}
 use Rattle.cube_language.specs.declared.decl.DimDecl.{DimDecl}
 use Rattle.cube_language.specs.declared.decl.Decl.{Decl}
 use Rattle.cube_language.specs.Cubes.{kind_text, dim_text, metric_text, cube_text, cubes_text, IsStorable}
-use Rattle.cube_language.specs.CubesText.{Line, Skipped, Cube, Dim, Metric, IsLine, AreLines, cube_name, dim_in, metric_in, columns_in, cube_names, cubes_in, is_cube, Declares}
-use Rattle.cube_rounds.specs.Headers.{IsCanonical}
+use Rattle.cube_language.specs.CubesText.{Line, Skipped, Cube, Dim, Metric, IsLine, AreLines, dim_in, metric_in, columns_in, cube_names, cubes_in}
 use Rattle.cube_schema.proofs.BegunDecls.{column}
 use Rattle.cube_schema.proofs.CanonicalLines.{Fits, CanSay}
 use Rattle.cube_schema.proofs.Sound.{StorableParts, parts_of}

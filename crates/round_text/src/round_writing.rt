@@ -1,6 +1,6 @@
 //! A round as bytes.
 
-ghost use Rattle.std.specs.Prelude.{◌≡◌, ◌+◌, ◌<◌, ◌^◌, ◌++◌, [], ◌∷◌, List, length, All, slice_get, Some, OnOk, IfOk};
+ghost use Rattle.std.specs.Prelude.{◌≡◌, ◌+◌, ◌-◌, ◌≤◌, ◌<◌, ◌^◌, ◌++◌, [], ◌∷◌, List, length, take, drop, All, slice_get, Some, OnOk, IfOk};
 ghost use Rattle.std.specs.List.{flat_map, zip, AllZip};
 ghost use Rattle.cube_language.specs.Cubes.{cubes_text, IsStorable};
 ghost use Rattle.cube_language.specs.CubesText.{Declares};
@@ -150,17 +150,57 @@ fn put_cubes(
     Ok(())
 }
 
-/// The payload of a round, built in one buffer.
-fn payload_of(alloc: Global, round: &Round, cubes: &[Schema]) -> Result<Vec<u8>, AllocError>
+/// Puts the payload of a round.
+fn put_payload(
+    out: &mut Vec<u8>,
+    alloc: Global,
+    round: &Round,
+    cubes: &[Schema],
+) -> Result<(), AllocError>
     requires made { Declares (cubes_text round.now.made) round.now.made }
     requires names { AllZip HasNames (cubes.now ++ round.now.made) round.now.cubes }
-    ensures { IfOk result (λ out. out.items ≡ payload_bytes cubes.now round.now) }
+    ensures { OnOk result (out.new.items ≡ out.old.items ++ payload_bytes cubes.now round.now) }
 {
-    let mut out = Vec::with_capacity(alloc, room_for(round))?;
     let made = round.made.as_slice();
-    put_eight(&mut out, cubes.len() as u64 + made.len() as u64)?;
-    put_made(&mut out, alloc, made)?;
-    put_cubes(&mut out, cubes, made, round.cubes.as_slice())?;
+    put_eight(out, cubes.len() as u64 + made.len() as u64)?;
+    put_made(out, alloc, made)?;
+    put_cubes(out, cubes, made, round.cubes.as_slice())?;
+    Ok(())
+}
+
+/// The numbers before a payload, with 0 for its length.
+fn front_of(alloc: Global, round: &Round) -> Result<Vec<u8>, AllocError>
+    ensures { IfOk result (λ out. out.items
+        ≡ (eight_bytes round.now.epoch ++ eight_bytes round.now.from) ++ eight_bytes 0) }
+{
+    // Before the payload stand 24 bytes, and behind it the 32 of the digest and the gate.
+    let mut out = Vec::with_capacity(alloc, room_for(round).saturating_add(57))?;
+    put_eight(&mut out, round.epoch)?;
+    put_eight(&mut out, round.from)?;
+    put_eight(&mut out, 0)?;
+    Ok(out)
+}
+
+/// Puts how many bytes stand behind the first 24 over the last eight of these.
+#[tactic(auto, unfolding(cube_rounds::specs::Bytes::eight_bytes))]
+fn set_length(out: &mut Vec<u8>)
+    requires { 24 ≤ length out.old.items }
+    ensures { out.new.items ≡ take 16 out.old.items
+        ++ (eight_bytes (length out.old.items - 24) ++ drop 24 out.old.items) }
+{
+    let size = (out.len() - 24) as u64;
+    out[16..24].copy_from_slice(&size.to_le_bytes());
+}
+
+/// The numbers before a payload, and the payload, built in one buffer.
+fn body_of(alloc: Global, round: &Round, cubes: &[Schema]) -> Result<Vec<u8>, AllocError>
+    requires made { Declares (cubes_text round.now.made) round.now.made }
+    requires names { AllZip HasNames (cubes.now ++ round.now.made) round.now.cubes }
+    ensures { IfOk result (λ out. out.items ≡ body_bytes cubes.now round.now) }
+{
+    let mut out = front_of(alloc, round)?;
+    put_payload(&mut out, alloc, round, cubes)?;
+    set_length(&mut out);
     Ok(out)
 }
 
@@ -172,12 +212,7 @@ pub fn write_round(alloc: Global, round: &Round, cubes: &[Schema]) -> Result<Vec
     ensures { IfOk result (λ out.
         out.items ≡ round_bytes sha256 cubes.now round.now ++ shut_gate ∷ []) }
 {
-    let payload = payload_of(alloc, round, cubes)?;
-    let mut out = Vec::with_capacity(alloc, payload.len().saturating_add(57))?;
-    put_eight(&mut out, round.epoch)?;
-    put_eight(&mut out, round.from)?;
-    put_eight(&mut out, payload.len() as u64)?;
-    out.extend_from_slice(payload.as_slice())?;
+    let mut out = body_of(alloc, round, cubes)?;
     let digest = digest_of(out.as_slice());
     out.extend_from_slice(&digest)?;
     out.push(SHUT_GATE)?;
