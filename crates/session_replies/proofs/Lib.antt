@@ -3,3 +3,4 @@ pub mod Fitting
 pub mod Ends
 pub mod Answers
 pub mod Refusing
+pub mod RowAnswers
