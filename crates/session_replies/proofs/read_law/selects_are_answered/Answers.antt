@@ -1,5 +1,5 @@
-use Rattle.session_replies.proofs.RowAnswers.{selected_alone, selected_inside, selected_without_memory}
-use Rattle.session_replies.proofs.row_law.selects_are_answered.Goals as goal
+use Rattle.session_replies.proofs.Reading.{selected_alone, selected_inside, selected_without_memory}
+use Rattle.session_replies.proofs.read_law.selects_are_answered.Goals as goal
 
 pub returns-clause-alone : goal.returns-clause-alone
 returns-clause-alone c = selected_alone
