@@ -27,15 +27,18 @@ with_parts step mode sentence entries = record {
   entries = entries;
 }
 
+-- A step is one with its parts.
+pub same_parts : (step : SessionStep) (mode : Mode) (sentence : Sentence) (entries : List JournalEntry)
+    → IsStep step mode sentence entries → step ≡ with_parts step mode sentence entries
+same_parts step mode sentence entries h =
+    (λ i. with_parts step (h.mode_is i) (h.sentence_is i) (h.entries_are i))
+
 -- A step is answered as one with its parts.
 pub by_parts : (run : RunRecord) (step : SessionStep) (mode : Mode) (sentence : Sentence) (entries : List JournalEntry)
     (said : Reply) → IsStep step mode sentence entries → IsReply run (with_parts step mode sentence entries) said
     → IsReply run step said
 by_parts run step mode sentence entries said h is =
-    let same : step ≡ with_parts step mode sentence entries =
-    (λ i. with_parts step (h.mode_is i) (h.sentence_is i) (h.entries_are i))
-    in
-    subst (λ (s : SessionStep). IsReply run s said) (sym same) is
+    subst (λ (s : SessionStep). IsReply run s said) (sym (same_parts step mode sentence entries h)) is
 
 -- No round is due where nothing is committed.
 pub no_round : (n : ℕ) (step : SessionStep) → list_any is_commit step.entries ≡ false → round_is_due n step ≡ false

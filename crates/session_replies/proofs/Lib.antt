@@ -3,3 +3,8 @@ pub mod Fitting
 pub mod Ends
 pub mod Answers
 pub mod Refusing
+pub mod OnCubes
+pub mod RowAnswers
+pub mod Inserting
+pub mod Loading
+pub mod Reading

@@ -26,7 +26,7 @@ use Rattle.session_replies.specs.StepParts.{IsStep}
 use Rattle.session_replies.proofs.Ends.{by_parts, no_entries, no_watch, refused_at, with_parts}
 
 -- A statement that is refused so, may be, and leaves a Refused alone.
-refused : (run : RunRecord) (step : SessionStep) (mode : Mode) (sentence : Sentence) (r : Refusal)
+pub refused : (run : RunRecord) (step : SessionStep) (mode : Mode) (sentence : Sentence) (r : Refusal)
     → IsStep step mode sentence (entry.Refused step.session step.number (code r) ∷ [])
     → leaves_refused mode r ≡ true
     → MayEnd (catalog_of run)

@@ -1,2 +1,4 @@
 pub mod StepParts
 pub mod Modes
+pub mod RowEntries
+pub mod RowSteps

@@ -2,10 +2,17 @@
 //! the entries of a statement tell.
 #![tactic(auto)]
 
+mod change_law;
 mod law;
 mod mode;
+mod read_law;
 
+pub use change_law::{
+    changes_without_memory_are_answered, deletes_are_answered, files_refuse_loads,
+    inserts_are_answered, loads_are_answered,
+};
 pub use law::{
     cubes_are_answered, refusals_are_answered, requests_are_answered, transactions_are_answered,
 };
 pub use mode::{SessionMode, refused_by_mode, round_follows};
+pub use read_law::{misfits_are_answered, selects_are_answered};
