@@ -1,5 +1,5 @@
 -- A store once a round was added on one of its two disks.
-use Rattle.std.proofs.Common.{◌≡◌, ℕ, Bool, true, false, not, cond, List, Option, Result, Ok, Err, refl, sym, ap, ◌∙◌}
+use Rattle.std.proofs.Common.{◌≡◌, ℕ, Bool, true, false, not, cond, List, Option, Result, Ok, Err, ap, ◌∙◌}
 use Rattle.std.specs.Prelude.{◌↔◌, IfSome, IsSome, OnOk}
 use Rattle.cube_values.specs.declared.call_error.CallError.{CallError}
 use Rattle.cube_rounds.specs.declared.round.Round.{Round}
@@ -7,7 +7,7 @@ use Rattle.cube_rounds.specs.Stands.{Kept, kept_of_cubes, kept_with}
 use Rattle.outside_disk.specs.declared.disk.Failed.{Failed}
 use Rattle.outside_disk.specs.Views.{View, IsSynced}
 use Rattle.round_store.specs.States.{StoreState, wants_whole, header_cubes, IsStoreOf, AreFilesOf, IsAt, kept_after}
-use Rattle.round_store.proofs.AroundLaws.{Told, files_first, files_second, appended_first, appended_second, begun_first, begun_second}
+use Rattle.round_store.proofs.AroundLaws.{files_first, files_second, appended_first, appended_second, begun_first, begun_second}
 
 -- What is kept with the next round, where it is whole and where it is not.
 pub after_whole : (s : StoreState) (kept : Kept) (round : Round) → wants_whole s ≡ true → kept_after s kept round ≡ kept_with (kept_of_cubes (header_cubes kept)) round

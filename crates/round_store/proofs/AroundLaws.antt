@@ -1,13 +1,13 @@
 -- A round on one of the two disks of a store.
-use Rattle.std.proofs.Common.{◌≡◌, ℕ, ◌≤◌, ◌⊎◌, Bool, true, false, cond, List, Option, Some, None, inl, inr, refl, sym, ap, subst, ◌∙◌, arith}
+use Rattle.std.proofs.Common.{◌≡◌, ℕ, Bool, true, false, cond, List, Option, Some, None, inl, inr, refl, sym, subst}
 use Rattle.std.specs.Prelude.{◌↔◌, IfSome, IsSome}
 use Rattle.cube_rounds.specs.declared.round.Round.{Round}
-use Rattle.cube_rounds.specs.Stands.{Kept, kept_of_cubes, IsCurrent, Stands}
+use Rattle.cube_rounds.specs.Stands.{Kept, kept_of_cubes, Stands}
 use Rattle.gate_writes.proofs.Moments.{LeavesOnly-wider}
 use Rattle.outside_disk.specs.Views.{View, IsSynced, LeavesOnly}
 use Rattle.sha2.specs.Sha256.{sha256}
 use Rattle.store_reading.specs.Pairs.{file_of}
-use Rattle.round_store.specs.States.{StoreState, wants_whole, header_cubes, IsStoreOf, AreFilesOf, IsAt, kept_before, kept_after, Follows, IsEither, IsBesideEither, StandForEither}
+use Rattle.round_store.specs.States.{StoreState, wants_whole, header_cubes, AreFilesOf, kept_before, Follows, IsEither, IsBesideEither, StandForEither}
 use Rattle.round_store.proofs.AppendLaws.{still}
 use Rattle.round_store.proofs.StandsBy.{is_current}
 

@@ -1,6 +1,5 @@
 -- Numbers of names are those of the names.
 use Rattle.std.proofs.Common.{◌≡◌, ℕ, zero, suc, ◌+◌, ◌<◌, ◌≤◌, List, [], ◌∷◌, ◌++◌, length, map, take, get_or, refl, sym, ap, ◌∙◌, arith}
-use Rattle.std.specs.List.{zip}
 use Rattle.std.proofs.lemmas.List.{length-append, take_more, take_all}
 use Rattle.cube_language.specs.declared.decl.Decl.{Decl}
 use Rattle.cube_rounds.specs.declared.round.RoundCube.{RoundCube}

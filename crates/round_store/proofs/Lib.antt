@@ -2,6 +2,7 @@ pub mod AddedLaws
 pub mod AppendLaws
 pub mod AroundLaws
 pub mod CountLaws
+pub mod NewLaws
 pub mod OpenLaws
 pub mod StandsBy
 pub mod StoreLaws

@@ -1,6 +1,6 @@
 -- A store that is opened.
-use Rattle.std.proofs.Common.{◌≡◌, ℕ, ◌≤◌, ◌^◌, ◌<◌, Bool, List, length, take, Option, Some, None, Result, Ok, Err, inl, refl, sym, ap, subst, ◌∙◌, arith}
-use Rattle.std.specs.Prelude.{IfOk, IfSome, MatchResult, IsSome, ◌↔◌}
+use Rattle.std.proofs.Common.{◌≡◌, ℕ, ◌≤◌, ◌^◌, ◌<◌, Bool, List, length, Option, Some, None, Result, Ok, Err, inl, refl, sym, ap, subst, ◌∙◌, arith}
+use Rattle.std.specs.Prelude.{IfSome, MatchResult}
 use Rattle.std.proofs.lemmas.List.{take_all}
 use Rattle.cube_language.specs.declared.decl.Decl.{Decl}
 use Rattle.cube_language.specs.Cubes.{cubes_text}
@@ -9,7 +9,7 @@ use Rattle.cube_rounds.specs.Stands.{Kept, kept_of_cubes, kept_with_all, Stands}
 use Rattle.cube_values.specs.declared.call_error.CallError.{CallError}
 use Rattle.cube_values.specs.declared.call_error.CallError.TheVariants as errors
 use Rattle.outside_disk.specs.Reads.{IsUntouched}
-use Rattle.outside_disk.specs.Views.{View, IsSynced, LeavesOnly}
+use Rattle.outside_disk.specs.Views.{View, IsSynced}
 use Rattle.sha2.specs.Sha256.{sha256}
 use Rattle.store_reading.specs.declared.pair.StorePlace.{StorePlace}
 use Rattle.store_reading.specs.declared.fault.PairFault.{PairFault}

@@ -1,21 +1,16 @@
 -- What the files of a store stand for while a round is written.
-use Rattle.std.proofs.Common.{◌≡◌, ◌≢◌, ℕ, zero, suc, ◌+◌, ◌^◌, ◌<◌, ◌≤◌, ◌⊎◌, Bool, true, false, not, List, [], ◌∷◌, ◌++◌, length, map, take, drop, inl, inr, refl, sym, ap, subst, ◌∙◌, append_assoc, arith}
-use Rattle.std.specs.Prelude.{◌==◌}
-use Rattle.std.proofs.lemmas.Bool.{eqb-true, eq-eqb, cases_Bool}
-use Rattle.std.proofs.lemmas.List.{take_at, length-append, append-nil}
-use Rattle.cube_language.specs.declared.decl.Decl.{Decl}
+use Rattle.std.proofs.Common.{◌≡◌, ℕ, List, [], ◌∷◌, ◌++◌, length, inl, inr, sym, ap, subst, ◌∙◌, append_assoc, arith}
+use Rattle.std.proofs.lemmas.List.{length-append}
 use Rattle.cube_language.specs.Cubes.{cubes_text}
-use Rattle.cube_language.specs.CubesText.{Declares}
 use Rattle.cube_rounds.specs.declared.round.Round.{Round}
 use Rattle.cube_rounds.specs.Bytes.{round_bytes}
-use Rattle.cube_rounds.specs.Demands.{no_names, FitsRound}
-use Rattle.cube_rounds.specs.Headers.{open_gate, shut_gate, header_bytes, FitsHeader}
-use Rattle.cube_rounds.specs.Stands.{Kept, kept_of_cubes, kept_with, kept_with_all, RoundsMayFollow, rounds_bytes, file_bytes, FileStands, IsClosed, IsOlder, IsCurrent}
+use Rattle.cube_rounds.specs.Demands.{FitsRound}
+use Rattle.cube_rounds.specs.Headers.{open_gate, shut_gate, header_bytes}
+use Rattle.cube_rounds.specs.Stands.{Kept, kept_of_cubes, kept_with, kept_with_all, rounds_bytes, file_bytes, FileStands, IsCurrent}
 use Rattle.cube_rounds.proofs.OneMore.{kept_more, follow_more, bytes_more}
 use Rattle.sha2.specs.Sha256.{sha256}
 use Rattle.store_reading.specs.declared.pair.StorePlace.{StorePlace}
 use Rattle.store_reading.specs.Pairs.{pair_content, StandsAt}
-use Rattle.store_reading.proofs.PairsRead.{stands_begin}
 use Rattle.gate_writes.specs.Gates.{EndsShut, EndsOpen, Appending}
 use Rattle.round_store.specs.States.{place_behind, Follows, IsEither}
 

@@ -9,7 +9,7 @@ use Rattle.cube_rounds.specs.Demands.{DimNames, no_names}
 use Rattle.cube_rounds.specs.Stands.{Kept, kept_of_cubes, kept_with, kept_with_all}
 use Rattle.store_reading.specs.Parts.{NamesFit, all_names_with}
 use Rattle.store_reading.proofs.Growing.{round_names_fit}
-use Rattle.round_store.specs.Counts.{counts_of, counts_with, CubeCounts, data_with}
+use Rattle.round_store.specs.Counts.{counts_of, counts_with}
 use Rattle.round_store.specs.States.{StoreState, header_cubes, IsStoreOf, Follows}
 use Rattle.round_store.proofs.CountLaws.{counts_of_none, counts_more}
 

@@ -1,15 +1,13 @@
 -- A whole round that replaces the other file.
-use Rattle.std.proofs.Common.{◌≡◌, ℕ, ◌+◌, ◌^◌, ◌<◌, ◌≤◌, ◌⊎◌, Bool, true, false, List, [], ◌∷◌, ◌++◌, length, take, Option, Some, None, inl, inr, refl, sym, ap, subst, ◌∙◌, arith}
+use Rattle.std.proofs.Common.{◌≡◌, ℕ, ◌+◌, ◌^◌, ◌<◌, ◌⊎◌, Bool, true, false, List, ◌∷◌, ◌++◌, take, Option, Some, None, inl, inr, refl, sym, ap, subst, ◌∙◌, arith}
 use Rattle.std.specs.Prelude.{IfSome, ◌==◌, ◌&&◌, ◌||◌, nat_lt, nat_le, not}
 use Rattle.std.proofs.lemmas.Bool.{eqb-true, ltb-true}
-use Rattle.std.proofs.lemmas.List.{length-append}
 use Rattle.cube_language.specs.declared.decl.Decl.{Decl}
 use Rattle.cube_language.specs.Cubes.{cubes_text}
-use Rattle.cube_language.specs.CubesText.{Declares}
 use Rattle.cube_rounds.specs.declared.round.Round.{Round}
 use Rattle.cube_rounds.specs.Headers.{open_gate, header_bytes, FitsHeader}
-use Rattle.cube_rounds.specs.Stands.{Kept, kept_of_cubes, kept_with, rounds_bytes, IsClosed, IsOlder, IsCurrent}
-use Rattle.gate_writes.specs.Gates.{Filling, Replacing, has_shut_gate}
+use Rattle.cube_rounds.specs.Stands.{Kept, kept_of_cubes, kept_with, rounds_bytes, IsCurrent}
+use Rattle.gate_writes.specs.Gates.{Replacing, has_shut_gate}
 use Rattle.gate_writes.proofs.Moments.{LeavesOnly-wider}
 use Rattle.outside_disk.specs.Views.{View, IsSynced, LeavesOnly}
 use Rattle.round_fields.proofs.DigestLaws.{both_true}

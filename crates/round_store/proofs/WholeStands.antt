@@ -1,7 +1,5 @@
 -- What the files of a store stand for while a whole round is written to the other file.
-use Rattle.std.proofs.Common.{◌≡◌, ◌≢◌, ℕ, zero, suc, ◌+◌, ◌-◌, ◌^◌, ◌<◌, ◌≤◌, ◌⊎◌, Bool, true, false, not, List, [], ◌∷◌, ◌++◌, length, map, take, drop, inl, inr, refl, sym, ap, subst, ◌∙◌, append_assoc, arith}
-use Rattle.std.specs.Prelude.{◌==◌}
-use Rattle.std.proofs.lemmas.Bool.{eqb-true, eq-eqb, cases_Bool}
+use Rattle.std.proofs.Common.{◌≡◌, ℕ, zero, suc, ◌+◌, ◌-◌, ◌^◌, ◌≤◌, ◌⊎◌, Bool, List, [], ◌∷◌, ◌++◌, length, take, drop, inl, refl, sym, ap, subst, ◌∙◌, append_assoc, arith}
 use Rattle.std.proofs.lemmas.List.{take_at, length-append, append-nil}
 use Rattle.cube_language.specs.declared.decl.Decl.{Decl}
 use Rattle.cube_language.specs.Cubes.{cubes_text}
@@ -9,7 +7,7 @@ use Rattle.cube_language.specs.CubesText.{Declares}
 use Rattle.cube_rounds.specs.declared.round.Round.{Round}
 use Rattle.cube_rounds.specs.Bytes.{round_bytes}
 use Rattle.cube_rounds.specs.Headers.{open_gate, shut_gate, header_bytes, FitsHeader}
-use Rattle.cube_rounds.specs.Stands.{Kept, kept_of_cubes, kept_with, rounds_bytes, file_bytes, FileStands, IsClosed, IsOlder, IsCurrent}
+use Rattle.cube_rounds.specs.Stands.{Kept, kept_of_cubes, kept_with, rounds_bytes, IsClosed, IsOlder, IsCurrent}
 use Rattle.round_fields.proofs.Told.{length-sha256}
 use Rattle.round_text.specs.HeaderReading.{text_start}
 use Rattle.round_text.proofs.HeaderLaws.{length-header}

@@ -1,4 +1,5 @@
 pub mod Counts
+pub mod Creation
 pub mod Opening
 pub mod States
 pub mod Wholes

@@ -4,6 +4,7 @@
 mod append_round;
 mod data;
 mod fault;
+mod new_store;
 mod next;
 mod old_store;
 mod round;
@@ -12,5 +13,6 @@ mod whole_round;
 
 pub use data::CubeShapes;
 pub use fault::OpenFault;
+pub use new_store::create_store;
 pub use old_store::open_store;
 pub use store::Store;

@@ -1,4 +1,4 @@
-use Rattle.std.proofs.Common.{◌++◌, ◌∷◌, [], sym, ap, ◌∙◌, subst, ◌≤◌, length, ℕ, List}
+use Rattle.std.proofs.Common.{sym, ◌∙◌, subst, ◌≤◌, length, ℕ, List}
 use Rattle.round_store.proofs.WholeStands.{header_long, whole_put}
 use Rattle.round_store.proofs.next.whole_bytes.Goals as goal
 

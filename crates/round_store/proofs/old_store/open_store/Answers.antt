@@ -1,4 +1,3 @@
-use Rattle.std.proofs.Common.{sym, subst, ◌∙◌}
 use Rattle.std.proofs.lemmas.Result.{err_from_is_err_and}
 use Rattle.round_store.proofs.OpenLaws.{where_all, opens_failed, only_where}
 use Rattle.round_store.proofs.old_store.open_store.Goals as goal

@@ -1,4 +1,4 @@
-use Rattle.std.proofs.Common.{◌≡◌, ℕ, List, true, false, refl, sym, ap, subst, ◌∙◌}
+use Rattle.std.proofs.Common.{◌≡◌, true, false, refl, sym, ap, subst, ◌∙◌}
 use Rattle.cube_rounds.specs.Stands.{Kept, kept_of_cubes, kept_with}
 use Rattle.std.specs.Prelude.{OnOk}
 use Rattle.outside_disk.specs.Views.{LeavesOnly}

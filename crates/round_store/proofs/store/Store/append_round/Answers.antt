@@ -1,4 +1,4 @@
-use Rattle.std.proofs.Common.{◌≡◌, ℕ, List, length, refl, sym, ap, ◌∙◌}
+use Rattle.std.proofs.Common.{ℕ, List, length, refl, sym, ap, ◌∙◌}
 use Rattle.cube_rounds.specs.Stands.{kept_with}
 use Rattle.round_store.specs.Counts.{CubeCounts}
 use Rattle.round_store.specs.States.{StoreState, place_behind}

@@ -1,8 +1,7 @@
-use Rattle.std.proofs.Common.{◌≡◌, ℕ, List, ◌+◌, not, length, refl, sym, ap, ◌∙◌, subst}
+use Rattle.std.proofs.Common.{ℕ, List, ◌+◌, not, refl, sym, ap, ◌∙◌}
 use Rattle.cube_rounds.specs.Stands.{kept_of_cubes, kept_with}
 use Rattle.round_store.specs.Counts.{CubeCounts}
 use Rattle.round_store.specs.States.{StoreState, header_cubes, whole_place}
-use Rattle.round_store.specs.Wholes.{IsWhole}
 use Rattle.round_store.proofs.WholeLaws.{replace_moves, replace_added, still_beside}
 use Rattle.round_store.proofs.StoreLaws.{store_of_whole}
 use Rattle.round_store.proofs.store.Store.begin_file.Goals as goal
