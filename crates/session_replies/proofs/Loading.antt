@@ -45,7 +45,7 @@ looks_at run step cube path reject d looked on l =
     (map (judged_record (is i) (names_of_cube (catalog_of run) (same i))) (l.records (is i))))
     ∙ l.looked_at
 
-loads : (run : RunRecord) (step : SessionStep) (cube path : List ℕ) (reject : ℕ) (d : Decl)
+pub loads : (run : RunRecord) (step : SessionStep) (cube path : List ℕ) (reject : ℕ) (d : Decl)
     (looked : List (Result Row BadRow)) → IsOnCube run step (Load cube path reject) d
     → LooksAtRecords run step d reject looked → load_records (catalog_of run) cube reject step.file ≡ looked
 loads run step cube path reject d looked on l =
