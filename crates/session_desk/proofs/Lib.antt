@@ -11,3 +11,5 @@ pub mod Asking
 pub mod Making
 pub mod FindingCubes
 pub mod Changing
+pub mod OpenBegun
+pub mod SettledAtDesk

@@ -1,21 +1,28 @@
-//! What is settled of a statement on rows by what stands behind the session.
+//! What holds of statements on rows by what stands behind the session.
 
-ghost use Rattle.std.specs.Prelude.{◌≡◌, ℕ, List, ◌++◌, Option, Some, slice_get};
+ghost use Rattle.std.specs.Prelude.{◌≡◌, ℕ, true, List, ◌++◌, Option, Some, slice_get};
+ghost use Rattle.std.specs.List.{list_any};
+ghost use Rattle.cube_values.specs.declared.snapshot.Snapshot.{Snapshot};
 ghost use Rattle.cube_language.specs.declared.decl.Decl.{Decl};
 ghost use Rattle.cube_language.specs.declared.statement.Statement.{Statement};
+ghost use Rattle.cube_journal.specs.Counters.{journal_state};
 ghost use Rattle.cube_journal.specs.declared.journal_entry.JournalEntry.{JournalEntry};
 ghost use Rattle.cube_journal.specs.declared.reply.Reply.{Reply};
 ghost use Rattle.cube_run.specs.RunRecords.{LoadedFile, RunRecord, Says, Sentence, cube_needed};
 ghost use Rattle.cube_run.specs.RunText.{IsReply};
 ghost use Rattle.cube_run.specs.RunTransactions.{DoneOperation};
+ghost use Rattle.cube_run.specs.SessionStates.{Open};
 ghost use Rattle.cube_run.specs.SessionSteps.{session_part};
 ghost use Rattle.condition_spans.specs.Codes.{lists_at};
-ghost use Rattle.one_session.specs.Behind.{HasDone, last_step};
-ghost use Rattle.one_session.specs.Changes.{AreNamedApart};
+ghost use Rattle.one_session.specs.Behind.{HasDone, IsSettled, last_step};
+ghost use Rattle.one_session.specs.Changes.{AreNamedApart, is_begin_of};
 ghost use Rattle.one_session.specs.Pasts.{Beginning, GoesOn, IsOneMore, NamesOnlyCome, SessionPast};
+ghost use Rattle.aosi_register.specs.State.{state_of};
 ghost use Rattle.aosi_desk.specs.Desks.{DeskState};
+ghost use Rattle.session_replies.specs.Modes.{mode_of};
 ghost use Rattle.session_replies.specs.RowSteps.{IsOnCube, final_names};
 ghost use Rattle.session_desk.specs.declared.session.Session.{Session};
+ghost use Rattle.session_desk.specs.AtDesk.{IsServing};
 ghost use Rattle.session_desk.specs.Executed.{HasExecuted};
 ghost use Rattle.session_desk.specs.RowsDone.{AddsEntries, EpochsRise, done_with, next_change, past_with};
 ghost use Rattle.session_desk.specs.Standing.{StandsBehind, World, session_state};
@@ -67,4 +74,23 @@ pub fn statements_on_rows_are_executed()
           done = done_with done operation;
         })
         said }
+{}
+
+/// The transaction that a session has open at its desk was begun by one of its statements behind.
+pub fn an_open_transaction_was_begun()
+    ensures { (beginning : Beginning) (past : SessionPast) (now : World) (safe : ℕ)
+        (writer : Snapshot)
+        → StandsBehind beginning past now
+        → IsServing (state_of now.desk.register) safe (mode_of now.session.mode)
+        → mode_of now.session.mode ≡ Open writer
+        → list_any (is_begin_of writer.epoch) (session_part 1 past.journal) ≡ true }
+{}
+
+/// What comes of the epochs before the next change of a session at its desk is settled, whatever may follow.
+pub fn a_session_at_its_desk_is_settled()
+    ensures { (beginning : Beginning) (past : SessionPast) (now : World) (safe : ℕ)
+        → StandsBehind beginning past now
+        → IsServing (state_of now.desk.register) safe (mode_of now.session.mode)
+        → IsSettled (journal_state beginning.safe past.journal) (mode_of now.session.mode)
+        (next_change now.desk now.session) }
 {}
