@@ -44,16 +44,16 @@ abbrev pub done_with : List DoneOperation → Option DoneOperation → List Done
 done_with done None = done
 done_with done (Some o) = done ++ o ∷ []
 
--- An operation stands between two epochs, and was begun.
-pub record IsBetween (o : DoneOperation) (low high : ℕ) (part : List JournalEntry) : Type 0 where
+-- An operation has an epoch from one next one up to another, and its transaction was begun.
+pub record IsNextChange (o : DoneOperation) (low high : ℕ) (part : List JournalEntry) : Type 0 where
   pub above : low ≤ o.epoch
   pub below : o.epoch ≤ high
   pub begun : list_any (is_begin_of o.epoch) part ≡ true
 
--- The epoch of the next change does not fall, and a change stands between.
+-- The epoch of the next change does not fall, and a change that is done has one between.
 abbrev pub EpochsRise : Option DoneOperation → ℕ → ℕ → List JournalEntry → Type 0
 EpochsRise None low high part = low ≤ high
-EpochsRise (Some o) low high part = IsBetween o low high part
+EpochsRise (Some o) low high part = IsNextChange o low high part
 
 -- The epoch that the next change has.
 abbrev pub next_change : DeskState → Session → ℕ

@@ -22,7 +22,7 @@ use Rattle.cube_run.specs.SessionStates.{Mode, Idle, Open, Aborted}
 use Rattle.cube_run.specs.SessionSteps.{SessionStep}
 use Rattle.cube_run.specs.StatementEntries.{is_select}
 use Rattle.session_replies.specs.RowEntries.{lone_refusal, open_abort, own_abort, own_commit}
-use Rattle.session_replies.specs.RowSteps.{IsOnCube, LooksAtRecords}
+use Rattle.session_replies.specs.RowSteps.{IsOnCube, GivesRecords}
 use Rattle.session_replies.specs.StepParts.{IsStep}
 use Rattle.session_replies.proofs.Ends.{same_parts, with_parts}
 use Rattle.session_replies.proofs.Loading.{loads}
@@ -47,7 +47,7 @@ put_by run step cube rows d on =
 
 load_by : (run : RunRecord) (step : SessionStep) (cube path : List ℕ) (reject : ℕ) (d : Decl)
     (looked : List (Result Row BadRow)) → IsOnCube run step (Load cube path reject) d
-    → LooksAtRecords run step d reject looked
+    → GivesRecords run step d reject looked
     → operation_asked (catalog_of run) step.file (Says (Load cube path reject))
     ≡ Some (Put (rows_of_cube d.name (rows_among looked)))
 load_by run step cube path reject d looked on l =
@@ -113,7 +113,7 @@ insert_done_inside run step cube rows d writer h on =
 pub load_done_alone : (run : RunRecord) (step : SessionStep) (cube path : List ℕ) (reject : ℕ) (d : Decl)
     (looked : List (Result Row BadRow)) (epoch : ℕ) (deps : List ℕ) (round : List JournalEntry)
     → IsStep step Idle (Says (Load cube path reject)) (own_commit step epoch deps round)
-    → IsOnCube run step (Load cube path reject) d → LooksAtRecords run step d reject looked
+    → IsOnCube run step (Load cube path reject) d → GivesRecords run step d reject looked
     → operation_done (catalog_of run) step
     ≡ Some (record {
       number = step.number;
@@ -127,7 +127,7 @@ load_done_alone run step cube path reject d looked epoch deps round h on l =
 pub load_done_inside : (run : RunRecord) (step : SessionStep) (cube path : List ℕ) (reject : ℕ) (d : Decl)
     (looked : List (Result Row BadRow)) (writer : Snapshot)
     → IsStep step (Open writer) (Says (Load cube path reject)) []
-    → IsOnCube run step (Load cube path reject) d → LooksAtRecords run step d reject looked
+    → IsOnCube run step (Load cube path reject) d → GivesRecords run step d reject looked
     → operation_done (catalog_of run) step
     ≡ Some (record {
       number = step.number;

@@ -20,7 +20,7 @@ ghost use Rattle.cube_run.specs.SessionStates.{Mode, Idle, Open};
 ghost use Rattle.cube_run.specs.SessionSteps.{SessionStep};
 ghost use Rattle.cube_run.specs.StatementEntries.{is_select};
 ghost use Rattle.session_replies.specs.RowEntries.{lone_refusal, open_abort, own_abort, own_commit};
-ghost use Rattle.session_replies.specs.RowSteps.{IsOnCube, LooksAtRecords};
+ghost use Rattle.session_replies.specs.RowSteps.{IsOnCube, GivesRecords};
 ghost use Rattle.session_replies.specs.StepParts.{IsStep};
 
 /// An INSERT that is done puts its rows, a LOAD the rows among the records that it looks at, and a DELETE drops its region:
@@ -49,7 +49,7 @@ pub fn changes_are_told()
         (d : Decl) (looked : List (Result Row BadRow)) (epoch : ℕ) (deps : List ℕ)
         (round : List JournalEntry)
         → IsStep step Idle (Says (Load cube path reject)) (own_commit step epoch deps round)
-        → IsOnCube run step (Load cube path reject) d → LooksAtRecords run step d reject looked
+        → IsOnCube run step (Load cube path reject) d → GivesRecords run step d reject looked
         → operation_done (catalog_of run) step ≡ Some (record {
           number = step.number;
           epoch = epoch;
@@ -58,7 +58,7 @@ pub fn changes_are_told()
     ensures loaded_inside { (run : RunRecord) (step : SessionStep) (cube path : List ℕ) (reject : ℕ)
         (d : Decl) (looked : List (Result Row BadRow)) (writer : Snapshot)
         → IsStep step (Open writer) (Says (Load cube path reject)) []
-        → IsOnCube run step (Load cube path reject) d → LooksAtRecords run step d reject looked
+        → IsOnCube run step (Load cube path reject) d → GivesRecords run step d reject looked
         → operation_done (catalog_of run) step ≡ Some (record {
           number = step.number;
           epoch = writer.epoch;
