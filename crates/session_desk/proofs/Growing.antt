@@ -98,7 +98,7 @@ Answers sentence added desk session said =
     → GoesOn beginning (grown past sentence added) run
     → IsReply run (last_step (grown past sentence added) (session_state session) sentence added) said
 
-never_fall_more : (low high more : ℕ) (done : List DoneOperation) → high ≤ more → EpochsNeverFall low done high
+pub never_fall_more : (low high more : ℕ) (done : List DoneOperation) → high ≤ more → EpochsNeverFall low done high
     → EpochsNeverFall low done more
 never_fall_more low high more [] l h = omega (arith, l, h)
 never_fall_more low high more (o ∷ done) l h = (h.0, never_fall_more o.epoch high more done l h.1)

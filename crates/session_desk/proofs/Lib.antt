@@ -9,3 +9,7 @@ pub mod Replying
 pub mod Finishing
 pub mod Asking
 pub mod Making
+pub mod FindingCubes
+pub mod Changing
+pub mod OpenBegun
+pub mod SettledAtDesk

@@ -4,3 +4,4 @@ pub mod Executed
 pub mod Entries
 pub mod Ended
 pub mod CubeReplies
+pub mod RowsDone

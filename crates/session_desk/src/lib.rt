@@ -4,6 +4,7 @@
 mod answered;
 mod cubes;
 mod ending;
+mod law;
 mod refusals;
 mod refusing;
 mod requests;
@@ -15,6 +16,10 @@ mod transactions;
 pub use answered::Answered;
 pub use cubes::create_cube;
 pub use ending::{close, end};
+pub use law::{
+    a_session_at_its_desk_is_settled, an_open_transaction_was_begun, statements_find_their_cubes,
+    statements_on_rows_are_executed,
+};
 pub use refusals::{refuse_by_mode, refuse_memory, refuse_syntax};
 pub use requests::{flush, purge, show_epochs};
 pub use rounds::follow_commit;

@@ -8,3 +8,4 @@ pub mod RowAnswers
 pub mod Inserting
 pub mod Loading
 pub mod Reading
+pub mod Doing

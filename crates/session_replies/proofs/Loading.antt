@@ -21,7 +21,7 @@ use Rattle.cube_run.specs.SessionSteps.{SessionStep}
 use Rattle.cube_run.specs.StatementEntries.{leaves_refused}
 use Rattle.cube_run.specs.StepOutcomes.{data_refusal, read_fault, refused_by_mode, refused_file, refused_first, shard_full}
 use Rattle.session_replies.specs.RowEntries.{IsRoundAfter, lone_refusal, open_abort, own_abort, own_commit}
-use Rattle.session_replies.specs.RowSteps.{FitsItsCube, IsOnCube, LooksAtRecords}
+use Rattle.session_replies.specs.RowSteps.{FitsItsCube, IsOnCube, GivesRecords}
 use Rattle.session_replies.specs.StepParts.{IsStep}
 use Rattle.session_replies.proofs.Ends.{bound_none, with_parts}
 use Rattle.session_replies.proofs.OnCubes.{declared_so, fits, stands}
@@ -36,7 +36,7 @@ refused_for reject looked =
 -- What a LOAD looks at, by the declaration of its cube.
 looks_at : (run : RunRecord) (step : SessionStep) (cube path : List ℕ) (reject : ℕ) (d : Decl)
     (looked : List (Result Row BadRow)) → IsOnCube run step (Load cube path reject) d
-    → (l : LooksAtRecords run step d reject looked)
+    → (l : GivesRecords run step d reject looked)
     → load_records (catalog_of run) cube reject (Records l.records) ≡ looked
 looks_at run step cube path reject d looked on l =
     let same = same_Some cube d.name on.needed in
@@ -45,16 +45,16 @@ looks_at run step cube path reject d looked on l =
     (map (judged_record (is i) (names_of_cube (catalog_of run) (same i))) (l.records (is i))))
     ∙ l.looked_at
 
-loads : (run : RunRecord) (step : SessionStep) (cube path : List ℕ) (reject : ℕ) (d : Decl)
+pub loads : (run : RunRecord) (step : SessionStep) (cube path : List ℕ) (reject : ℕ) (d : Decl)
     (looked : List (Result Row BadRow)) → IsOnCube run step (Load cube path reject) d
-    → LooksAtRecords run step d reject looked → load_records (catalog_of run) cube reject step.file ≡ looked
+    → GivesRecords run step d reject looked → load_records (catalog_of run) cube reject step.file ≡ looked
 loads run step cube path reject d looked on l =
     ap (load_records (catalog_of run) cube reject) l.file ∙ looks_at run step cube path reject d looked on l
 
 -- What its file refuses a LOAD for that gives records.
 refuses : (run : RunRecord) (step : SessionStep) (cube path : List ℕ) (reject : ℕ) (d : Decl)
     (looked : List (Result Row BadRow)) → IsOnCube run step (Load cube path reject) d
-    → LooksAtRecords run step d reject looked
+    → GivesRecords run step d reject looked
     → data_refusal (catalog_of run) step.file (Says (Load cube path reject)) ≡ refused_for reject looked
 refuses run step cube path reject d looked on l =
     ap (refused_file (catalog_of run) cube reject) l.file
@@ -82,7 +82,7 @@ pub loaded_alone : (run : RunRecord) (step : SessionStep) (cube path : List ℕ)
     → IsStep step Idle (Says (Load cube path reject)) (own_commit step epoch deps round)
     → IsRoundAfter run step round
     → FitsItsCube run step (Load cube path reject) d
-    → LooksAtRecords run step d reject looked → length (rejections_among looked) ≤ reject
+    → GivesRecords run step d reject looked → length (rejections_among looked) ≤ reject
     → IsReply run step
     (reply.Loaded (length (rows_among looked)) (length (rejections_among looked))
     (take shown_rejections (rejections_among looked)) epoch)
@@ -96,7 +96,7 @@ pub loaded_inside : (run : RunRecord) (step : SessionStep) (cube path : List ℕ
     (looked : List (Result Row BadRow)) (writer : Snapshot)
     → IsStep step (Open writer) (Says (Load cube path reject)) []
     → FitsItsCube run step (Load cube path reject) d
-    → LooksAtRecords run step d reject looked → length (rejections_among looked) ≤ reject
+    → GivesRecords run step d reject looked → length (rejections_among looked) ≤ reject
     → IsReply run step
     (reply.Loaded (length (rows_among looked)) (length (rejections_among looked))
     (take shown_rejections (rejections_among looked)) writer.epoch)
@@ -148,7 +148,7 @@ pub rejected_alone : (run : RunRecord) (step : SessionStep) (cube path : List �
     (looked : List (Result Row BadRow)) (epoch : ℕ) (deps : List ℕ)
     → IsStep step Idle (Says (Load cube path reject)) (own_abort step epoch deps abort.TooManyRejected)
     → FitsItsCube run step (Load cube path reject) d
-    → LooksAtRecords run step d reject looked → reject < length (rejections_among looked)
+    → GivesRecords run step d reject looked → reject < length (rejections_among looked)
     → IsReply run step (reply.Refused (refusal.TooManyRejected (length (rejections_among looked)) reject))
 rejected_alone run step cube path reject d looked epoch deps h fit l more =
     let s = Load cube path reject in
@@ -164,7 +164,7 @@ pub rejected_inside : (run : RunRecord) (step : SessionStep) (cube path : List �
     (looked : List (Result Row BadRow)) (writer : Snapshot)
     → IsStep step (Open writer) (Says (Load cube path reject)) (open_abort step writer.epoch abort.TooManyRejected)
     → FitsItsCube run step (Load cube path reject) d
-    → LooksAtRecords run step d reject looked → reject < length (rejections_among looked)
+    → GivesRecords run step d reject looked → reject < length (rejections_among looked)
     → IsReply run step (reply.Refused (refusal.TooManyRejected (length (rejections_among looked)) reject))
 rejected_inside run step cube path reject d looked writer h fit l more =
     let s = Load cube path reject in
@@ -217,7 +217,7 @@ pub load_too_many_alone : (run : RunRecord) (step : SessionStep) (cube path : Li
     (looked : List (Result Row BadRow)) (epoch : ℕ) (deps : List ℕ) (shard count : ℕ)
     → IsStep step Idle (Says (Load cube path reject)) (own_abort step epoch deps (abort.ShardFull shard count))
     → FitsItsCube run step (Load cube path reject) d
-    → LooksAtRecords run step d reject looked → length (rejections_among looked) ≤ reject
+    → GivesRecords run step d reject looked → length (rejections_among looked) ≤ reject
     → IsReply run step (reply.Refused (refusal.ShardFull shard count))
 load_too_many_alone run step cube path reject d looked epoch deps shard count h fit l allowed =
     let s = Load cube path reject in
@@ -233,7 +233,7 @@ pub load_too_many_inside : (run : RunRecord) (step : SessionStep) (cube path : L
     → IsStep step (Open writer) (Says (Load cube path reject))
     (open_abort step writer.epoch (abort.ShardFull shard count))
     → FitsItsCube run step (Load cube path reject) d
-    → LooksAtRecords run step d reject looked → length (rejections_among looked) ≤ reject
+    → GivesRecords run step d reject looked → length (rejections_among looked) ≤ reject
     → IsReply run step (reply.Refused (refusal.ShardFull shard count))
 load_too_many_inside run step cube path reject d looked writer shard count h fit l allowed =
     let s = Load cube path reject in

@@ -29,7 +29,7 @@ pub record FitsItsCube (run : RunRecord) (step : SessionStep) (s : Statement) (d
 
 -- The file of a LOAD gives records. Those at which it looks that allows so many bad ones are these, by the dictionaries
 -- in the end.
-pub record LooksAtRecords (run : RunRecord) (step : SessionStep) (d : Decl) (reject : ℕ)
+pub record GivesRecords (run : RunRecord) (step : SessionStep) (d : Decl) (reject : ℕ)
     (looked : List (Result Row BadRow)) : Type 0 where
   pub records : Decl → List (Result Row BadRow)
   pub file : step.file ≡ Records records

@@ -21,7 +21,7 @@ ghost use Rattle.cube_run.specs.SessionSteps.{SessionStep};
 ghost use Rattle.cube_run.specs.StatementEntries.{is_change};
 ghost use Rattle.cube_run.specs.StepOutcomes.{refused_by_mode};
 ghost use Rattle.session_replies.specs.RowEntries.{IsRoundAfter, lone_refusal, open_abort, own_abort, own_commit};
-ghost use Rattle.session_replies.specs.RowSteps.{FitsItsCube, LooksAtRecords, final_names};
+ghost use Rattle.session_replies.specs.RowSteps.{FitsItsCube, GivesRecords, final_names};
 ghost use Rattle.session_replies.specs.StepParts.{IsStep};
 
 /// An INSERT of rows that fit their cube, each of whose texts has a place in its dictionary, is stored: by a transaction of
@@ -86,14 +86,14 @@ pub fn loads_are_answered()
         (round : List JournalEntry)
         → IsStep step Idle (Says (Load cube path reject)) (own_commit step epoch deps round)
         → IsRoundAfter run step round → FitsItsCube run step (Load cube path reject) d
-        → LooksAtRecords run step d reject looked → length (rejections_among looked) ≤ reject
+        → GivesRecords run step d reject looked → length (rejections_among looked) ≤ reject
         → IsReply run step
         (reply.Loaded (length (rows_among looked)) (length (rejections_among looked))
         (take shown_rejections (rejections_among looked)) epoch) }
     ensures inside { (run : RunRecord) (step : SessionStep) (cube path : List ℕ) (reject : ℕ)
         (d : Decl) (looked : List (Result Row BadRow)) (writer : Snapshot)
         → IsStep step (Open writer) (Says (Load cube path reject)) []
-        → FitsItsCube run step (Load cube path reject) d → LooksAtRecords run step d reject looked
+        → FitsItsCube run step (Load cube path reject) d → GivesRecords run step d reject looked
         → length (rejections_among looked) ≤ reject
         → IsReply run step
         (reply.Loaded (length (rows_among looked)) (length (rejections_among looked))
@@ -102,14 +102,14 @@ pub fn loads_are_answered()
         (d : Decl) (looked : List (Result Row BadRow)) (epoch : ℕ) (deps : List ℕ) (shard count : ℕ)
         → IsStep step Idle (Says (Load cube path reject))
         (own_abort step epoch deps (abort.ShardFull shard count))
-        → FitsItsCube run step (Load cube path reject) d → LooksAtRecords run step d reject looked
+        → FitsItsCube run step (Load cube path reject) d → GivesRecords run step d reject looked
         → length (rejections_among looked) ≤ reject
         → IsReply run step (reply.Refused (refusal.ShardFull shard count)) }
     ensures shard_inside { (run : RunRecord) (step : SessionStep) (cube path : List ℕ) (reject : ℕ)
         (d : Decl) (looked : List (Result Row BadRow)) (writer : Snapshot) (shard count : ℕ)
         → IsStep step (Open writer) (Says (Load cube path reject))
         (open_abort step writer.epoch (abort.ShardFull shard count))
-        → FitsItsCube run step (Load cube path reject) d → LooksAtRecords run step d reject looked
+        → FitsItsCube run step (Load cube path reject) d → GivesRecords run step d reject looked
         → length (rejections_among looked) ≤ reject
         → IsReply run step (reply.Refused (refusal.ShardFull shard count)) }
 {}
@@ -134,7 +134,7 @@ pub fn files_refuse_loads()
         (reject : ℕ) (d : Decl) (looked : List (Result Row BadRow)) (epoch : ℕ) (deps : List ℕ)
         → IsStep step Idle (Says (Load cube path reject))
         (own_abort step epoch deps abort.TooManyRejected)
-        → FitsItsCube run step (Load cube path reject) d → LooksAtRecords run step d reject looked
+        → FitsItsCube run step (Load cube path reject) d → GivesRecords run step d reject looked
         → reject < length (rejections_among looked)
         → IsReply run step
         (reply.Refused (refusal.TooManyRejected (length (rejections_among looked)) reject)) }
@@ -142,7 +142,7 @@ pub fn files_refuse_loads()
         (reject : ℕ) (d : Decl) (looked : List (Result Row BadRow)) (writer : Snapshot)
         → IsStep step (Open writer) (Says (Load cube path reject))
         (open_abort step writer.epoch abort.TooManyRejected)
-        → FitsItsCube run step (Load cube path reject) d → LooksAtRecords run step d reject looked
+        → FitsItsCube run step (Load cube path reject) d → GivesRecords run step d reject looked
         → reject < length (rejections_among looked)
         → IsReply run step
         (reply.Refused (refusal.TooManyRejected (length (rejections_among looked)) reject)) }

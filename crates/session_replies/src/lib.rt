@@ -1,10 +1,11 @@
-//! What the statements of a session are answered: what its mode refuses, when a round follows a commit, and the reply that
-//! the entries of a statement tell.
+//! What the statements of a session are answered: what its mode refuses, when a round follows a commit, and what the
+//! entries of a statement tell: its reply, and what it has done to rows.
 #![tactic(auto)]
 
 mod change_law;
 mod law;
 mod mode;
+mod operation_law;
 mod read_law;
 
 pub use change_law::{
@@ -15,4 +16,5 @@ pub use law::{
     cubes_are_answered, refusals_are_answered, requests_are_answered, transactions_are_answered,
 };
 pub use mode::{SessionMode, refused_by_mode, round_follows};
+pub use operation_law::{changes_are_told, others_do_nothing_to_rows};
 pub use read_law::{misfits_are_answered, selects_are_answered};
