@@ -112,6 +112,12 @@ creating_first text list bytes f g c d can fits begun any (inr fill) = filled fi
     filled (inr new) =
         inr (inr (inl (subst (λ (x : List ℕ). IsCurrent sha256 (kept_of_cubes list) x d) (sym new) (is_current (kept_of_cubes list) (whole_place false 1 bytes) (open_gate ∷ bytes) d (new_file text list bytes d can fits begun fill.1)))))
 
+pub second_creating : (a b : Option (List ℕ)) (old new : View) (list : List Decl) → IfSome b (λ g. LeavesOnly old new (HasAnyFront g)) → Told a b (λ f g. LeavesOnly old new (λ d. AreCreating list f g f d))
+second_creating None b old new list moves = tt
+second_creating (Some f) None old new list moves = tt
+second_creating (Some f) (Some g) old new list moves =
+    LeavesOnly-wider old new (HasAnyFront g) (λ d. AreCreating list f g f d) (λ d any. inr (inl (record { first_old = record { long = omega arith; rest = refl }; second_old = any }))) moves
+
 -- A second file whose gate is shut is closed.
 closed_now : (g : List ℕ) (old new : View) → old.told ≡ Some g → IsShutNow old new → (d : List ℕ) → new.image d → IsClosed d
 closed_now g old new is shut d image =

@@ -105,6 +105,8 @@ fn begin_files<D: Disk>(disk: &mut D, other: &mut D, bytes: &[u8]) -> Result<boo
     ensures answer { IfSome (D.view other.old).told (λ g.
         IfOk result (λ some. has_shut_gate (shut_where_some g) ≡ some)) }
     ensures synced { OnOk result (IsSynced (D.view disk.new)) }
+    ensures order { OnErr result ((disk.new ≡ disk.old)
+        ⊎ IsShutNow (D.view other.old) (D.view other.new)) }
     ensures failed { OnErr result (Rose (D.view disk.old).faults (D.view disk.new).faults
         ⊎ Rose (D.view other.old).faults (D.view other.new).faults) }
 {
@@ -116,10 +118,10 @@ fn begin_files<D: Disk>(disk: &mut D, other: &mut D, bytes: &[u8]) -> Result<boo
 /// A new store for these cubes, whose text is canonical. Each disk has one image; both tell their files,
 /// or neither does.
 ///
-/// The second disk is called before the first. At every moment the two files stand for none, are the old
-/// ones with any byte at the front of each, or stand for the new store; after Ok it is the last. A fault
-/// comes only where a disk's count rose. Want of memory leaves both disks as they were. It takes time by
-/// the number of bytes.
+/// The first disk is not called before the gate of the second is shut. At every moment the two files
+/// stand for none, are the old ones with any byte at the front of each, or stand for the new store; after
+/// Ok it is the last. A fault comes only where a disk's count rose. Want of memory leaves both disks as
+/// they were. It takes time by the number of bytes.
 pub fn create_store<D: Disk>(
     alloc: Global,
     disk: &mut D,
@@ -139,6 +141,8 @@ pub fn create_store<D: Disk>(
         (d : List ℕ) → (D.view other.new).image d → AreCreating list f g c d)) }
     ensures created { (list : List Decl) → IsCanonical cubes.now list → IfOk result (λ s.
         IsAt s (kept_of_cubes list) (D.view disk.new) (D.view other.new)) }
+    ensures order { IfFault result (λ f. (disk.new ≡ disk.old)
+        ⊎ IsShutNow (D.view other.old) (D.view other.new)) }
     ensures memory { IsErrOf result NoMemory
         → (disk.new ≡ disk.old) × (other.new ≡ other.old) }
     ensures failed { IfFault result (λ f. Rose (D.view disk.old).faults (D.view disk.new).faults
