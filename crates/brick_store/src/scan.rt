@@ -161,7 +161,16 @@ fn metric_fits(columns: &Columns, metric: u32)
     requires { metric < columns.now.layout.metrics }
     ensures { All (λ row. FitsSigned w64 (metric_number metric row.metrics)) columns.now.rows }
 {
-    let _numbers = columns.metrics_of(metric);
+    all_fit(columns.metrics_of(metric));
+}
+
+// Numbers in 64 bits have 64 bits, as each read of one says. A release has no code for it.
+fn all_fit(numbers: &[i64])
+    ensures { All (FitsSigned w64) numbers.now }
+{
+    'numbers: for i in 0..numbers.len() {
+        let _number = numbers[i];
+    }
 }
 
 // Adds the rows whose bit is set and that the query's span has, one after another. It is asked of each

@@ -11,7 +11,7 @@ rows-preserved c = λ cell h.
     let within : get_or cells l.i 0 < length c.args.counts.now = c.requires.within l.i 0 (omega arith) in
     counted c.args.counts.now l.counts cells l.i cell (omega arith) (omega arith) (l.invariant cell h)
 
-pub returns-then-counts-eq1 : goal.returns-then-len-eq1
+pub returns-then-counts-eq1 : goal.returns-then-counts-eq1
 returns-then-counts-eq1 c = λ cell h.
     let counts = c.args.counts.now in
     let cells = c.args.cells.now in
