@@ -20,8 +20,10 @@ use brick_columns::Columns;
 use cube_values::{Bits, BoundItem, BoundQuery};
 use std::alloc::{AllocError, Global};
 
-/// So many cells a group may have in any brick for a fold into arrays.
+/// So many cells a group may have in a brick of fewer rows for a fold into arrays, and so many a row: with
+/// more of them it costs less to add rows one by one than to look at each cell.
 const MOST_CELLS: u64 = 4_096;
+const CELLS_A_ROW: u64 = 4;
 
 /// So many rows are numbered by cells at once.
 const ROWS_AT_ONCE: u64 = 1_024;
@@ -52,12 +54,22 @@ pub fn fold_rows(
         return Ok(());
     }
     if all {
-        let most = columns.len().max(MOST_CELLS).min(u64::from(u32::MAX));
+        let most = most_cells(columns.len());
         if let Some(cells) = cell_count(columns, query.group.as_slice(), most) {
             return fold_cells(alloc, columns, starts, bits, query, cells, into);
         }
     }
     fold_each(alloc, columns, starts, bits, query, all, into)
+}
+
+// So many cells are worth a fold into arrays for so many rows.
+fn most_cells(rows: u64) -> u64
+    requires { 0 < rows }
+    ensures some { 1 ≤ result }
+    ensures few { result < 2 ^ 32 }
+{
+    let few = rows.saturating_mul(CELLS_A_ROW).min(MOST_CELLS);
+    rows.max(few).min(u64::from(u32::MAX))
 }
 
 // Adds the rows whose bit is set, all of which the query's span has, by the cells of its group.
