@@ -1,10 +1,9 @@
 -- What a partial gains cell by cell.
-use Rattle.std.proofs.Common.{◌≡◌, ℕ, zero, suc, ◌+◌, ◌<◌, ◌≤◌, ◌^◌, ◌==◌, ℤ, pos, Bool, true, List, [], ◌∷◌, ◌++◌, length, map, filter, get_or, min, All, IsTrue, FitsSigned, refl, sym, ap, subst, ◌∙◌, arith, length-append, append_assoc}
-use Rattle.std.specs.Int.{w64}
+use Rattle.std.proofs.Common.{◌≡◌, ℕ, suc, ◌+◌, ◌<◌, ◌≤◌, ◌==◌, ℤ, pos, true, List, [], ◌∷◌, ◌++◌, length, map, get_or, All, refl, sym, ap, subst, ◌∙◌, arith, length-append}
 use Rattle.std.specs.List.Sorted.{IsPermutation}
 use Rattle.std.proofs.lemmas.Bool.Decides.{nat_tests}
 use Rattle.std.proofs.lemmas.List.{map-append, length-map}
-use Rattle.std.proofs.lemmas.List.Elements.{All-filter, All-map, All-weaker, filter_passes, length_all_zip}
+use Rattle.std.proofs.lemmas.List.Elements.{All-filter, All-map, filter_passes, length_all_zip}
 use Rattle.std.proofs.lemmas.List.Sorted.{IsPermutation-sym, IsPermutation-map, IsPermutation-append_right, length_permutation}
 use Rattle.std.proofs.lemmas.Simd.{map-map}
 use Rattle.cube_values.specs.declared.query.BoundItem.{BoundItem}
@@ -13,15 +12,14 @@ use Rattle.cube_values.specs.declared.query.BoundQuery.{BoundQuery}
 use Rattle.cube_values.specs.declared.row.CodedRow.{CodedRow}
 use Rattle.cube_values.specs.Queries.{IsSoundQuery}
 use Rattle.agg_fold.specs.declared.groups.Groups.{Groups}
-use Rattle.agg_fold.specs.declared.tally.Tally.{Tally}
 use Rattle.agg_fold.specs.declared.tally.Tally.TheVariants.{Total, Least, Greatest}
-use Rattle.agg_fold.specs.Coded.{IsQueryRow, HasKey, coded_key, metrics_of}
-use Rattle.agg_fold.specs.Standing.{StandsFor, HasRoom, Gains}
-use Rattle.agg_fold.specs.Tallies.{tally_of, told_tally, told_tallies, number_for, AreFew}
+use Rattle.agg_fold.specs.Coded.{IsQueryRow, HasKey, coded_key}
+use Rattle.agg_fold.specs.Standing.{HasRoom, Gains}
+use Rattle.agg_fold.specs.Tallies.{tally_of, told_tally, told_tallies}
 use Rattle.agg_fold.specs.Totals.{AreToldOf}
 use Rattle.agg_fold.proofs.GroupRows.{stand_moved}
-use Rattle.brick_columns.specs.Rows.{BrickRow, BrickRows, Layout, IsBrickRow}
-use Rattle.brick_store.specs.Cells.{cell_of, cell_count, rows_in_cell, rows_below_cell, cell_metrics, CanFold, HasFitNumbers, IsRowOfCell, IsTakenRow, IsToldBy}
+use Rattle.brick_columns.specs.Rows.{BrickRow, BrickRows}
+use Rattle.brick_store.specs.Cells.{cell_of, rows_in_cell, rows_below_cell, cell_metrics, CanFold, IsRowOfCell, IsTakenRow, IsToldBy}
 use Rattle.brick_store.specs.Whole.{coords_from, row_with_coords}
 use Rattle.brick_store.proofs.Coordinates.{coords_long}
 use Rattle.brick_store.proofs.CellRows.{below_more, few_below}

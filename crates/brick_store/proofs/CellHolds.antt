@@ -1,5 +1,5 @@
 -- Cells that come to have more rows.
-use Rattle.std.proofs.Common.{◌≡◌, ℕ, ◌+◌, ◌-◌, ◌<◌, ◌≤◌, ◌^◌, ◌==◌, ℤ, List, [], ◌∷◌, ◌++◌, length, map, take, drop, replicate, get_or, All, FitsSigned, None, count_by, refl, sym, ap, subst, ◌∙◌, arith, length-append, length-drop, append_assoc}
+use Rattle.std.proofs.Common.{◌≡◌, ℕ, ◌+◌, ◌-◌, ◌<◌, ◌≤◌, ◌^◌, ◌==◌, ℤ, List, [], ◌++◌, length, map, take, drop, replicate, get_or, All, FitsSigned, None, count_by, sym, ap, subst, ◌∙◌, arith, length-append, length-drop, append_assoc}
 use Rattle.std.specs.Int.{w64}
 use Rattle.std.proofs.lemmas.List.{ext_get_or, get_or_default, get_or-replicate, get_or-take, get_or-drop, get_or-map, length-map, length-take-le, drop-drop, take-map, drop-map}
 use Rattle.std.proofs.Math.Seq.{take-add}

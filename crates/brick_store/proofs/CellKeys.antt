@@ -1,5 +1,5 @@
 -- Numbers of cells, and the offsets that they stand for.
-use Rattle.std.proofs.Common.{◌≡◌, ℕ, zero, suc, ◌+◌, ◌*◌, ◌/◌, ◌%◌, ◌-◌, ◌<◌, ◌≤◌, List, [], ◌∷◌, length, map, take, drop, set, get_or, All, sym, ap, ◌∙◌, arith}
+use Rattle.std.proofs.Common.{◌≡◌, ℕ, zero, suc, ◌+◌, ◌*◌, ◌/◌, ◌%◌, ◌-◌, ◌<◌, ◌≤◌, List, [], ◌∷◌, length, take, drop, set, get_or, All, sym, ap, ◌∙◌, arith}
 use Rattle.std.proofs.Math.Nat.{mul-le-mul_left}
 use Rattle.std.proofs.lemmas.Nat.{div-mul-add, mod-mul-add}
 use Rattle.std.proofs.lemmas.List.{drop_more, drop_all, get_or-map, length-map}
@@ -7,7 +7,7 @@ use Rattle.std.proofs.lemmas.List.Elements.{All-head, All-tail, All-drop, All-ge
 use Rattle.agg_fold.specs.Coded.{coded_key}
 use Rattle.brick_columns.specs.Rows.{BrickRow, Layout, IsBrickRow, offset_at}
 use Rattle.brick_store.specs.Cells.{cell_count, cell_of, IsRowOfCell}
-use Rattle.brick_store.specs.Whole.{HasSmallCoords, coords_from}
+use Rattle.brick_store.specs.Whole.{coords_from}
 use Rattle.brick_store.proofs.Coordinates.{coords_long, coord_here, written_more}
 
 -- an offset lies below its range

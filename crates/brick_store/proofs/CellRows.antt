@@ -1,19 +1,19 @@
 -- The rows of cells, as more rows come.
-use Rattle.std.proofs.Common.{◌≡◌, ℕ, ◌+◌, ◌-◌, ◌<◌, ◌≤◌, ◌^◌, ◌==◌, ℤ, pos, Bool, true, false, cond, ◌||◌, nat_lt, List, [], ◌∷◌, ◌++◌, length, map, take, drop, filter, fold, get_or, All, Option, Some, count_by, sum_by, refl, sym, ap, subst, ◌∙◌, arith, length-append, append_assoc, inl, inr}
+use Rattle.std.proofs.Common.{◌≡◌, ℕ, ◌+◌, ◌<◌, ◌≤◌, ◌==◌, ℤ, pos, Bool, true, false, cond, ◌||◌, nat_lt, List, [], ◌∷◌, ◌++◌, length, map, filter, fold, get_or, All, Option, Some, count_by, refl, sym, ap, ◌∙◌, arith, append_assoc, inl, inr}
 use Rattle.std.specs.List.{zip}
 use Rattle.std.specs.Option.{option_map_or}
 use Rattle.std.specs.List.Sorted.{IsPermutation}
 use Rattle.std.proofs.lemmas.Bool.{cases_lt, cases_eq}
 use Rattle.std.proofs.lemmas.Bool.Decides.{nat_tests}
-use Rattle.std.proofs.lemmas.List.{append-nil, map-append, take-map, drop-map}
-use Rattle.std.proofs.lemmas.List.Elements.{All-head, All-tail, All-append, All-take, All-drop, filter-append}
+use Rattle.std.proofs.lemmas.List.{append-nil, map-append}
+use Rattle.std.proofs.lemmas.List.Elements.{filter-append}
 use Rattle.std.proofs.lemmas.List.Sums.{sum_by-cons, length-filter, count_by-le-length}
 use Rattle.std.proofs.lemmas.Option.{unwrap_or-slice_get}
 use Rattle.cube_values.specs.declared.query.BoundItem.{BoundItem}
 use Rattle.agg_fold.specs.declared.tally.Tally.{Tally}
-use Rattle.agg_fold.specs.Tallies.{metric_number, metric_asked, tally_of, tally_with, tally_with_row, AreFew, IsSmall}
+use Rattle.agg_fold.specs.Tallies.{metric_number, metric_asked, tally_of, tally_with, tally_with_row}
 use Rattle.agg_fold.proofs.Permuted.{filter_either, filter_all}
-use Rattle.agg_fold.proofs.Tallying.{tally_more, small_tally}
+use Rattle.agg_fold.proofs.Tallying.{tally_more}
 use Rattle.brick_columns.specs.Rows.{BrickRow, metric_at}
 use Rattle.brick_store.specs.Cells.{cell_of, rows_in_cell, rows_below_cell, cell_metrics, numbers_in}
 use Rattle.brick_store.proofs.CellNumbers.{same_cell, other_cell}

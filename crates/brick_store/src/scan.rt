@@ -23,6 +23,7 @@ use std::alloc::{AllocError, Global};
 /// So many cells a group may have in a brick of fewer rows for a fold into arrays, and so many a row: with
 /// more of them it costs less to add rows one by one than to look at each cell.
 const MOST_CELLS: u64 = 4_096;
+
 const CELLS_A_ROW: u64 = 4;
 
 /// So many rows are numbered by cells at once.

@@ -1,4 +1,4 @@
-use Rattle.std.proofs.Common.{◌≡◌, ℕ, ◌+◌, ◌*◌, ◌^◌, ◌<◌, ℤ, pos, ◌+ℤ◌, ◌<ℤ◌, neg_ℤ, length, take, fold, get_or}
+use Rattle.std.proofs.Common.{◌≡◌, ℕ, ◌+◌, ◌*◌, ◌^◌, ◌<◌, pos, ◌+ℤ◌, ◌<ℤ◌, neg_ℤ, length, take, fold, get_or}
 use Rattle.brick_store.specs.Cells.{numbers_in}
 use Rattle.brick_store.proofs.cell_tallies.add_sums.Given as goal
 

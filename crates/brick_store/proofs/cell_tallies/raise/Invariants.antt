@@ -1,5 +1,5 @@
-use Rattle.std.proofs.Common.{◌≡◌, ℕ, ◌+◌, ◌*◌, ◌^◌, ◌<◌, ℤ, pos, ◌+ℤ◌, ◌<ℤ◌, neg_ℤ, length, take, fold, get_or}
-use Rattle.std.specs.Int.{int_min, int_max}
+use Rattle.std.proofs.Common.{◌≡◌, ℕ, ◌<◌, pos, length, take, fold, get_or}
+use Rattle.std.specs.Int.{int_max}
 use Rattle.brick_store.specs.Cells.{numbers_in}
 use Rattle.brick_store.proofs.cell_tallies.raise.Given as goal
 

@@ -1,7 +1,6 @@
-use Rattle.std.proofs.Common.{◌≡◌, ◌+◌, ◌*◌, ◌-◌, ◌<◌, [], length, drop, get_or, All, sym, ap, ◌∙◌, arith}
+use Rattle.std.proofs.Common.{◌+◌, ◌-◌, [], length, get_or, sym, ◌∙◌, arith}
 use Rattle.std.proofs.lemmas.List.Elements.{All-get_or}
 use Rattle.brick_columns.specs.Rows.{BrickRow, IsBrickRow, row_at}
-use Rattle.brick_store.specs.Cells.{cell_of}
 use Rattle.brick_store.proofs.CellKeys.{cell_joined, cell_last, cell_small}
 use Rattle.brick_store.proofs.cells.number_cells.Goals as goal
 

@@ -1,4 +1,4 @@
-use Rattle.std.proofs.Common.{◌+◌, ◌/◌, ◌%◌, ◌<◌, length, set, get_or, sym, subst, arith}
+use Rattle.std.proofs.Common.{◌+◌, ◌/◌, ◌%◌, ◌<◌, set, get_or, sym, subst, arith}
 use Rattle.brick_store.proofs.CellKeys.{IsKeySoFar, digit_below_range, coord_small, key_more}
 use Rattle.brick_store.proofs.cells.write_key.Goals as goal
 

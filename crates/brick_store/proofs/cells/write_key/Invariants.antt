@@ -1,4 +1,3 @@
-use Rattle.std.proofs.Common.{◌≡◌}
 use Rattle.brick_columns.specs.Rows.{BrickRow}
 use Rattle.brick_store.specs.Cells.{IsRowOfCell}
 use Rattle.brick_store.proofs.CellKeys.{IsKeySoFar}

@@ -1,8 +1,8 @@
-use Rattle.std.proofs.Common.{◌≡◌, ℕ, ◌+◌, ◌<◌, ◌≤◌, length, set, get_or, All, refl, sym, subst, ◌∙◌, arith, inl, inr}
+use Rattle.std.proofs.Common.{◌≡◌, ℕ, ◌+◌, length, set, get_or, sym, subst, ◌∙◌, arith, inl, inr}
 use Rattle.std.proofs.lemmas.Bool.{cases_lt}
 use Rattle.std.proofs.lemmas.List.{get_or_default, get_or-set_same, get_or-set_other}
 use Rattle.cube_values.specs.declared.query.BoundItem.TheVariants.{Group}
-use Rattle.brick_store.specs.Cells.{HasCells, HasSmallTallies, TalliesMore, columns_between}
+use Rattle.brick_store.specs.Cells.{HasSmallTallies, TalliesMore, columns_between}
 use Rattle.brick_store.specs.declared.cell_tallies.CellTallies.{CellTallies}
 use Rattle.brick_store.specs.declared.cell_tallies.CellTallies.TheVariants.{Nothing}
 use Rattle.brick_store.proofs.dense.add_items.Goals as goal

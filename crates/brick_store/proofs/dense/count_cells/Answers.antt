@@ -1,6 +1,5 @@
-use Rattle.std.proofs.Common.{◌≡◌, ◌+◌, ◌<◌, ◌==◌, zero, length, set, get_or, All, count_by, sym, ap, subst, ◌∙◌, arith}
+use Rattle.std.proofs.Common.{◌≡◌, ◌+◌, ◌<◌, ◌==◌, zero, length, set, get_or, count_by, sym, ap, subst, ◌∙◌, arith}
 use Rattle.std.proofs.lemmas.List.{get_or-set_same}
-use Rattle.std.proofs.lemmas.List.Elements.{All-weaker}
 use Rattle.brick_store.proofs.CellNumbers.{all_counted, counted}
 use Rattle.brick_store.proofs.dense.count_cells.Goals as goal
 

@@ -1,9 +1,9 @@
-use Rattle.std.proofs.Common.{◌≡◌, ◌+◌, ◌-◌, ◌<◌, ◌≤◌, false, [], length, take, get_or, refl, sym, ap, subst, ◌∙◌, arith}
+use Rattle.std.proofs.Common.{take, sym, subst, arith}
 use Rattle.std.specs.List.{items_where_true}
 use Rattle.std.proofs.lemmas.List.{take_all}
-use Rattle.brick_store.specs.Cells.{cell_count, columns_between, HoldRows}
+use Rattle.brick_store.specs.Cells.{cell_count, HoldRows}
 use Rattle.brick_store.proofs.CellHolds.{between_long}
-use Rattle.brick_store.proofs.CellRuns.{run_more, run_goes, few_chosen}
+use Rattle.brick_store.proofs.CellRuns.{run_more, few_chosen}
 use Rattle.brick_store.proofs.scan.add_runs.Goals as goal
 
 pub add_rows-requires-clause-held : goal.add_rows-requires-clause-held

@@ -1,4 +1,4 @@
-use Rattle.std.proofs.Common.{◌≡◌, ◌-◌, ◌<◌, ◌≤◌, length, take}
+use Rattle.std.proofs.Common.{◌≡◌, ◌-◌, ◌≤◌, length, take}
 use Rattle.std.specs.List.{items_where_true}
 use Rattle.brick_store.specs.Cells.{cell_count, HoldRows}
 use Rattle.brick_store.proofs.scan.add_runs.Given as goal

@@ -1,8 +1,6 @@
-use Rattle.std.proofs.Common.{◌≡◌, ◌+◌, ◌<◌, ◌^◌, [], List, length, map, All, sym, ap, subst, ◌∙◌, arith}
+use Rattle.std.proofs.Common.{[], subst, arith}
 use Rattle.std.specs.List.{items_where_true}
-use Rattle.cube_values.specs.Queries.{IsSoundQuery}
-use Rattle.brick_columns.specs.Rows.{BrickRow}
-use Rattle.brick_store.specs.Cells.{cell_count, CanFold, HasFitNumbers, HoldRows}
+use Rattle.brick_store.specs.Cells.{HoldRows}
 use Rattle.brick_store.proofs.CellScans.{can_fold, taken_rows}
 use Rattle.brick_store.proofs.Folds.{set_short}
 use Rattle.brick_store.proofs.scan.fold_cells.Goals as goal

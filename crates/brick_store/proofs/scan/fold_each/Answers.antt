@@ -1,10 +1,10 @@
-use Rattle.std.proofs.Common.{[], IsTrue, length, map, filter, take, sym, ap, arith}
+use Rattle.std.proofs.Common.{IsTrue, length, map, filter, take, arith}
 use Rattle.std.specs.List.{items_where_true}
 use Rattle.std.proofs.lemmas.List.{length-map, take_all}
 use Rattle.cube_values.specs.declared.row.CodedRow.{CodedRow}
 use Rattle.brick_store.specs.Rows.{span_has_row}
 use Rattle.brick_store.specs.Whole.{row_with_coords}
-use Rattle.brick_store.proofs.Folds.{gains_none, gains_same, gains_row, none_set, of_each, filtered_short, room_after}
+use Rattle.brick_store.proofs.Folds.{gains_none, gains_same, gains_row, of_each, filtered_short, room_after}
 use Rattle.brick_store.proofs.scan.fold_each.Goals as goal
 
 pub fold_row-requires-clause-all : goal.fold_row-requires-clause-all

@@ -1,6 +1,4 @@
-use Rattle.std.proofs.Common.{◌≡◌, ◌<◌, [], List, All, OnOk, length, map, filter, sym, ap, subst, arith, rules}
-use Rattle.std.specs.List.{items_where_true}
-use Rattle.std.proofs.lemmas.List.Sums.{count_by-le-length}
+use Rattle.std.proofs.Common.{◌<◌, [], List, All, OnOk, map, filter, sym, ap, subst, arith, rules}
 use Rattle.cube_values.specs.declared.row.CodedRow.{CodedRow}
 use Rattle.agg_fold.specs.Standing.{Gains}
 use Rattle.brick_store.specs.Rows.{span_has_row}

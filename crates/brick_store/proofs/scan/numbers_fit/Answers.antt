@@ -1,9 +1,9 @@
-use Rattle.std.proofs.Common.{◌+◌, ◌<◌, length, take, get_or, All, sym, subst, arith, inl, inr}
+use Rattle.std.proofs.Common.{take, get_or, All, sym, subst, arith}
 use Rattle.std.proofs.lemmas.List.{take_more, take_all}
 use Rattle.std.proofs.lemmas.List.Elements.{All-push}
 use Rattle.cube_values.specs.declared.query.BoundItem.{BoundItem}
 use Rattle.cube_values.specs.declared.query.BoundItem.TheVariants.{Group}
-use Rattle.brick_store.specs.Cells.{HasFitNumber, HasFitNumbers}
+use Rattle.brick_store.specs.Cells.{HasFitNumber}
 use Rattle.brick_store.proofs.scan.numbers_fit.Goals as goal
 
 pub items-preserved : goal.items-preserved

@@ -1,4 +1,4 @@
-use Rattle.std.proofs.Common.{◌≡◌, ◌<◌, pos, length, fold, take, drop, ◌++◌, ◌+ℤ◌, get_or, refl, sym, ap, subst, ◌∙◌, arith}
+use Rattle.std.proofs.Common.{◌≡◌, ◌<◌, pos, length, fold, ◌+ℤ◌, get_or, refl, sym, ap, subst, ◌∙◌, arith}
 use Rattle.std.specs.Int.{int_min, int_max}
 use Rattle.std.proofs.lemmas.List.{take_at, get_or_default}
 use Rattle.agg_fold.specs.declared.tally.Tally.{Tally}

@@ -1,8 +1,7 @@
-use Rattle.std.proofs.Common.{◌≡◌, ℕ, ◌<◌, [], pos, length, map, get_or, All, sym, ap, subst, ◌∙◌, arith}
+use Rattle.std.proofs.Common.{◌≡◌, ◌<◌, [], pos, length, map, get_or, subst, ◌∙◌, arith}
 use Rattle.std.proofs.lemmas.List.{get_or_default}
-use Rattle.agg_fold.specs.Tallies.{tally_of, told_tallies}
 use Rattle.brick_columns.specs.Rows.{BrickRow}
-use Rattle.brick_store.specs.Cells.{cell_count, rows_in_cell, cell_metrics, HoldRows, IsTakenRow, IsToldBy}
+use Rattle.brick_store.specs.Cells.{cell_count, rows_in_cell, cell_metrics, IsToldBy}
 use Rattle.brick_store.specs.Whole.{row_with_coords}
 use Rattle.brick_store.proofs.CellGains.{gains_no_cell, rows_of_cell, told_all, told_rows}
 use Rattle.brick_store.proofs.dense.Dense.add_cell.Goals as goal

@@ -1,6 +1,5 @@
-use Rattle.std.proofs.Common.{◌≡◌, ◌+◌, ◌<◌, ◌≤◌, ◌^◌, ◌==◌, List, length, map, get_or, All, count_by, sym, ap, subst, ◌∙◌, arith, rules}
-use Rattle.brick_columns.specs.Rows.{BrickRow}
-use Rattle.brick_store.specs.Cells.{AreCellsFrom, cell_of, cell_count, columns_between, HasCells, TalliesMore}
+use Rattle.std.proofs.Common.{◌≡◌, ◌+◌, ◌≤◌, ◌==◌, length, get_or, count_by, sym, ap, ◌∙◌, arith, rules}
+use Rattle.brick_store.specs.Cells.{cell_of, cell_count, columns_between, TalliesMore}
 use Rattle.brick_store.specs.declared.cell_tallies.CellTallies.TheVariants.{Nothing}
 use Rattle.cube_values.specs.declared.query.BoundItem.TheVariants.{Group}
 use Rattle.std.proofs.lemmas.List.{with_items_is}

@@ -1,8 +1,8 @@
-use Rattle.std.proofs.Common.{◌≡◌, ◌+◌, ◌-◌, ◌<◌, ◌≤◌, ◌++◌, [], List, length, length-append, length-drop, drop, sym, ap, subst, ◌∙◌, arith}
+use Rattle.std.proofs.Common.{◌≡◌, ◌+◌, ◌≤◌, ◌++◌, List, length, length-append, length-drop, drop, sym, ap, subst, ◌∙◌, arith}
 use Rattle.std.proofs.lemmas.List.{append-nil, length-take-le}
 use Rattle.brick_columns.specs.Rows.{BrickRow}
 use Rattle.brick_store.specs.Cells.{cell_count, columns_between, HoldMore, HoldRows}
-use Rattle.brick_store.proofs.CellHolds.{between_join, between_long, between_none, hold_then}
+use Rattle.brick_store.proofs.CellHolds.{between_join, between_none, hold_then}
 use Rattle.brick_store.proofs.dense.Dense.add_rows.Goals as goal
 
 pub chunks-init : goal.chunks-init

@@ -1,6 +1,5 @@
-use Rattle.std.proofs.Common.{◌≡◌, ◌+◌, ◌<◌, [], length, map, get_or, All, sym, ap, subst, ◌∙◌, arith}
-use Rattle.brick_columns.specs.Rows.{BrickRow}
-use Rattle.brick_store.specs.Cells.{cell_of, rows_below_cell}
+use Rattle.std.proofs.Common.{[], map, get_or, sym, ap, arith}
+use Rattle.brick_store.specs.Cells.{rows_below_cell}
 use Rattle.brick_store.specs.Whole.{row_with_coords}
 use Rattle.brick_store.proofs.CellGains.{gains_cell, room_for_cell}
 use Rattle.brick_store.proofs.CellKeys.{cell_below}
