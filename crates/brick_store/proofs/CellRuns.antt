@@ -1,7 +1,6 @@
 -- Runs of bits that are alike, and the rows beside them.
-use Rattle.std.proofs.Common.{◌≡◌, true≢false, ℕ, zero, suc, ◌+◌, ◌-◌, ◌<◌, ◌≤◌, Bool, true, false, cond, List, [], ◌∷◌, ◌++◌, length, take, drop, get_or, sym, ap, ◌∙◌, arith, append_assoc, inl, inr}
+use Rattle.std.proofs.Common.{◌≡◌, ℕ, zero, suc, ◌+◌, ◌-◌, ◌<◌, ◌≤◌, Bool, true, false, cond, List, [], ◌∷◌, ◌++◌, length, take, drop, get_or, sym, ap, ◌∙◌, arith, append_assoc}
 use Rattle.std.specs.List.{items_where_true}
-use Rattle.std.proofs.lemmas.Bool.{cases_lt}
 use Rattle.std.proofs.lemmas.List.{append-nil, take_more, get_or-drop, length-drop, length-take-le}
 use Rattle.brick_columns.specs.Rows.{BrickRow}
 use Rattle.brick_store.specs.Cells.{columns_between}
@@ -54,13 +53,3 @@ module _ (bits : List Bool) (rows : List BrickRow) where
 
   pub few_chosen : (n : ℕ) → n ≤ length rows → length (chosen n) ≤ n
   few_chosen n h = omega (arith, set_short (take n bits) (take n rows), length-take-le n rows h)
-
-  -- a run is not empty where a gap ends
-  pub run_goes : (from to : ℕ) → from < length bits → from ≤ to → get_or bits from false ≡ true → (to < length bits → get_or bits to false ≡ false) → from < to
-  run_goes from to h p on off =
-      elim (cases_lt from to) [
-        | inl l ↦ l
-        | inr g ↦
-            let e : to ≡ from = omega arith in
-            absurd (true≢false (sym on ∙ ap (λ j. get_or bits j false) (sym e) ∙ off (omega arith)))
-      ]

@@ -100,9 +100,25 @@ fn add_sums(sums: &mut [i128], cells: &[u32], numbers: &[i64])
         ≡ fold ◌+ℤ◌ (slice_index_or sums.old cell (pos 0))
         (numbers_in cell cells.now numbers.now) }
 {
+    if sums.len() == 1 {
+        sums[0] = sum_with(sums[0], numbers);
+        return;
+    }
     'rows: for i in 0..cells.len() {
         sums[cells[i] as usize] += i128::from(numbers[i]);
     }
+}
+
+// A sum with more numbers.
+fn sum_with(sum: i128, numbers: &[i64]) -> i128
+    requires { IsSmall (Total sum) }
+    ensures { result ≡ fold ◌+ℤ◌ sum numbers.now }
+{
+    let mut total = sum;
+    'rows: for i in 0..numbers.len() {
+        total += i128::from(numbers[i]);
+    }
+    total
 }
 
 // Takes numbers into the least numbers of their cells.

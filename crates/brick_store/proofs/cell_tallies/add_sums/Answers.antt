@@ -1,7 +1,9 @@
-use Rattle.std.proofs.Common.{◌≡◌, ◌+◌, ◌*◌, ◌^◌, ◌<◌, pos, ◌+ℤ◌, ◌<ℤ◌, neg_ℤ, length, get_or, FitsSigned, w64, to_z, of_z, ap, ◌∙◌, arith, rules}
+use Rattle.std.proofs.Common.{◌≡◌, ◌+◌, ◌*◌, ◌^◌, ◌<◌, zero, pos, ◌+ℤ◌, ◌<ℤ◌, neg_ℤ, length, set, fold, get_or, FitsSigned, w64, to_z, of_z, sym, ap, subst, ◌∙◌, arith, rules}
 use Rattle.std.specs.Int.{w128}
 use Rattle.std.proofs.lemmas.Int.{ints, to_z-of_z}
-use Rattle.brick_store.proofs.CellNumbers.{written, set_keeps}
+use Rattle.std.proofs.lemmas.List.{get_or-set_same}
+use Rattle.brick_store.specs.Cells.{numbers_in}
+use Rattle.brick_store.proofs.CellNumbers.{all_in_one, written, set_keeps}
 use Rattle.brick_store.proofs.cell_tallies.add_sums.Goals as goal
 
 pub rows-preserved : goal.rows-preserved
@@ -30,3 +32,19 @@ rows-preserved c =
       low = λ cell h. set_keeps (λ z. neg_ℤ (pos (2 ^ 126 + 2 ^ 63 * (l.i + 1))) <ℤ z) l.sums k cell v there (omega (arith, ints, is, low, fits)) (omega (arith, ints, l.invariant.low cell h));
       high = λ cell h. set_keeps (λ z. z <ℤ pos (2 ^ 126 + 2 ^ 63 * (l.i + 1))) l.sums k cell v there (omega (arith, ints, is, high, fits)) (omega (arith, ints, l.invariant.high cell h));
     }
+
+pub returns-then-sums-eq1 : goal.returns-then-sums-eq1
+returns-then-sums-eq1 c = λ cell h.
+    let sums = c.args.sums.now in
+    let cells = c.args.cells.now in
+    let numbers = c.args.numbers.now in
+    let here : cell ≡ zero = omega arith in
+    let all = all_in_one cells numbers c.requires.long (λ k d p. omega (arith, c.requires.within k d p)) in
+    let v = to_z w128 (of_z w128 c.sum_with.result) in
+    let fits : FitsSigned w128 c.sum_with.result = search rules in
+    let (low, high) = c.requires.small 0 (pos 0) (omega arith) in
+    let first : FitsSigned w128 (get_or sums 0 (pos 0)) = omega (arith, ints, low, high) in
+    let is : v ≡ fold ◌+ℤ◌ (get_or sums 0 (pos 0)) numbers =
+    to_z-of_z w128 c.sum_with.result fits ∙ c.sum_with.ensures ∙ ap (λ x. fold ◌+ℤ◌ x numbers) (to_z-of_z w128 (get_or sums 0 (pos 0)) first) in
+    subst (λ j. get_or (set sums 0 v) j (pos 0) ≡ fold ◌+ℤ◌ (get_or sums j (pos 0)) (numbers_in j cells numbers)) (sym here)
+    (get_or-set_same sums 0 v (pos 0) (omega arith) ∙ is ∙ ap (fold ◌+ℤ◌ (get_or sums 0 (pos 0))) (sym all))
