@@ -1,3 +1,10 @@
+pub mod CellKeys
+pub mod CellGains
+pub mod CellHolds
+pub mod CellNumbers
+pub mod CellRows
+pub mod CellRuns
+pub mod CellScans
 pub mod Changes
 pub mod Coordinates
 pub mod Covered

@@ -1,4 +1,5 @@
 pub mod Bricks
+pub mod Cells
 pub mod Copies
 pub mod Rows
 pub mod Whole

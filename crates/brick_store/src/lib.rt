@@ -2,7 +2,10 @@
 #![tactic(auto)]
 
 mod brick;
+mod cell_tallies;
+mod cells;
 mod copies;
+mod dense;
 mod parts;
 mod rows;
 mod scan;

@@ -1,11 +1,11 @@
-use Rattle.std.proofs.Common.{[], IsTrue, length, map, filter, take, sym, ap, arith}
+use Rattle.std.proofs.Common.{IsTrue, length, map, filter, take, arith}
 use Rattle.std.specs.List.{items_where_true}
 use Rattle.std.proofs.lemmas.List.{length-map, take_all}
 use Rattle.cube_values.specs.declared.row.CodedRow.{CodedRow}
 use Rattle.brick_store.specs.Rows.{span_has_row}
 use Rattle.brick_store.specs.Whole.{row_with_coords}
-use Rattle.brick_store.proofs.Folds.{gains_none, gains_same, gains_row, none_set, of_each, filtered_short, room_after}
-use Rattle.brick_store.proofs.scan.fold_rows.Goals as goal
+use Rattle.brick_store.proofs.Folds.{gains_none, gains_same, gains_row, of_each, filtered_short, room_after}
+use Rattle.brick_store.proofs.scan.fold_each.Goals as goal
 
 pub fold_row-requires-clause-all : goal.fold_row-requires-clause-all
 fold_row-requires-clause-all c = λ yes.
@@ -45,10 +45,3 @@ returns c =
     gains_same query _ _ c.args.into.now.groups l.into.groups
     (λ t. filter (span_has_row query.span) (items_where_true (take_all l.row bits (omega arith) t) (take_all l.row all (omega (arith, long)) t)))
     l.invariant.gains
-
-pub returns-then-ones-eq0 : goal.returns-then-ones-eq0
-returns-then-ones-eq0 c =
-    let query = c.args.query.now in
-    let all = map (row_with_coords c.args.starts.now) c.args.columns.now.rows in
-    let none = none_set c.args.bits.now.bits all (omega (arith, c.ones.ensures)) in
-    gains_same query [] _ c.args.into.now.groups c.args.into.now.groups (sym (ap (filter (span_has_row query.span)) none)) (gains_none query c.args.into.now.groups)

@@ -3,7 +3,7 @@ use Rattle.std.specs.List.{items_where_true}
 use Rattle.agg_fold.specs.Standing.{Gains}
 use Rattle.brick_store.specs.Rows.{span_has_row}
 use Rattle.brick_store.specs.Whole.{row_with_coords}
-use Rattle.brick_store.proofs.scan.fold_rows.Given as goal
+use Rattle.brick_store.proofs.scan.fold_each.Given as goal
 
 abbrev pub invariant-rows : goal.invariant-rows
 invariant-rows l = record {
