@@ -177,7 +177,7 @@ fn metric_fits(columns: &Columns, metric: u32)
     all_fit(columns.metrics_of(metric));
 }
 
-// Numbers in 64 bits have 64 bits, as each read of one says. A release has no code for it.
+// Numbers in 64 bits have 64 bits, as each read of one says.
 fn all_fit(numbers: &[i64])
     ensures { All (FitsSigned w64) numbers.now }
 {
