@@ -5,3 +5,4 @@ pub mod Entries
 pub mod Ended
 pub mod CubeReplies
 pub mod RowsDone
+pub mod Moves

@@ -1,0 +1,6 @@
+pub mod CountedChanges
+pub mod StillNamed
+pub mod NamesCome
+pub mod RowsStay
+pub mod RowsJoin
+pub mod RowsAreRead

@@ -1,0 +1,5 @@
+pub mod CubesAtDesk
+pub mod Coded
+pub mod RowsBehind
+pub mod RowsExecuted
+pub mod RowsRead
