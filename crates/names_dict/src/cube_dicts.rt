@@ -1,12 +1,13 @@
 //! The dictionaries of one cube.
 
-ghost use Rattle.std.specs.Prelude.{◌≡◌, ◌↔◌, ◌<◌, ◌≤◌, IsTrue, length, drop, option_copied, slice_get, [], IfOk, OnErr, if◌then◌else◌};
+ghost use Rattle.std.specs.Prelude.{◌≡◌, ◌↔◌, ◌<◌, ◌≤◌, IsTrue, All, bytes_eq, map, length, drop, option_copied, slice_get, [], IfOk, OnErr, if◌then◌else◌};
+ghost use Rattle.std.specs.List.{IsDistinct};
 ghost use Rattle.cube_values.specs.Shapes.{IsSoundCube};
 ghost use Rattle.names_dict.specs.Dictionaries.{number_of, code_of, empty_dictionaries, new_dictionaries, dictionary_in, IsEncodedIn, IsToBeAdded};
 
 use crate::code::Code;
 use crate::dict::Dict;
-use cube_values::{CubeShape, Size, Texts};
+use cube_values::{CubeShape, Size, TextLists, Texts};
 use std::alloc::{AllocError, Global};
 use std::marker::Model;
 
@@ -42,6 +43,15 @@ fn empty_dicts(alloc: Global, sizes: &[Size], texts: &[bool]) -> Result<Vec<Dict
         dims.push(Dict::new(alloc, most_names(&sizes[dim], texts[dim])))?;
     }
     Ok(dims)
+}
+
+/// Copies of the names of a dimension, in order.
+fn names_of(dict: &Dict) -> Result<Texts, AllocError>
+    ensures names { IfOk result (λ texts. texts ≡ dict.now.names) }
+    ensures distinct { IfOk result (IsDistinct bytes_eq) }
+{
+    let _sound = dict.len();
+    dict.copy_from(0)
 }
 
 impl CubeDicts {
@@ -102,6 +112,18 @@ impl CubeDicts {
             return Ok(Texts::new(alloc));
         }
         self.dims[dim as usize].copy_from(from)
+    }
+
+    /// Copies of the names of each dimension, in order. None stands twice in a dimension.
+    pub fn copy_names(&self, alloc: Global) -> Result<TextLists, AllocError>
+        ensures names { IfOk result (λ lists. lists ≡ map (λ d. d.names) self.now) }
+        ensures distinct { IfOk result (All (IsDistinct bytes_eq)) }
+    {
+        let mut lists = TextLists::new(alloc);
+        'dims: for dim in 0..self.dims.len() {
+            lists.push(names_of(&self.dims[dim])?)?;
+        }
+        Ok(lists)
     }
 
     /// The name at a place, or None where there is no such dimension or number.

@@ -1,12 +1,13 @@
 //! The dictionaries of all cubes.
 
-ghost use Rattle.std.specs.Prelude.{◌≡◌, ◌↔◌, ◌<◌, ◌≤◌, IsTrue, [], ◌∷◌, ◌++◌, ◌+◌, length, drop, replicate, option_copied, IfOk, OnOk, OnErr, vec_len, vec_capacity};
+ghost use Rattle.std.specs.Prelude.{◌≡◌, ◌↔◌, ◌<◌, ◌≤◌, IsTrue, All, bytes_eq, map, [], ◌∷◌, ◌++◌, ◌+◌, length, drop, replicate, option_copied, IfOk, OnOk, OnErr, vec_len, vec_capacity};
+ghost use Rattle.std.specs.List.{IsDistinct};
 ghost use Rattle.cube_values.specs.Shapes.{IsSoundCube};
 ghost use Rattle.names_dict.specs.Dictionaries.{number_of, with_cube, dictionaries_of, dictionary_at, name_at, with_dictionaries, IsTextDimension, IsEncoded, IsCodeFor, IsNewFor};
 
 use crate::code::Code;
 use crate::cube_dicts::CubeDicts;
-use cube_values::{CubeShape, Texts};
+use cube_values::{CubeShape, TextLists, Texts};
 use std::alloc::{AllocError, Global};
 use std::marker::Model;
 
@@ -120,6 +121,19 @@ impl Dicts {
             return Ok(Texts::new(self.alloc));
         }
         self.cubes[cube as usize].copy_from(self.alloc, dim, from)
+    }
+
+    /// Copies of the names of each dimension of a cube, in order: none where its dictionaries are not
+    /// made. None stands twice in a dimension.
+    pub fn copy_names(&self, cube: u32) -> Result<TextLists, AllocError>
+        ensures names { IfOk result (λ lists.
+            lists ≡ map (λ d. d.names) (dictionaries_of self.now cube)) }
+        ensures distinct { IfOk result (All (IsDistinct bytes_eq)) }
+    {
+        if cube as usize >= self.cubes.len() {
+            return Ok(TextLists::new(self.alloc));
+        }
+        self.cubes[cube as usize].copy_names(self.alloc)
     }
 
     /// The name at a place, or None where there is no such cube, dimension or number.

@@ -1,4 +1,4 @@
-use Rattle.std.proofs.Common.{◌≡◌, ◌+◌, ◌-◌, ◌≤◌, [], ◌++◌, replicate, vec_len, vec_capacity}
+use Rattle.std.proofs.Common.{◌≡◌, ◌+◌, [], ◌++◌, replicate, vec_len, vec_capacity}
 use Rattle.names_dict.proofs.dicts.push_none.Given as goal
 
 abbrev pub invariant-cubes : goal.invariant-cubes
