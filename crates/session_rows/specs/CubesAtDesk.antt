@@ -55,19 +55,19 @@ pub record HaveCome (cubes : List Decl) (old new : List (List Dictionary)) (held
   pub come : NamesOnlyCome (names_of old) (names_of new)
   pub named : AllAreNamed cubes (names_of new) held
 
--- All this is so of the cubes at a desk, which are few and named apart.
-pub record AreCubesAt (desk : DeskState) (cubes : Cubes) : Type 0 where
-  pub schemas : cubes.schemas.items ≡ desk.cubes
-  pub apart : AreNamedApart desk.cubes
-  pub few : length desk.cubes ≤ cubes_limit
-  pub names : AreItsNames desk.cubes cubes.names
-  pub rows : AreItsRows desk.cubes cubes.rows
-  pub named : AllAreNamed desk.cubes (names_of cubes.names) cubes.rows
+-- All this is so of cubes, which are few and named apart.
+pub record AreWholeCubes (cubes : Cubes) : Type 0 where
+  pub apart : AreNamedApart cubes.schemas.items
+  pub few : length cubes.schemas.items ≤ cubes_limit
+  pub names : AreItsNames cubes.schemas.items cubes.names
+  pub rows : AreItsRows cubes.schemas.items cubes.rows
+  pub named : AllAreNamed cubes.schemas.items (names_of cubes.names) cubes.rows
 
 -- The desk serves this session alone, and these are its cubes.
 pub record IsAtCubes (desk : DeskState) (session : Session) (cubes : Cubes) : Type 0 where
   pub desk_is : IsAtDesk desk session
-  pub cubes_are : AreCubesAt desk cubes
+  pub schemas : cubes.schemas.items ≡ desk.cubes
+  pub whole : AreWholeCubes cubes
 
 -- What a session on rows has, with what its statements did.
 abbrev pub row_world : DeskState → Session → Cubes → List CodedOperation → RowWorld
