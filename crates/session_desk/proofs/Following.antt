@@ -54,6 +54,7 @@ refusal_followed statement desk middle new_desk same added = record {
 pub keeps_through : (desk middle new_desk : DeskState) → KeepsServing desk middle → KeepsServing middle new_desk
     → KeepsServing desk new_desk
 keeps_through desk middle new_desk a b = record {
+  cubes = b.cubes ∙ a.cubes;
   sessions = b.sessions ∙ a.sessions;
   safe = b.safe ∙ a.safe;
   serving = λ mode serving.

@@ -9,6 +9,9 @@ pub mod Replying
 pub mod Finishing
 pub mod Asking
 pub mod Making
+pub mod MakingCubes
+pub mod NamedApart
+pub mod Unfit
 pub mod FindingCubes
 pub mod Changing
 pub mod OpenBegun

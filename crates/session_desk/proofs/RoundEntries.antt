@@ -37,6 +37,7 @@ Keep s es = (safe : ℕ) (mode : Mode) → IsServing s safe mode → IsServing (
 pub keeps : (desk new_desk : DeskState) (es : List JournalEntry) → new_desk ≡ desk_with_entries desk es
     → Keep (state_of desk.register) es → KeepsServing desk new_desk
 keeps desk new_desk es h keep = record {
+  cubes = ap (λ (d : DeskState). d.cubes) h;
   sessions = ap (λ (d : DeskState). d.register.sessions) h;
   safe = ap (λ (d : DeskState). d.register.safe) h;
   serving = λ mode serving.
@@ -47,6 +48,7 @@ keeps desk new_desk es h keep = record {
 
 pub keeps_same : (desk new_desk : DeskState) → new_desk ≡ desk → KeepsServing desk new_desk
 keeps_same desk new_desk h = record {
+  cubes = ap (λ (d : DeskState). d.cubes) h;
   sessions = ap (λ (d : DeskState). d.register.sessions) h;
   safe = ap (λ (d : DeskState). d.register.safe) h;
   serving = λ mode serving.

@@ -70,8 +70,9 @@ abbrev pub IsOpenAt : SessionMode → ℕ → Type 0
 IsOpenAt (variant.Open writer) epoch = epoch ≡ writer.epoch
 IsOpenAt m epoch = ⊥
 
--- Whatever mode of the session a desk served, it still does.
+-- Whatever mode of the session a desk served, it still does, and with the same cubes.
 pub record KeepsServing (old new : DeskState) : Type 0 where
+  pub cubes : new.cubes ≡ old.cubes
   pub sessions : new.register.sessions ≡ old.register.sessions
   pub safe : new.register.safe ≡ old.register.safe
   pub serving : (mode : Mode) → IsServing (state_of old.register) old.register.safe mode

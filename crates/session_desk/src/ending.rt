@@ -21,6 +21,7 @@ pub fn end(desk: &mut Desk, session: &mut Session)
     ensures at { IsAtDesk desk.new session.new }
     ensures closed { IsOpen session.new.mode → ⊥ }
     ensures ended { EndsAtDesk desk.old session.old desk.new }
+    ensures cubes { desk.new.cubes ≡ desk.old.cubes }
 {
     if let SessionMode::Open { .. } = session.mode {
         desk.abort_end(SESSION, session.statements + 1, AbortCause::EndOfScript);
@@ -35,6 +36,7 @@ pub fn close(desk: &mut Desk, session: &Session) -> Result<(), AllocError>
     ensures ended { OnOk result ((beginning : Beginning) (past : SessionPast) (state : SessionState)
         → HasEnded beginning past state desk.old → HasEnded beginning past state desk.new) }
     ensures same { OnErr result (desk.new ≡ desk.old) }
+    ensures cubes { desk.new.cubes ≡ desk.old.cubes }
 {
     make_round(desk)
 }

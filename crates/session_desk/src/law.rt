@@ -18,7 +18,7 @@ ghost use Rattle.one_session.specs.Behind.{HasDone, IsSettled, last_step};
 ghost use Rattle.one_session.specs.Changes.{AreNamedApart, is_begin_of};
 ghost use Rattle.one_session.specs.Pasts.{Beginning, GoesOn, IsOneMore, NamesOnlyCome, SessionPast};
 ghost use Rattle.aosi_register.specs.State.{state_of};
-ghost use Rattle.aosi_desk.specs.Desks.{DeskState};
+ghost use Rattle.aosi_desk.specs.Desks.{AreCubes, DeskState};
 ghost use Rattle.session_replies.specs.Modes.{mode_of};
 ghost use Rattle.session_replies.specs.RowSteps.{IsOnCube, final_names};
 ghost use Rattle.session_desk.specs.declared.session.Session.{Session};
@@ -26,6 +26,11 @@ ghost use Rattle.session_desk.specs.AtDesk.{IsServing};
 ghost use Rattle.session_desk.specs.Executed.{HasExecuted};
 ghost use Rattle.session_desk.specs.RowsDone.{AddsEntries, EpochsRise, done_with, next_change, past_with};
 ghost use Rattle.session_desk.specs.Standing.{StandsBehind, World, session_state};
+
+/// No two cubes of a desk have one name.
+pub fn cubes_of_a_desk_are_named_apart()
+    ensures { (cubes : List Decl) → AreCubes cubes → AreNamedApart cubes }
+{}
 
 /// A statement that needs a cube which the desk has is about that cube in each run that goes on, and the dictionaries in the
 /// end are those at its place.

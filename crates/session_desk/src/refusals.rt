@@ -2,6 +2,8 @@
 
 ghost use Rattle.std.specs.Prelude.{◌≡◌, ◌+◌, ◌<◌, Some};
 ghost use Rattle.cube_language.specs.declared.statement.Statement.{Statement};
+ghost use Rattle.cube_journal.specs.declared.refusal.Refusal.TheVariants as cause;
+ghost use Rattle.cube_journal.specs.declared.reply.Reply.TheVariants as reply;
 ghost use Rattle.cube_run.specs.RunRecords.{Says, SaysNone, Sentence};
 ghost use Rattle.cube_run.specs.StepOutcomes.{refused_by_mode};
 ghost use Rattle.session_replies.specs.Modes.{mode_of};
@@ -21,6 +23,8 @@ pub fn refuse_syntax(desk: &mut Desk, session: &mut Session, fault: Syntax) -> A
     requires few { session.old.statements < MOST_STATEMENTS }
     ensures at { IsAtDesk desk.new session.new }
     ensures number { session.new.statements ≡ session.old.statements + 1 }
+    ensures cubes { desk.new.cubes ≡ desk.old.cubes }
+    ensures said { IfReplied result (λ said. said ≡ reply.Refused (cause.Syntax fault)) }
     ensures executed { IfReplied result
         (ExecutesAtDesk (SaysNone fault.at) desk.old session.old desk.new session.new) }
 {
@@ -36,6 +40,8 @@ pub fn refuse_by_mode(desk: &mut Desk, session: &mut Session, refusal: Refusal) 
         × (refused_by_mode (mode_of session.old.mode) s ≡ Some refusal) }
     ensures at { IsAtDesk desk.new session.new }
     ensures number { session.new.statements ≡ session.old.statements + 1 }
+    ensures cubes { desk.new.cubes ≡ desk.old.cubes }
+    ensures said { IfReplied result (λ said. said ≡ reply.Refused refusal) }
     ensures executed { IfReplied result (λ said. (s : Statement)
         → refused_by_mode (mode_of session.old.mode) s ≡ Some refusal
         → ExecutesAtDesk (Says s) desk.old session.old desk.new session.new said) }
@@ -50,6 +56,8 @@ pub fn refuse_memory(desk: &mut Desk, session: &mut Session) -> Answered
     requires few { session.old.statements < MOST_STATEMENTS }
     ensures at { IsAtDesk desk.new session.new }
     ensures number { session.new.statements ≡ session.old.statements + 1 }
+    ensures cubes { desk.new.cubes ≡ desk.old.cubes }
+    ensures said { IfReplied result (λ said. said ≡ reply.Refused cause.NoMemory) }
     ensures executed { IfReplied result (λ said. (sentence : Sentence)
         → ExecutesAtDesk sentence desk.old session.old desk.new session.new said) }
 {

@@ -38,6 +38,7 @@ pub(crate) fn refuse(desk: &mut Desk, statement: u32, refusal: Refusal) -> Answe
     ensures desk { IfReplied result (λ said. desk.new
         ≡ desk_with_entry desk.old (entry.Refused 1 statement (code refusal))) }
     ensures same { OnStopped result (desk.new ≡ desk.old) }
+    ensures cubes { desk.new.cubes ≡ desk.old.cubes }
 {
     match note_refusal(desk, statement, refusal.code()) {
         Ok(()) => Answered::Replied(Reply::Refused { refusal }),

@@ -27,6 +27,7 @@ fn note_flush(desk: &mut Desk, statement: u32) -> Answered
     ensures said { IfReplied result (λ said. said
         ≡ reply.Flushed (state_of desk.old.register).lse) }
     ensures same { OnStopped result (desk.new ≡ desk.old) }
+    ensures cubes { desk.new.cubes ≡ desk.old.cubes }
 {
     let flushed = Note::Flushed {
         session: SESSION,
@@ -46,6 +47,7 @@ pub fn flush(desk: &mut Desk, session: &mut Session) -> Answered
     requires few { session.old.statements < MOST_STATEMENTS }
     ensures at { IsAtDesk desk.new session.new }
     ensures number { session.new.statements ≡ session.old.statements + 1 }
+    ensures cubes { desk.new.cubes ≡ desk.old.cubes }
     ensures executed { IfReplied result
         (ExecutesAtDesk (Says statement.Flush) desk.old session.old desk.new session.new) }
 {
@@ -62,6 +64,7 @@ pub fn purge(desk: &mut Desk, session: &mut Session) -> Answered
     requires few { session.old.statements < MOST_STATEMENTS }
     ensures at { IsAtDesk desk.new session.new }
     ensures number { session.new.statements ≡ session.old.statements + 1 }
+    ensures cubes { desk.new.cubes ≡ desk.old.cubes }
     ensures executed { IfReplied result
         (ExecutesAtDesk (Says statement.Purge) desk.old session.old desk.new session.new) }
 {
@@ -84,6 +87,7 @@ pub fn show_epochs(desk: &mut Desk, session: &mut Session) -> Answered
     requires few { session.old.statements < MOST_STATEMENTS }
     ensures at { IsAtDesk desk.new session.new }
     ensures number { session.new.statements ≡ session.old.statements + 1 }
+    ensures cubes { desk.new.cubes ≡ desk.old.cubes }
     ensures executed { IfReplied result
         (ExecutesAtDesk (Says statement.ShowEpochs) desk.old session.old desk.new session.new) }
 {

@@ -21,6 +21,7 @@ pub(crate) fn make_round(desk: &mut Desk) -> Result<(), AllocError>
     ensures made { OnOk result (desk.new
         ≡ desk_with_entries desk.old (round_entries (state_of desk.old.register))) }
     ensures same { OnErr result (desk.new ≡ desk.old) }
+    ensures cubes { desk.new.cubes ≡ desk.old.cubes }
 {
     match desk.round_open()? {
         RoundAnswer::Nothing { .. } => {}

@@ -25,6 +25,7 @@ pub fn begin(desk: &mut Desk, session: &mut Session) -> Answered
     requires may { refused_by_mode (mode_of session.old.mode) statement.Begin ≡ None }
     ensures at { IsAtDesk desk.new session.new }
     ensures number { session.new.statements ≡ session.old.statements + 1 }
+    ensures cubes { desk.new.cubes ≡ desk.old.cubes }
     ensures executed { IfReplied result
         (ExecutesAtDesk (Says statement.Begin) desk.old session.old desk.new session.new) }
 {
@@ -57,6 +58,7 @@ pub fn commit(desk: &mut Desk, session: &mut Session) -> Answered
     requires may { refused_by_mode (mode_of session.old.mode) statement.Commit ≡ None }
     ensures at { IsAtDesk desk.new session.new }
     ensures number { session.new.statements ≡ session.old.statements + 1 }
+    ensures cubes { desk.new.cubes ≡ desk.old.cubes }
     ensures executed { IfReplied result
         (ExecutesAtDesk (Says statement.Commit) desk.old session.old desk.new session.new) }
 {
@@ -80,6 +82,7 @@ fn roll_back_open(desk: &mut Desk, session: &mut Session) -> Answered
     requires open { IsOpen session.old.mode }
     ensures at { IsAtDesk desk.new session.new }
     ensures number { session.new.statements ≡ session.old.statements + 1 }
+    ensures cubes { desk.new.cubes ≡ desk.old.cubes }
     ensures executed { IfReplied result
         (ExecutesAtDesk (Says statement.Rollback) desk.old session.old desk.new session.new) }
 {
@@ -97,6 +100,7 @@ fn clear(desk: &mut Desk, session: &mut Session, epoch: u64) -> Answered
     requires aborted { session.old.mode ≡ variant.Aborted epoch }
     ensures at { IsAtDesk desk.new session.new }
     ensures number { session.new.statements ≡ session.old.statements + 1 }
+    ensures cubes { desk.new.cubes ≡ desk.old.cubes }
     ensures executed { IfReplied result
         (ExecutesAtDesk (Says statement.Rollback) desk.old session.old desk.new session.new) }
 {
@@ -122,6 +126,7 @@ pub fn rollback(desk: &mut Desk, session: &mut Session) -> Answered
     requires may { refused_by_mode (mode_of session.old.mode) statement.Rollback ≡ None }
     ensures at { IsAtDesk desk.new session.new }
     ensures number { session.new.statements ≡ session.old.statements + 1 }
+    ensures cubes { desk.new.cubes ≡ desk.old.cubes }
     ensures executed { IfReplied result
         (ExecutesAtDesk (Says statement.Rollback) desk.old session.old desk.new session.new) }
 {

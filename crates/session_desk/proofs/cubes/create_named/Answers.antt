@@ -1,11 +1,16 @@
-use Rattle.std.proofs.Common.{◌∙◌, ap, sym, subst}
+use Rattle.std.proofs.Common.{◌∙◌, ◌+◌, ap, sym, subst}
+use Rattle.cube_language.specs.declared.decl.Decl.{Decl}
 use Rattle.cube_language.specs.declared.statement.Statement.TheVariants.{CreateCube}
+use Rattle.cube_journal.specs.declared.refusal.Refusal.TheVariants.{NoMemory}
 use Rattle.cube_journal.specs.declared.reply.Reply.{Reply}
 use Rattle.cube_run.specs.RunRecords.{Says}
 use Rattle.cube_values.specs.declared.text.Text.{Text}
-use Rattle.session_desk.specs.CubeReplies.{created_reply}
+use Rattle.aosi_desk.specs.Desks.{DeskState}
+use Rattle.session_desk.specs.declared.answered.Answered.TheVariants.{Replied}
+use Rattle.session_desk.specs.CubeReplies.{HasNewName, created_reply, cubes_after_answer, cubes_after_create}
 use Rattle.session_desk.specs.Executed.{ExecutesAtDesk}
 use Rattle.session_desk.proofs.Making.{answers_made, at_answer}
+use Rattle.session_desk.proofs.MakingCubes.{after_reply, desk_cubes, new_name, refusal_makes_none, refusal_names_none}
 use Rattle.session_desk.proofs.Replying.{at_refuse, counted, memory_refused}
 use Rattle.session_desk.proofs.cubes.create_named.Goals as goal
 
@@ -31,3 +36,35 @@ pub returns-in-Err-clause-executed : goal.returns-in-Err-clause-executed
 returns-in-Err-clause-executed c =
     memory_refused (Says (CreateCube c.args.decl)) c.refuse.result c.args.desk.now c.args.session.now
     c.create_cube.new.self c.refuse.new.desk c.in-Err.ensures.same c.refuse.ensures.said c.refuse.ensures.desk
+
+pub returns-in-Ok-clause-cubes : goal.returns-in-Ok-clause-cubes
+returns-in-Ok-clause-cubes c =
+    desk_cubes c.args.decl (c.args.session.now.statements + 1) c.args.desk.now c.create_cube.new.self c.in-Ok.answer
+    c.args.name c.in-Ok.ensures.desk
+    ∙ ap (λ (said : Reply). cubes_after_create c.args.desk.now.cubes c.args.decl (Replied said)) (sym c.created_reply.ensures)
+
+pub returns-in-Ok-clause-schemas : goal.returns-in-Ok-clause-schemas
+returns-in-Ok-clause-schemas c =
+    c.join.ensures
+    ∙ ap (λ (d : Decl). cubes_after_answer c.args.cubes.now.items d c.in-Ok.answer) c.requires.checked
+    ∙ after_reply c.args.cubes.now.items c.args.decl c.in-Ok.answer c.args.name
+    ∙ ap (λ (said : Reply). cubes_after_create c.args.cubes.now.items c.args.decl (Replied said))
+    (sym c.created_reply.ensures)
+
+pub returns-in-Ok-clause-new : goal.returns-in-Ok-clause-new
+returns-in-Ok-clause-new c =
+    subst (λ (said : Reply). HasNewName c.args.desk.now.cubes c.args.decl (Replied said)) (sym c.created_reply.ensures)
+    (new_name c.args.decl c.args.desk.now c.in-Ok.answer c.args.name c.in-Ok.ensures.answer)
+
+pub returns-in-Err-clause-cubes : goal.returns-in-Err-clause-cubes
+returns-in-Err-clause-cubes c =
+    c.refuse.ensures.cubes ∙ ap (λ (x : DeskState). x.cubes) c.in-Err.ensures.same
+    ∙ refusal_makes_none c.refuse.result NoMemory c.args.desk.now.cubes c.args.decl c.refuse.ensures.said
+
+pub returns-in-Err-clause-schemas : goal.returns-in-Err-clause-schemas
+returns-in-Err-clause-schemas c =
+    refusal_makes_none c.refuse.result NoMemory c.args.cubes.now.items c.args.decl c.refuse.ensures.said
+
+pub returns-in-Err-clause-new : goal.returns-in-Err-clause-new
+returns-in-Err-clause-new c =
+    refusal_names_none c.refuse.result NoMemory c.args.desk.now.cubes c.args.decl c.refuse.ensures.said
