@@ -1,3 +1,4 @@
+pub mod BoundCubes
 pub mod CountedChanges
 pub mod StillNamed
 pub mod NamesCome

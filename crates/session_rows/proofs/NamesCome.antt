@@ -20,7 +20,7 @@ use Rattle.session_rows.proofs.StillNamed.{at_place, still_named}
 
 -- ---- the texts of dictionaries
 
-lists_are : (dictionaries : List (List Dictionary)) (place : ℕ)
+pub lists_are : (dictionaries : List (List Dictionary)) (place : ℕ)
     → lists_at (names_of dictionaries) place ≡ map (λ (d : Dictionary). d.names) (dictionaries_of dictionaries place)
 lists_are [] place = refl
 lists_are (dims ∷ dictionaries) zero = refl
