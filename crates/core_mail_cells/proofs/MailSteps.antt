@@ -12,10 +12,10 @@ use Rattle.mail_cell.specs.declared.place.Place.{Place}
 use Rattle.mail_cell.specs.declared.place.Place.TheVariants.{Idle, Waiting, Out, Answered}
 use Rattle.mail_cell.specs.State.{MailState, mail_state, new_mail, place_of}
 use Rattle.mail_cell.specs.Steps.{taken, fetched, without_answer, with_oldest_out, after_post, after_take, after_reply, after_fetch, after_close}
-use Rattle.core_events.specs.Jobs.{CoreJob, JobAnswer}
+use Rattle.core_events.specs.Jobs.{CoreJob, JobOutcome}
 use Rattle.core_events.specs.Events.{Opening, flusher, OnDesk, OnNames, CloseMail, NoChange, NoJob, Work, CoreEvent, By, At}
 use Rattle.core_events.specs.Events as event
-use Rattle.core_events.specs.Cells.{Letter, letter, queue_of, queue_after_post, queue_after_take, reply_for, reply_after_fetch, reply_after_reply, queue_after_move, WorkerState, Free, Took, Worked, worker_after, worker_of, is_closed}
+use Rattle.core_events.specs.Cells.{Letter, letter, queue_of, queue_after_post, queue_after_take, reply_for, reply_after_fetch, reply_after_reply, queue_after_move, WorkerState, Free, Took, Worked, worker_after, worker_of, is_mail_closed}
 use Rattle.core_events.specs.Runs.{IsCoreRun, CallSays, IsOldest, MoveSays}
 use Rattle.core_mails.proofs.Places.{AreQueued, place}
 use Rattle.core_mails.specs.Histories.{has_letter_of, is_serving}
@@ -49,14 +49,14 @@ module _ {J : Type 0} where
   is_shut answer = false
 
 -- A client's job stays where it is.
-there-as : (queued served : Bool) (held : Option JobAnswer) (mail client : ℕ) (es later : List CoreEvent)
+there-as : (queued served : Bool) (held : Option JobOutcome) (mail client : ℕ) (es later : List CoreEvent)
     → has_letter_of client (queue_of mail later) ≡ has_letter_of client (queue_of mail es)
     → is_serving client (worker_of mail later) ≡ is_serving client (worker_of mail es)
     → reply_for mail client later ≡ reply_for mail client es
     → IsThere queued served held mail client es → IsThere queued served held mail client later
 there-as queued served held mail client es later l w r t = record { letter = l ∙ t.letter; worker = w ∙ t.worker; reply = r ∙ t.reply }
 
-module _ {A : Type 0} (answer_of : A → JobAnswer) where
+module _ {A : Type 0} (answer_of : A → JobOutcome) where
   place-as : (p : Place A) (mail client : ℕ) (es later : List CoreEvent)
       → has_letter_of client (queue_of mail later) ≡ has_letter_of client (queue_of mail es)
       → is_serving client (worker_of mail later) ≡ is_serving client (worker_of mail es)
@@ -103,7 +103,7 @@ module _ {A : Type 0} (answer_of : A → JobAnswer) where
 
 -- Letters.
 
-has-more : (client : ℕ) (queue : List Letter) (x : Letter) → has_letter_of client (queue ++ x ∷ []) ≡ (has_letter_of client queue || x.client == client)
+pub has-more : (client : ℕ) (queue : List Letter) (x : Letter) → has_letter_of client (queue ++ x ∷ []) ≡ (has_letter_of client queue || x.client == client)
 has-more client [] x = or-none (x.client == client)
   where
     or-none : (b : Bool) → (b || false) ≡ b
@@ -125,7 +125,7 @@ or-false : (b : Bool) → (b || false) ≡ b
 or-false true = refl
 or-false false = refl
 
-module _ {J A : Type 0} (job_of : J → CoreJob) (answer_of : A → JobAnswer) where
+module _ {J A : Type 0} (job_of : J → CoreJob) (answer_of : A → JobOutcome) where
   -- The places of all clients, where one has changed.
   places-set : (mail client : ℕ) (es : List CoreEvent) (places : List (Place A)) (p : Place A) (later : List CoreEvent)
       → (client < length places → IsPlaceIn answer_of p mail client later)
@@ -175,7 +175,7 @@ module _ {J A : Type 0} (job_of : J → CoreJob) (answer_of : A → JobAnswer) w
 
   -- Fetch.
 
-  fetch-other : (own : Bool) (reply : Option JobAnswer) → own ≡ false → (here : Bool) → reply_after_fetch here own reply ≡ reply
+  fetch-other : (own : Bool) (reply : Option JobOutcome) → own ≡ false → (here : Bool) → reply_after_fetch here own reply ≡ reply
   fetch-other true reply e here = absurd (true≢false e)
   fetch-other false reply e true = refl
   fetch-other false reply e false = refl
@@ -336,7 +336,7 @@ module _ {J A : Type 0} (job_of : J → CoreJob) (answer_of : A → JobAnswer) w
 
   -- Reply.
 
-  reply-other : (own : Bool) (answer : JobAnswer) (reply : Option JobAnswer) → own ≡ false → (here : Bool) → reply_after_reply here own answer reply ≡ reply
+  reply-other : (own : Bool) (answer : JobOutcome) (reply : Option JobOutcome) → own ≡ false → (here : Bool) → reply_after_reply here own answer reply ≡ reply
   reply-other true answer reply e here = absurd (true≢false e)
   reply-other false answer reply e true = refl
   reply-other false answer reply e false = refl
@@ -379,12 +379,12 @@ module _ {J A : Type 0} (job_of : J → CoreJob) (answer_of : A → JobAnswer) w
   closes es mail client m f = record {
     posted = f.posted;
     places = λ d l. place-as answer_of (place_of m d) mail d es (By client (CloseMail mail) ∷ es) refl refl refl (f.places d l);
-    closed = λ i. sym (same_number mail) i || is_closed mail es;
+    closed = λ i. sym (same_number mail) i || is_mail_closed mail es;
   }
 
   as-before : (es later : List CoreEvent) (mail : ℕ) (m : MailState J A) → queue_of mail later ≡ queue_of mail es
       → ((d : ℕ) → is_serving d (worker_of mail later) ≡ is_serving d (worker_of mail es))
-      → ((d : ℕ) → reply_for mail d later ≡ reply_for mail d es) → is_closed mail later ≡ is_closed mail es
+      → ((d : ℕ) → reply_for mail d later ≡ reply_for mail d es) → is_mail_closed mail later ≡ is_mail_closed mail es
       → IsMailOf job_of answer_of mail es m → IsMailOf job_of answer_of mail later m
   as-before es later mail m q w r c f = record {
     posted = f.posted ∙ sym q;
@@ -392,22 +392,22 @@ module _ {J A : Type 0} (job_of : J → CoreJob) (answer_of : A → JobAnswer) w
     closed = f.closed ∙ sym c;
   }
 
-  fetch-elsewhere : (here own : Bool) (reply : Option JobAnswer) → here ≡ false → reply_after_fetch here own reply ≡ reply
+  fetch-elsewhere : (here own : Bool) (reply : Option JobOutcome) → here ≡ false → reply_after_fetch here own reply ≡ reply
   fetch-elsewhere true own reply e = absurd (true≢false e)
   fetch-elsewhere false own reply e = refl
 
-  reply-elsewhere : (here own : Bool) (answer : JobAnswer) (reply : Option JobAnswer) → here ≡ false → reply_after_reply here own answer reply ≡ reply
+  reply-elsewhere : (here own : Bool) (answer : JobOutcome) (reply : Option JobOutcome) → here ≡ false → reply_after_reply here own answer reply ≡ reply
   reply-elsewhere true own answer reply e = absurd (true≢false e)
   reply-elsewhere false own answer reply e = refl
 
-  work-serves : (here : Bool) (d : ℕ) (job : CoreJob) (answer : JobAnswer) (worker : WorkerState)
+  work-serves : (here : Bool) (d : ℕ) (job : CoreJob) (answer : JobOutcome) (worker : WorkerState)
       → is_serving d (worker_after here (Work job answer) worker) ≡ is_serving d worker
   work-serves true d job answer Free = refl
   work-serves true d job answer (Took c j) = refl
   work-serves true d job answer (Worked c j x) = refl
   work-serves false d job answer worker = refl
 
-  work-queue : (here : Bool) (job : CoreJob) (answer : JobAnswer) (queue : List Letter) → queue_after_move here (Work job answer) queue ≡ queue
+  work-queue : (here : Bool) (job : CoreJob) (answer : JobOutcome) (queue : List Letter) → queue_after_move here (Work job answer) queue ≡ queue
   work-queue true job answer queue = refl
   work-queue false job answer queue = refl
 
@@ -419,7 +419,7 @@ module _ {J A : Type 0} (job_of : J → CoreJob) (answer_of : A → JobAnswer) w
       as-before es (By client (event.Fetch other answer) ∷ es) mail m refl (λ d. refl)
       (λ d. fetch-elsewhere (other == mail) (client == d) (reply_for mail d es) off) refl f
   others es mail (By client (CloseMail other)) m off f =
-      as-before es (By client (CloseMail other) ∷ es) mail m refl (λ d. refl) (λ d. refl) (λ i. off i || is_closed mail es) f
+      as-before es (By client (CloseMail other) ∷ es) mail m refl (λ d. refl) (λ d. refl) (λ i. off i || is_mail_closed mail es) f
   others es mail (By client (OnDesk call)) m off f = as-before es (By client (OnDesk call) ∷ es) mail m refl (λ d. refl) (λ d. refl) refl f
   others es mail (By client (OnNames call)) m off f = as-before es (By client (OnNames call) ∷ es) mail m refl (λ d. refl) (λ d. refl) refl f
   others es mail (By client NoChange) m off f = as-before es (By client NoChange ∷ es) mail m refl (λ d. refl) (λ d. refl) refl f
