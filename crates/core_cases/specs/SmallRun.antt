@@ -18,8 +18,8 @@ small_shape = record {
   metrics = 1;
 }
 
-abbrev pub small_cube : Decl
-small_cube = record {
+abbrev pub small_decl : Decl
+small_decl = record {
   name = [];
   dims = record { name = []; text = false; cardinality = 4; range = 2 } ∷ [];
   metrics = [] ∷ [];
@@ -30,7 +30,7 @@ small_opening = record {
   shards = 1;
   sessions = 1;
   safe = 0;
-  cubes = small_cube ∷ [];
+  cubes = small_decl ∷ [];
   shapes = λ cube. small_shape;
   names = λ cube dim. record { cardinality = 0; names = [] };
   rows = λ cube. [];

@@ -3,7 +3,7 @@
 ghost use Rattle.std.specs.Prelude.{◌≡◌, ℕ, List, ◌∷◌, ◌++◌, Some};
 ghost use Rattle.core_events.specs.Cells.{queue_of, reply_for, worker_of};
 ghost use Rattle.core_events.specs.Events.{Opening, CoreEvent, By, At, Post, Reply};
-ghost use Rattle.core_events.specs.Jobs.{CoreJob, JobAnswer};
+ghost use Rattle.core_events.specs.Jobs.{CoreJob, JobOutcome};
 ghost use Rattle.core_events.specs.Runs.{IsCoreRun};
 ghost use Rattle.core_mails.specs.Histories.{
   posts_of,
@@ -26,7 +26,7 @@ pub fn workers_do_what_they_take()
 
 /// What a mail holds for a client is the answer of the one job that was done for its last post.
 pub fn fetches_serve_posts()
-    ensures { (o : Opening) (es : List CoreEvent) (mail client : ℕ) (answer : JobAnswer)
+    ensures { (o : Opening) (es : List CoreEvent) (mail client : ℕ) (answer : JobOutcome)
         → IsCoreRun o es
         → reply_for mail client es ≡ Some answer → IsAnswered mail client answer es }
 {}
@@ -36,7 +36,7 @@ pub fn fetches_serve_posts()
 pub fn mail_calls_meet_their_conditions()
     ensures posts { (o : Opening) (a mail : ℕ) (job : CoreJob) (es : List CoreEvent)
         → IsCoreRun o (By a (Post mail job) ∷ es) → HasNoJob mail a es }
-    ensures replies { (o : Opening) (mail client : ℕ) (answer : JobAnswer) (es : List CoreEvent)
+    ensures replies { (o : Opening) (mail client : ℕ) (answer : JobOutcome) (es : List CoreEvent)
         → IsCoreRun o (At mail (Reply client answer) ∷ es)
         → HasJobOut (queue_of mail es) (reply_for mail client es) (worker_of mail es) client }
 {}
