@@ -1,3 +1,4 @@
+pub mod Apart
 pub mod CellKeys
 pub mod CellGains
 pub mod CellHolds

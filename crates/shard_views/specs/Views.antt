@@ -1,0 +1,62 @@
+-- A shard in the core's words: of each brick the runs of rows and the marks of deletions, the newest first.
+use Rattle.std.specs.Prelude.{◌≡◌, ℕ, ◌<◌, ◌≤◌, Bool, List, [], ◌∷◌, length, fold}
+use Rattle.std.specs.List.{items_where_true}
+use Rattle.cube_values.specs.declared.entry.Entry.{Entry}
+use Rattle.cube_values.specs.declared.entry.Entry.TheVariants.{Run, Mark}
+use Rattle.cube_values.specs.declared.row.CodedRow.{CodedRow}
+use Rattle.cube_values.specs.declared.snapshot.Snapshot.{Snapshot}
+use Rattle.cube_values.specs.EpochsVector.{IsVector}
+use Rattle.cube_values.specs.Sees.{sees}
+use Rattle.cube_rounds.specs.Bricks.{EntryRows, entries_with_rows}
+use Rattle.epochs_vector.specs.Seen.{seen_rows}
+use Rattle.brick_store.specs.Deltas.{seen_apart}
+use Rattle.brick_map.specs.Births.{BrickContent}
+use Rattle.core_events.specs.Runs.{Sight, rows_shown_besides}
+use Rattle.core_events.specs.ShardView.{BrickEntry, RowRun, RowMark, ShardView, brick_rows_seen, is_below_mark, rows_shown_to}
+use Rattle.shard_cell.specs.Shards.{ShardState, shard_brick}
+
+-- A run with its rows, or a mark.
+abbrev pub brick_entry : Entry → List CodedRow → BrickEntry
+brick_entry (Run epoch end) rows = RowRun epoch rows
+brick_entry (Mark epoch at) rows = RowMark epoch
+
+abbrev pub entries_newest_first : List BrickEntry → List EntryRows → List BrickEntry
+entries_newest_first older entries = fold (λ older e. brick_entry e.entry e.rows ∷ older) older entries
+
+-- What a brick has, in the core's words.
+abbrev pub brick_view : BrickContent → List BrickEntry
+brick_view c = entries_newest_first [] (entries_with_rows 0 c.rows c.entries)
+
+-- What a shard has, also of bricks that are not there.
+abbrev pub shard_view : ShardState → ShardView
+shard_view shard cube number = brick_view (shard_brick shard cube number)
+
+-- A test does not tell the epochs up to one apart.
+abbrev pub IsUniform : ℕ → (ℕ → Bool) → Type 0
+IsUniform low epochs = (a b : ℕ) → a ≤ low → b ≤ low → epochs a ≡ epochs b
+
+-- Two bricks show the same rows, and hide the same, to whoever does not tell the epochs up to one apart and obeys all
+-- their marks: a purge may have made their runs one.
+pub record ShowAlikeAbove (low : ℕ) (a b : List BrickEntry) : Type 0 where
+  pub rows : (epochs marks : ℕ → Bool) → IsUniform low epochs → IsUniform low marks
+      → rows_shown_to epochs marks a ≡ rows_shown_to epochs marks b
+  pub hidden : (marks : ℕ → Bool) (epoch : ℕ) → low < epoch → is_below_mark marks epoch a ≡ is_below_mark marks epoch b
+
+-- A shard is what the core takes it for, where no purge was above an epoch: each brick shows the same.
+abbrev pub StandsForView : ℕ → ShardState → ShardView → Type 0
+StandsForView low shard view = (cube brick : ℕ) → ShowAlikeAbove low (shard_view shard cube brick) (view cube brick)
+
+-- What a snapshot sees by a vector of epochs is what it sees in the core's words.
+abbrev pub SeesTheSame : Type 0
+SeesTheSame = (c : BrickContent) → IsVector c.entries (length c.rows) → (snapshot : Snapshot)
+    → items_where_true (seen_rows snapshot c.entries) c.rows ≡ brick_rows_seen snapshot (brick_view c)
+
+-- The sight of a snapshot.
+abbrev pub sight_of : Snapshot → Sight
+sight_of snapshot = record { epochs = sees snapshot; marks = sees snapshot }
+
+-- And so what one snapshot sees and another does not.
+abbrev pub SeesApartTheSame : Type 0
+SeesApartTheSame = (c : BrickContent) → IsVector c.entries (length c.rows) → (one other : Snapshot)
+    → items_where_true (seen_apart one other c.entries) c.rows
+    ≡ rows_shown_besides (sight_of one) (sight_of other) (brick_view c)
