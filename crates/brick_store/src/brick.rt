@@ -16,6 +16,7 @@ ghost use Rattle.brick_store.specs.Copies.{round_part};
 ghost use Rattle.brick_store.specs.Rows.{rows_shown, span_has_row};
 
 use crate::copies::copy_entries;
+use crate::cuts::clear_outside;
 use crate::parts::{copy_of, leave_rows, purge_entries, starts_of};
 use crate::scan::fold_rows;
 use agg_fold::Partial;
@@ -184,23 +185,21 @@ impl Brick {
     {
         match covers(&self.shape, &query.span, self.number) {
             Cover::Outside => Ok(()),
-            Cover::Inside => self.fold(query, snapshot, true, into),
-            Cover::Cut { .. } => self.fold(query, snapshot, false, into),
+            Cover::Inside => self.fold_seen(query, snapshot, into),
+            Cover::Cut { .. } => self.fold_shown(query, snapshot, into),
         }
     }
 
-    // Adds the rows that the snapshot sees and the span has, which may have all.
-    fn fold(
+    // Adds the rows that the snapshot sees, where the span has all rows.
+    fn fold_seen(
         &self,
         query: &BoundQuery,
         snapshot: &Snapshot,
-        all: bool,
         into: &mut Partial,
     ) -> Result<(), AllocError>
         requires sound { IsSoundQuery query.now
             (length self.now.home.sizes) self.now.home.metrics }
-        requires all { IsTrue all
-            → All (λ row. IsTrue (span_has_row query.now.span row)) self.now.rows }
+        requires all { All (λ row. IsTrue (span_has_row query.now.span row)) self.now.rows }
         requires room { HasRoom query.now (length self.now.rows) into.old.groups }
         ensures { OnOk result (Gains query.now
             (rows_shown query.now.span snapshot.now self.now.entries self.now.rows)
@@ -214,9 +213,30 @@ impl Brick {
             self.starts.as_slice(),
             &bits,
             query,
-            all,
             into,
         )
+    }
+
+    // Adds the rows that the snapshot sees and the span has.
+    fn fold_shown(
+        &self,
+        query: &BoundQuery,
+        snapshot: &Snapshot,
+        into: &mut Partial,
+    ) -> Result<(), AllocError>
+        requires sound { IsSoundQuery query.now
+            (length self.now.home.sizes) self.now.home.metrics }
+        requires room { HasRoom query.now (length self.now.rows) into.old.groups }
+        ensures { OnOk result (Gains query.now
+            (rows_shown query.now.span snapshot.now self.now.entries self.now.rows)
+            into.old.groups into.new.groups) }
+    {
+        let alloc = *self.starts.allocator();
+        let starts = self.starts.as_slice();
+        let mut bits = self.epochs.visible_bits(snapshot)?;
+        let _rows = self.columns.len();
+        clear_outside(alloc, &self.columns, starts, &query.span, &mut bits)?;
+        fold_rows(alloc, &self.columns, starts, &bits, query, into)
     }
 
     /// What a round has of the brick: the entries of the epochs above one and up to another, and the rows
