@@ -2,5 +2,6 @@ pub mod Bricks
 pub mod Cells
 pub mod Copies
 pub mod Deltas
+pub mod Cuts
 pub mod Rows
 pub mod Whole
