@@ -83,8 +83,9 @@ pub const SPENT_GENERATION: &[u8] = &[
     0x13, 0xac, 0xdb, 0x28, 0x43, 0xe5, 0x00,
 ];
 
-/// The digests of a store's files whose round up to each epoch e has the row x 4 with the metric e + 6: the first one with
-/// 64 rounds; the second one with a whole round up to 65, and with 63 more; the first one with a whole round up to 129.
+/// The digests of a store's files whose round up to each epoch e has the row x 4 with the metric e + 6:
+/// the first one with 64 rounds; the second one with a whole round up to 65, and with 63 more; the first
+/// one with a whole round up to 129.
 pub const FIRST_AT_64: [u8; 32] = [
     0xa2, 0x44, 0x39, 0x01, 0x76, 0xa2, 0x20, 0xf8, 0xea, 0xf8, 0x9a, 0x72, 0x19, 0xc7, 0x77, 0xd1,
     0xb9, 0x01, 0x9b, 0xc1, 0x11, 0xec, 0x89, 0x86, 0x34, 0x4f, 0xd7, 0xe8, 0x36, 0xa6, 0x33, 0xab,
