@@ -5,6 +5,7 @@ pub mod CellNumbers
 pub mod CellRows
 pub mod CellRuns
 pub mod CellScans
+pub mod ClearedBits
 pub mod Changes
 pub mod Coordinates
 pub mod Covered

@@ -1,5 +1,6 @@
 pub mod Bricks
 pub mod Cells
 pub mod Copies
+pub mod Cuts
 pub mod Rows
 pub mod Whole

@@ -206,13 +206,13 @@ impl Brick {
             (rows_shown query.now.span snapshot.now self.now.entries self.now.rows)
             into.old.groups into.new.groups) }
     {
-        let bits = self.epochs.visible_bits(snapshot)?;
+        let mut bits = self.epochs.visible_bits(snapshot)?;
         let _rows = self.columns.len();
         fold_rows(
             *self.starts.allocator(),
             &self.columns,
             self.starts.as_slice(),
-            &bits,
+            &mut bits,
             query,
             all,
             into,

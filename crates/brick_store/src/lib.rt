@@ -5,6 +5,7 @@ mod brick;
 mod cell_tallies;
 mod cells;
 mod copies;
+mod cuts;
 mod dense;
 mod parts;
 mod rows;
