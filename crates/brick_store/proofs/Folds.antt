@@ -35,6 +35,13 @@ module _ {A : Type 0} (test : A → Bool) where
   filter_none (x ∷ xs) h =
       ap (λ b. cond b (x ∷ filter test xs) (filter test xs)) (All-head (λ x. test x ≡ false) x xs h) ∙ filter_none xs (All-tail (λ x. test x ≡ false) x xs h)
 
+  pub filter_short : (xs : List A) → length (filter test xs) ≤ length xs
+  filter_short [] = omega arith
+  filter_short (x ∷ xs) = by_test (test x) (filter_short xs) where
+    by_test : (b : Bool) → length (filter test xs) ≤ length xs → length (cond b (x ∷ filter test xs) (filter test xs)) ≤ suc (length xs)
+    by_test true h = omega (arith, h)
+    by_test false h = omega (arith, h)
+
 -- of the first i items those whose bit is set, and one more
 pub set_short : {A : Type 0} (bits : List Bool) (xs : List A) → length (items_where_true bits xs) ≤ length xs
 set_short [] xs = omega arith

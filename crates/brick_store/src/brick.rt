@@ -17,7 +17,6 @@ ghost use Rattle.brick_store.specs.Deltas.{rows_apart};
 ghost use Rattle.brick_store.specs.Rows.{rows_shown, span_has_row};
 
 use crate::copies::copy_entries;
-use crate::cuts::clear_outside;
 use crate::delta::apart_bits;
 use crate::parts::{copy_of, leave_rows, purge_entries, starts_of};
 use crate::scan::fold_rows;
@@ -187,58 +186,39 @@ impl Brick {
     {
         match covers(&self.shape, &query.span, self.number) {
             Cover::Outside => Ok(()),
-            Cover::Inside => self.fold_seen(query, snapshot, into),
-            Cover::Cut { .. } => self.fold_shown(query, snapshot, into),
+            Cover::Inside => self.fold(query, snapshot, true, into),
+            Cover::Cut { .. } => self.fold(query, snapshot, false, into),
         }
     }
 
-    // Adds the rows that the snapshot sees, where the span has all rows.
-    fn fold_seen(
+    // Adds the rows that the snapshot sees and the span has, which may have all.
+    fn fold(
         &self,
         query: &BoundQuery,
         snapshot: &Snapshot,
+        all: bool,
         into: &mut Partial,
     ) -> Result<(), AllocError>
         requires sound { IsSoundQuery query.now
             (length self.now.home.sizes) self.now.home.metrics }
-        requires all { All (λ row. IsTrue (span_has_row query.now.span row)) self.now.rows }
+        requires all { IsTrue all
+            → All (λ row. IsTrue (span_has_row query.now.span row)) self.now.rows }
         requires room { HasRoom query.now (length self.now.rows) into.old.groups }
         ensures { OnOk result (Gains query.now
             (rows_shown query.now.span snapshot.now self.now.entries self.now.rows)
             into.old.groups into.new.groups) }
     {
-        let bits = self.epochs.visible_bits(snapshot)?;
+        let mut bits = self.epochs.visible_bits(snapshot)?;
         let _rows = self.columns.len();
         fold_rows(
             *self.starts.allocator(),
             &self.columns,
             self.starts.as_slice(),
-            &bits,
+            &mut bits,
             query,
+            all,
             into,
         )
-    }
-
-    // Adds the rows that the snapshot sees and the span has.
-    fn fold_shown(
-        &self,
-        query: &BoundQuery,
-        snapshot: &Snapshot,
-        into: &mut Partial,
-    ) -> Result<(), AllocError>
-        requires sound { IsSoundQuery query.now
-            (length self.now.home.sizes) self.now.home.metrics }
-        requires room { HasRoom query.now (length self.now.rows) into.old.groups }
-        ensures { OnOk result (Gains query.now
-            (rows_shown query.now.span snapshot.now self.now.entries self.now.rows)
-            into.old.groups into.new.groups) }
-    {
-        let alloc = *self.starts.allocator();
-        let starts = self.starts.as_slice();
-        let mut bits = self.epochs.visible_bits(snapshot)?;
-        let _rows = self.columns.len();
-        clear_outside(alloc, &self.columns, starts, &query.span, &mut bits)?;
-        fold_rows(alloc, &self.columns, starts, &bits, query, into)
     }
 
     /// Adds to two partials what changes from one snapshot to another: the rows of the query's span that came,
@@ -287,60 +267,40 @@ impl Brick {
     {
         match covers(&self.shape, &query.span, self.number) {
             Cover::Outside => Ok(()),
-            Cover::Inside => self.fold_apart(query, one, other, into),
-            Cover::Cut { .. } => self.fold_apart_cut(query, one, other, into),
+            Cover::Inside => self.fold_apart(query, one, other, true, into),
+            Cover::Cut { .. } => self.fold_apart(query, one, other, false, into),
         }
     }
 
-    // Adds the rows that one snapshot sees and another does not, where the span has all rows.
+    // Adds the rows that one snapshot sees, another does not, and the span has, which may have all.
     fn fold_apart(
         &self,
         query: &BoundQuery,
         one: &Snapshot,
         other: &Snapshot,
+        all: bool,
         into: &mut Partial,
     ) -> Result<(), AllocError>
         requires sound { IsSoundQuery query.now
             (length self.now.home.sizes) self.now.home.metrics }
-        requires all { All (λ row. IsTrue (span_has_row query.now.span row)) self.now.rows }
+        requires all { IsTrue all
+            → All (λ row. IsTrue (span_has_row query.now.span row)) self.now.rows }
         requires room { HasRoom query.now (length self.now.rows) into.old.groups }
         ensures { OnOk result (Gains query.now
             (rows_apart query.now.span one.now other.now self.now.entries self.now.rows)
             into.old.groups into.new.groups) }
     {
-        let bits = apart_bits(&self.epochs, one, other)?;
+        let mut bits = apart_bits(&self.epochs, one, other)?;
         let _rows = self.columns.len();
         fold_rows(
             *self.starts.allocator(),
             &self.columns,
             self.starts.as_slice(),
-            &bits,
+            &mut bits,
             query,
+            all,
             into,
         )
-    }
-
-    // Adds the rows that one snapshot sees, another does not, and the span has.
-    fn fold_apart_cut(
-        &self,
-        query: &BoundQuery,
-        one: &Snapshot,
-        other: &Snapshot,
-        into: &mut Partial,
-    ) -> Result<(), AllocError>
-        requires sound { IsSoundQuery query.now
-            (length self.now.home.sizes) self.now.home.metrics }
-        requires room { HasRoom query.now (length self.now.rows) into.old.groups }
-        ensures { OnOk result (Gains query.now
-            (rows_apart query.now.span one.now other.now self.now.entries self.now.rows)
-            into.old.groups into.new.groups) }
-    {
-        let alloc = *self.starts.allocator();
-        let starts = self.starts.as_slice();
-        let mut bits = apart_bits(&self.epochs, one, other)?;
-        let _rows = self.columns.len();
-        clear_outside(alloc, &self.columns, starts, &query.span, &mut bits)?;
-        fold_rows(alloc, &self.columns, starts, &bits, query, into)
     }
 
     /// What a round has of the brick: the entries of the epochs above one and up to another, and the rows

@@ -13,6 +13,7 @@ ghost use Rattle.brick_store.specs.Rows.{span_has_row};
 ghost use Rattle.brick_store.specs.Whole.{HaveCoordsFrom, row_with_coords};
 
 use crate::cells::cell_count;
+use crate::cuts::clear_outside;
 use crate::dense::Dense;
 use crate::rows::read_row;
 use agg_fold::Partial;
@@ -29,9 +30,82 @@ const CELLS_A_ROW: u64 = 4;
 /// So many rows are read from the columns at once.
 pub const ROWS_AT_ONCE: u64 = 1_024;
 
-/// Adds the rows whose bit is set, all of which the query's span has. Where no bit is set, no row is looked
-/// at.
+/// Adds the rows whose bit is set and that the query's span has. Where the span has not all rows, the bits of
+/// those outside are cleared first.
 pub fn fold_rows(
+    alloc: Global,
+    columns: &Columns,
+    starts: &[u32],
+    bits: &mut Bits,
+    query: &BoundQuery,
+    all: bool,
+    into: &mut Partial,
+) -> Result<(), AllocError>
+    requires bits { length bits.old.bits ≡ length columns.now.rows }
+    requires readable { HaveCoordsFrom starts.now columns.now }
+    requires sound { IsSoundQuery query.now (length starts.now) columns.now.layout.metrics }
+    requires all { IsTrue all → All (λ row. IsTrue (span_has_row query.now.span row))
+        (map (row_with_coords starts.now) columns.now.rows) }
+    requires room { HasRoom query.now (length columns.now.rows) into.old.groups }
+    ensures { OnOk result (Gains query.now
+        (filter (span_has_row query.now.span)
+        (items_where_true bits.old.bits (map (row_with_coords starts.now) columns.now.rows)))
+        into.old.groups into.new.groups) }
+{
+    if all {
+        fold_whole(alloc, columns, starts, bits, query, into)
+    } else {
+        fold_cut(alloc, columns, starts, bits, query, into)
+    }
+}
+
+// Adds the rows whose bit is set, where the query's span has all rows.
+fn fold_whole(
+    alloc: Global,
+    columns: &Columns,
+    starts: &[u32],
+    bits: &Bits,
+    query: &BoundQuery,
+    into: &mut Partial,
+) -> Result<(), AllocError>
+    requires bits { length bits.now.bits ≡ length columns.now.rows }
+    requires readable { HaveCoordsFrom starts.now columns.now }
+    requires sound { IsSoundQuery query.now (length starts.now) columns.now.layout.metrics }
+    requires all { All (λ row. IsTrue (span_has_row query.now.span row))
+        (map (row_with_coords starts.now) columns.now.rows) }
+    requires room { HasRoom query.now (length columns.now.rows) into.old.groups }
+    ensures { OnOk result (Gains query.now
+        (filter (span_has_row query.now.span)
+        (items_where_true bits.now.bits (map (row_with_coords starts.now) columns.now.rows)))
+        into.old.groups into.new.groups) }
+{
+    fold_chosen(alloc, columns, starts, bits, query, into)
+}
+
+// Adds the rows whose bit is set and that the query's span has, and clears the bits of the others.
+fn fold_cut(
+    alloc: Global,
+    columns: &Columns,
+    starts: &[u32],
+    bits: &mut Bits,
+    query: &BoundQuery,
+    into: &mut Partial,
+) -> Result<(), AllocError>
+    requires bits { length bits.old.bits ≡ length columns.now.rows }
+    requires readable { HaveCoordsFrom starts.now columns.now }
+    requires sound { IsSoundQuery query.now (length starts.now) columns.now.layout.metrics }
+    requires room { HasRoom query.now (length columns.now.rows) into.old.groups }
+    ensures { OnOk result (Gains query.now
+        (filter (span_has_row query.now.span)
+        (items_where_true bits.old.bits (map (row_with_coords starts.now) columns.now.rows)))
+        into.old.groups into.new.groups) }
+{
+    clear_outside(alloc, columns, starts, &query.span, bits)?;
+    fold_chosen(alloc, columns, starts, bits, query, into)
+}
+
+// Adds the rows whose bit is set, all of which the query's span has. Where no bit is set, no row is looked at.
+fn fold_chosen(
     alloc: Global,
     columns: &Columns,
     starts: &[u32],

@@ -17,7 +17,7 @@ returns-in-Outside c =
     subst (λ (v : BrickState). Gains query (rows_apart query.span c.args.one.now c.args.other.now v.entries v.rows) g g) c.self.view_is (gains_same query [] _ g g (sym none) (gains_none query g))
 
 pub fold_apart-requires-clause-all : goal.fold_apart-requires-clause-all
-fold_apart-requires-clause-all c =
+fold_apart-requires-clause-all c = λ _.
     let b = c.self.inside in
     let span = c.args.query.now.span in
     subst (λ (v : BrickState). All (λ row. IsTrue (span_has_row span row)) v.rows) c.self.view_is (all_inside (home_in b) span (contract_view b).rows c.in-Inside.ensures c.self.invariant.sound)

@@ -16,8 +16,8 @@ returns-in-Outside c =
     let none = none_shown (home_in b) query.span (seen_rows c.args.snapshot.now b.epochs.entries) (contract_view b).rows c.in-Outside.ensures c.self.invariant.sound in
     subst (λ (v : BrickState). Gains query (rows_shown query.span c.args.snapshot.now v.entries v.rows) g g) c.self.view_is (gains_same query [] _ g g (sym none) (gains_none query g))
 
-pub fold_seen-requires-clause-all : goal.fold_seen-requires-clause-all
-fold_seen-requires-clause-all c =
+pub fold-requires-clause-all : goal.fold-requires-clause-all
+fold-requires-clause-all c = λ _.
     let b = c.self.inside in
     let span = c.args.query.now.span in
     subst (λ (v : BrickState). All (λ row. IsTrue (span_has_row span row)) v.rows) c.self.view_is (all_inside (home_in b) span (contract_view b).rows c.in-Inside.ensures c.self.invariant.sound)

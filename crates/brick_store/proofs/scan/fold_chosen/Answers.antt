@@ -1,7 +1,7 @@
 use Rattle.std.proofs.Common.{◌<◌, [], All, map, sym, subst, arith}
 use Rattle.brick_store.specs.Whole.{row_with_coords}
 use Rattle.brick_store.proofs.Folds.{gains_none, gains_same, none_set}
-use Rattle.brick_store.proofs.scan.fold_rows.Goals as goal
+use Rattle.brick_store.proofs.scan.fold_chosen.Goals as goal
 
 pub cell_count-requires-clause-dims : goal.cell_count-requires-clause-dims
 cell_count-requires-clause-dims c =

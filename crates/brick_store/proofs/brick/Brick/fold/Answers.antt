@@ -1,19 +1,16 @@
-use Rattle.std.proofs.Common.{All, IsTrue, List, OnOk, length, sym, subst, ap, ◌∙◌}
+use Rattle.std.proofs.Common.{All, IsTrue, List, OnOk, length, filter, sym, subst, ap, ◌∙◌}
 use Rattle.std.specs.List.{items_where_true}
 use Rattle.cube_values.specs.declared.row.CodedRow.{CodedRow}
 use Rattle.std.proofs.lemmas.List.FromFn.{length-map-range_with_len}
 use Rattle.cube_values.specs.EpochsVector.{rows_of, sees_row}
 use Rattle.cube_values.specs.Queries.{IsSoundQuery}
 use Rattle.agg_fold.specs.Standing.{Gains, HasRoom}
-use Rattle.agg_fold.proofs.Permuted.{filter_all}
-use Rattle.brick_columns.proofs.KeptItems.{kept_all}
-use Rattle.epochs_vector.specs.Seen.{seen_rows}
 use Rattle.brick_store.specs.Bricks.{BrickState}
 use Rattle.brick_store.specs.Rows.{rows_shown, span_has_row}
 use Rattle.brick_store.specs.Whole.{contract_view}
 use Rattle.brick_store.proofs.Changes.{rows_known, seen_length}
 use Rattle.brick_store.proofs.Readable.{dims_known, rows_readable}
-use Rattle.brick_store.proofs.brick.Brick.fold_seen.Goals as goal
+use Rattle.brick_store.proofs.brick.Brick.fold.Goals as goal
 
 pub fold_rows-requires-clause-bits : goal.fold_rows-requires-clause-bits
 fold_rows-requires-clause-bits c =
@@ -29,11 +26,9 @@ fold_rows-requires-clause-sound c =
     let own = subst (λ (v : BrickState). IsSoundQuery c.args.query.now (length v.home.sizes) v.home.metrics) (sym c.self.view_is) c.requires.sound in
     rw c.as_slice.ensures.value (subst (λ n. IsSoundQuery c.args.query.now n old.columns.layout.metrics) (sym (dims_known old c.self.invariant)) own)
 
-pub fold_rows-requires-clause-inside : goal.fold_rows-requires-clause-inside
-fold_rows-requires-clause-inside c =
-    let old = c.self.inside in
-    let test : CodedRow → Type 0 = λ row. IsTrue (span_has_row c.args.query.now.span row) in
-    rw c.as_slice.ensures.value (kept_all test c.in_ok-bits.bits.bits (contract_view old).rows (subst (λ (v : BrickState). All test v.rows) (sym c.self.view_is) c.requires.all))
+pub fold_rows-requires-clause-all : goal.fold_rows-requires-clause-all
+fold_rows-requires-clause-all c =
+    rw c.as_slice.ensures.value (subst (λ (v : BrickState). IsTrue c.args.all → All (λ row. IsTrue (span_has_row c.args.query.now.span row)) v.rows) (sym c.self.view_is) c.requires.all)
 
 pub fold_rows-requires-clause-room : goal.fold_rows-requires-clause-room
 fold_rows-requires-clause-room c =
@@ -44,8 +39,5 @@ returns c =
     let b = c.self.inside in
     let query = c.args.query.now in
     let shown : List CodedRow → Type 0 = λ rows. OnOk c.fold_rows.result (Gains query rows c.args.into.now.groups c.fold_rows.new.into.groups) in
-    let test : CodedRow → Type 0 = λ row. IsTrue (span_has_row query.span row) in
-    let seen = ap (λ bits. items_where_true bits (contract_view b).rows) c.in_ok-bits.ensures.bits in
-    let inside = kept_all test (seen_rows c.args.snapshot.now b.epochs.entries) (contract_view b).rows (subst (λ (v : BrickState). All test v.rows) (sym c.self.view_is) c.requires.all) in
-    let all = filter_all (span_has_row query.span) (items_where_true (seen_rows c.args.snapshot.now b.epochs.entries) (contract_view b).rows) inside in
-    subst shown (seen ∙ sym all ∙ ap (λ (v : BrickState). rows_shown query.span c.args.snapshot.now v.entries v.rows) c.self.view_is) (rw c.as_slice.ensures.value at c.fold_rows.ensures)
+    let seen = ap (λ bits. filter (span_has_row query.span) (items_where_true bits (contract_view b).rows)) c.in_ok-bits.ensures.bits in
+    subst shown (seen ∙ ap (λ (v : BrickState). rows_shown query.span c.args.snapshot.now v.entries v.rows) c.self.view_is) (rw c.as_slice.ensures.value at c.fold_rows.ensures)
