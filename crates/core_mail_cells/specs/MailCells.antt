@@ -1,5 +1,6 @@
--- When a mail, as contracts see it, is what events have made of it. Its jobs may be of any type: each is one job of the
--- core. So may its answers: each stands for one outcome or for several, as a partial result does for many lists of rows.
+-- When a mail, as contracts see it, is what events have made of it. Its jobs may be of any type: each is one job of
+-- the core. So may its answers: each stands for one outcome or for several, as a partial result does for many lists of
+-- rows.
 -- Source: this project's own.
 use Rattle.std.specs.Prelude.{◌≡◌, ℕ, ◌<◌, ◌==◌, Bool, true, false, List, ◌∷◌, map, length, Option, Some, None}
 use Rattle.mail_cell.specs.declared.place.Post.{Post}
