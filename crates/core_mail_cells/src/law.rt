@@ -1,6 +1,6 @@
 //! Laws of mails against the events of the core, over every run.
 
-ghost use Rattle.std.specs.Prelude.{◌≡◌, ℕ, ◌<◌, false, true, List, ◌∷◌, length, []};
+ghost use Rattle.std.specs.Prelude.{◌≡◌, ℕ, ◌<◌, false, true, List, ◌∷◌, length, [], Some};
 ghost use Rattle.core_events.specs.Cells.{worker_of, Free};
 ghost use Rattle.core_events.specs.Events.{
   Opening,
@@ -17,6 +17,7 @@ ghost use Rattle.core_events.specs.Events.{
 ghost use Rattle.core_events.specs.Jobs.{CoreJob, JobOutcome};
 ghost use Rattle.core_events.specs.Runs.{IsCoreRun, MoveSays};
 ghost use Rattle.core_mail_cells.specs.MailCells.{IsMailOf, IsFetched, is_on_mail};
+ghost use Rattle.core_mails.specs.Histories.{job_served};
 ghost use Rattle.mail_cell.specs.State.{MailState, new_mail, place_of};
 ghost use Rattle.mail_cell.specs.Steps.{
   after_post,
@@ -72,8 +73,9 @@ pub fn mails_are_what_events_make<J, A: StandsForOutcome>()
         → MoveSays o es mail (NoJob true) × IsMailOf job_of A.stands_for mail
         (At mail (NoJob true) ∷ es) (after_take m) }
     ensures replies { (job_of : J → CoreJob) (o : Opening)
-        (es : List CoreEvent) (mail client : ℕ) (answer : A) (outcome : JobOutcome)
-        (m : MailState J A) → A.stands_for answer outcome
+        (es : List CoreEvent) (mail client : ℕ) (served : CoreJob) (answer : A)
+        (outcome : JobOutcome) (m : MailState J A)
+        → job_served (worker_of mail es) ≡ Some served → A.stands_for served answer outcome
         → IsCoreRun o (At mail (Reply client outcome) ∷ es)
         → IsMailOf job_of A.stands_for mail es m → client < length m.places
         → (place_of m client ≡ Out) × IsMailOf job_of A.stands_for mail
