@@ -3,7 +3,10 @@ use Rattle.std.proofs.Common.{◌≡◌, ◌≢◌, ◌∙◌, ℕ, ◌+◌, ◌
 use Rattle.turn_board.specs.declared.history.Event.{Event}
 use Rattle.core_cells.specs.DeskCalls.{CanCallDesk, DeskStep}
 use Rattle.core_cells.specs.declared.desk.DeskAnswer.{DeskAnswer}
+use Rattle.aosi_register.specs.declared.answer.RoundAnswer.TheVariants.{Nothing}
+use Rattle.core_cells.specs.declared.desk.DeskAnswer.TheVariants as said
 use Rattle.core_cells.specs.declared.desk.DeskCall.{DeskCall}
+use Rattle.core_cells.specs.declared.desk.DeskCall.TheVariants as round
 use Rattle.core_cells.specs.declared.names.NamesAnswer.{NamesAnswer}
 use Rattle.core_cells.specs.declared.names.NamesCall.{NamesCall}
 use Rattle.cube_core.specs.CoreSteps.{CanTake, CoreStep}
@@ -21,7 +24,7 @@ use Rattle.core_events.specs.Events.{Opening, Work, CoreEvent, By, At}
 use Rattle.core_events.specs.Jobs.{CoreJob, JobOutcome}
 use Rattle.core_events.specs.Runs.{IsCoreRun}
 use Rattle.core_events.specs.ShardView.{ShardView}
-use Rattle.core_links.specs.DeskEvents.{desk_event}
+use Rattle.core_links.specs.DeskEvents.{desk_event, FitsDeskCall}
 use Rattle.core_links.specs.MailEvents.{FitsMailCall, IsMailCellOf}
 use Rattle.core_links.specs.NamesEvents.{names_event, AreNamesOf}
 use Rattle.names_dict.specs.Dictionaries.{Dictionary}
@@ -32,8 +35,16 @@ use Rattle.core_links.proofs.DeskLinks as desk
 use Rattle.core_links.proofs.MailLinks as mail
 use Rattle.core_links.proofs.NamesLinks as names
 use Rattle.core_board.specs.Links.{IsCallLinked}
-use Rattle.core_board_cells.specs.BoardCells.{client_of, call_job, job_asked, AnswerSays, cell_of_shard, cell_of_mail, IsShardLinked, FitsBoardEntry, IsEntryEvent, StandsInCell, IsByItself}
+use Rattle.core_board_cells.specs.BoardCells.{client_of, call_job, job_asked, AnswerSays, cell_of_shard, cell_of_mail, IsShardLinked, FitsBoardEntry, IsEntryEvent, StandsInCell, IsByItself, IsClientCaller, IsRoundsOwn}
+use Rattle.core_board_cells.proofs.OwnEntries.{flusher-caller}
 use Rattle.core_board_cells.proofs.OffCells.{IsOffOthers, desk-off, names-off, mail-off}
+
+-- Who opens or closes a round is the flusher.
+rounds-own : (o : Opening) (caller : ℕ) (c : DeskCall) (es : List CoreEvent) → IsClientCaller o caller
+    → FitsDeskCall o (client_of o caller) c (client_state o (client_of o caller) es) → IsRoundsOwn o caller c
+rounds-own o caller round.RoundOpen es act may = flusher-caller o caller act (may.event (said.Round (Nothing 0))).flusher
+rounds-own o caller (round.RoundClose epoch end) es act may = flusher-caller o caller act (may.event said.Done).flusher
+rounds-own o caller c es act may = tt
 
 same-number : (a b : ℕ) → 2 + a ≡ 2 + b → a ≡ b
 same-number a b e = omega (arith, e)
@@ -152,7 +163,7 @@ module _ {S : Type 0} (can_shard : S → ShardCall → Type 0) (step_shard : S �
       let client = client_of o caller in
       let next = desk.steps o client c a es new run may.2 (coe 0 1 (i. DeskStep (stand.1 i) c a new) step) in record {
         next = By client (desk_event client (client_state o client es) c a);
-        is = (may.1, refl);
+        is = (may.1, rounds-own o caller c es may.1 may.2, refl);
         run = next.0;
         own = (may.0, next.1);
         others = λ i z other is. all-others o k (By client (desk_event client (client_state o client es) c a)) es

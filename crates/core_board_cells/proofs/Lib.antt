@@ -1,4 +1,4 @@
 pub mod OffCells
-pub mod EntrySteps
 pub mod OwnEntries
+pub mod EntrySteps
 pub mod OwnKnowledge

@@ -23,9 +23,10 @@ use Rattle.core_events.proofs.Knowledge.{known-by-calls}
 use Rattle.core_mails.specs.Histories.{last_after, last_after_post, last_post, job_served}
 use Rattle.core_links.specs.DeskEvents.{desk_event}
 use Rattle.core_links.specs.MailEvents.{HandsOn, IsMailEvent}
-use Rattle.core_board.specs.Links.{HangsOn}
+use Rattle.core_board.specs.Links.{HangsOn, IsToldByCaller, MakesCalls}
+use Rattle.core_board.proofs.OwnParts.{told-calls, told-moves, told-rounds}
 use Rattle.core_board_cells.specs.BoardCells.{client_of, server_of, IsClientCaller, job_asked, AnswerSays, IsByItself, IsEventOf, IsEntryEvent, FlusherPart, flusher_part}
-use Rattle.core_board_cells.proofs.OwnEntries.{client-low, client-high}
+use Rattle.core_board_cells.proofs.OwnEntries.{client-low, client-high, own-calls, own-moves, own-rounds}
 
 -- What a client knows, and its last post to a mail, by its calls.
 state-same : (o : Opening) (a : ℕ) (es fs : List CoreEvent) → calls_of a es ≡ calls_of a fs → client_state o a es ≡ client_state o a fs
@@ -88,7 +89,8 @@ module _ {S : Type 0} (fits : Opening → ℕ → ShardCall → Type 0) (stands 
       → IsEventOf fits stands says o fs b k c x event
   event-same o b k es fs (call.Desk c) (answer.Desk x) event calls serves is = (
     is.0,
-    is.1 ∙ ap (λ (s : ClientState). By (client_of o b) (desk_event (client_of o b) s c x)) (state-same o (client_of o b) es fs (calls is.0)),
+    is.1,
+    is.2 ∙ ap (λ (s : ClientState). By (client_of o b) (desk_event (client_of o b) s c x)) (state-same o (client_of o b) es fs (calls is.0)),
   )
   event-same o b k es fs (call.Names c) (answer.Names x) event calls serves is = is
   event-same o b k es fs (call.Shard c) (answer.Shard x) event calls serves is = is
@@ -122,3 +124,27 @@ module _ {S : Type 0} (fits : Opening → ℕ → ShardCall → Type 0) (stands 
       ap (λ (n : ℕ). calls_of n es) client ∙ ap (λ (p : FlusherPart). p.calls) same ∙ ap (λ (n : ℕ). calls_of n fs) (sym client))
       (λ n serves. let at : n ≡ flush_mail o = omega (arith, mine, serves) in
       ap (λ (m : ℕ). worker_of m es) at ∙ ap (λ (p : FlusherPart). p.worker) same ∙ ap (λ (m : ℕ). worker_of m fs) (sym at)) is
+
+  -- And all that is told of the flusher is told of its own entries.
+  pub flusher-told : (o : Opening) → IsToldByCaller (IsEntryEvent fits stands says o) (server_of o (flush_mail o)) (flusher_part o)
+  flusher-told o =
+      let caller = server_of o (flush_mail o) in
+      let event = IsEntryEvent fits stands says o in
+      let client : client_of o caller ≡ flusher o = client-high o caller refl in
+      let calls = told-calls event caller (flusher o)
+      (coe 0 1 (i. MakesCalls event caller (client i)) (own-calls fits stands says o caller (inr refl)))
+      in
+      let moves = told-moves event caller (flush_mail o) (own-moves fits stands says o (flush_mail o)) in
+      let rounds = told-rounds o event caller (own-rounds fits stands says o) in
+      record {
+        next = λ x es fs same i. record {
+          calls = calls.next x es fs (ap (λ (p : FlusherPart). p.calls) same) i;
+          worker = moves.next x es fs (ap (λ (p : FlusherPart). p.worker) same) i;
+          progress = rounds.next x es fs (ap (λ (p : FlusherPart). p.progress) same) i;
+        };
+        others = λ es e x other is i. record {
+          calls = calls.others es e x other is i;
+          worker = moves.others es e x other is i;
+          progress = rounds.others es e x other is i;
+        };
+      }

@@ -17,13 +17,15 @@ use Rattle.cube_core.specs.declared.jobs.Work.TheVariants as work
 use Rattle.cube_core.specs.declared.shard.ShardAnswer.{ShardAnswer}
 use Rattle.cube_core.specs.declared.shard.ShardCall.{ShardCall}
 use Rattle.cube_core.specs.declared.shard.ShardCall.TheVariants as shard
+use Rattle.core_cells.specs.declared.desk.DeskCall.{DeskCall}
+use Rattle.core_cells.specs.declared.desk.DeskCall.TheVariants as desk
 use Rattle.core_cells.specs.declared.mail.MailCall.{MailCall}
 use Rattle.core_cells.specs.declared.mail.MailCall.TheVariants as mail
 use Rattle.turn_board.specs.declared.history.Event.{Event}
 use Rattle.core_events.specs.Cells.{desk_of, shard_view_of, brick_after_move, WorkerState, worker_of}
 use Rattle.core_events.specs.Clients.{client_state, calls_of}
 use Rattle.core_events.specs.Events.{Opening, flusher, flush_mail, Work, CoreEvent, By, At, ClientCall}
-use Rattle.core_events.specs.Fitting.{FitsMove}
+use Rattle.core_events.specs.Fitting.{FitsMove, RoundProgress, round_progress}
 use Rattle.core_events.specs.Jobs.{CoreJob, Append, DropBox, Scan, Delta, Rollback, Purge, CopyRound, Flush, JobOutcome, Done, StoreLost, OutOfMemory}
 use Rattle.core_events.specs.Runs.{ShardSays}
 use Rattle.core_events.specs.ShardView.{ShardView}
@@ -44,13 +46,24 @@ server_of o number = o.sessions + 1 + number
 abbrev pub IsClientCaller : Opening → ℕ → Type 0
 IsClientCaller o caller = (caller ≤ o.sessions) ⊎ (caller ≡ server_of o (flush_mail o))
 
--- What the flusher's own entries tell: its calls as a client, and what it does at its mail.
+-- Rounds are opened and closed by the flusher.
+abbrev pub IsRoundsOwn : Opening → ℕ → DeskCall → Type 0
+IsRoundsOwn o caller desk.RoundOpen = caller ≡ server_of o (flush_mail o)
+IsRoundsOwn o caller (desk.RoundClose epoch end) = caller ≡ server_of o (flush_mail o)
+IsRoundsOwn o caller c = Unit {0}
+
+-- What the flusher's own entries tell: its calls as a client, what it does at its mail, and how far its rounds have come.
 pub record FlusherPart : Type 0 where
   pub calls : List ClientCall
   pub worker : WorkerState
+  pub progress : RoundProgress
 
 abbrev pub flusher_part : Opening → List CoreEvent → FlusherPart
-flusher_part o es = record { calls = calls_of (flusher o) es; worker = worker_of (flush_mail o) es }
+flusher_part o es = record {
+  calls = calls_of (flusher o) es;
+  worker = worker_of (flush_mail o) es;
+  progress = round_progress o es;
+}
 
 -- The job that a call on a shard does, and that a job of a mail asks for.
 abbrev pub call_job : ShardCall → CoreJob
@@ -149,7 +162,8 @@ module _ {S : Type 0} (fits : Opening → ℕ → ShardCall → Type 0) (stands 
   FitsBoardEntry o es caller k (call.Shard c) = MayWork o es caller k c
   FitsBoardEntry o es caller k (call.Mail c) = MayCallMail o es caller k c
 
-  pub record IsWorkEvent (o : Opening) (caller k : ℕ) (c : ShardCall) (a : ShardAnswer) (event : CoreEvent) : Type 0 where
+  pub record IsWorkEvent (o : Opening) (caller k : ℕ) (c : ShardCall) (a : ShardAnswer) (event : CoreEvent)
+      : Type 0 where
     pub number : ℕ
     pub cell : k ≡ cell_of_shard number
     pub own : caller ≡ server_of o number
@@ -160,7 +174,7 @@ module _ {S : Type 0} (fits : Opening → ℕ → ShardCall → Type 0) (stands 
   -- The event of an entry.
   abbrev pub IsEventOf : Opening → List CoreEvent → ℕ → ℕ → CoreCall → CoreAnswer → CoreEvent → Type 0
   IsEventOf o es caller k (call.Desk c) (answer.Desk a) event =
-      IsClientCaller o caller
+      IsClientCaller o caller × IsRoundsOwn o caller c
       × (event ≡ By (client_of o caller) (desk_event (client_of o caller) (client_state o (client_of o caller) es) c a))
   IsEventOf o es caller k (call.Names c) (answer.Names a) event =
       IsClientCaller o caller × (event ≡ By (client_of o caller) (names_event c a))

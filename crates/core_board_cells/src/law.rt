@@ -1,7 +1,7 @@
 //! The law of entries, for all shards that are linked to the core.
 
 ghost use Rattle.std.specs.Prelude.{ℕ, ◌≤◌, ◌<◌, List};
-ghost use Rattle.core_board.specs.Links.{HangsOn, IsCallLinked, MakesCalls, MakesMoves};
+ghost use Rattle.core_board.specs.Links.{HangsOn, IsCallLinked, IsToldByCaller, MakesCalls, MakesMoves};
 ghost use Rattle.core_board_cells.specs.BoardCells.{FitsBoardEntry, IsClientCaller, IsEntryEvent, StandsInCell, client_of, server_of, flusher_part};
 ghost use Rattle.core_events.specs.Cells.{worker_of};
 ghost use Rattle.core_events.specs.Clients.{calls_of};
@@ -30,7 +30,7 @@ pub fn entries_are_events<S: LinkedShard>()
 {}
 
 /// The calls of a client are made by the caller that acts as it, and the moves of a worker by the
-/// caller that is it; and which event an entry is hangs on no more than what these tell.
+/// caller that is it; and which event an entry is hangs on no more than what these tell. Rounds are the flusher's.
 pub fn callers_make_their_own<S: LinkedShard>()
     ensures calls { (o : Opening) (caller : ℕ) → IsClientCaller o caller
         → MakesCalls (IsEntryEvent S.fits S.stands S.says o) caller (client_of o caller) }
@@ -41,5 +41,7 @@ pub fn callers_make_their_own<S: LinkedShard>()
     ensures workers { (o : Opening) (number : ℕ) → number < o.shards → HangsOn
         (IsEntryEvent S.fits S.stands S.says o) (server_of o number) (worker_of number) }
     ensures flusher { (o : Opening) → HangsOn (IsEntryEvent S.fits S.stands S.says o)
+        (server_of o (flush_mail o)) (flusher_part o) }
+    ensures told { (o : Opening) → IsToldByCaller (IsEntryEvent S.fits S.stands S.says o)
         (server_of o (flush_mail o)) (flusher_part o) }
 {}
