@@ -1,5 +1,5 @@
--- A small run: a session puts a row and commits, and then reads it. One shard, one session, one cube with a dimension of
--- numbers and a metric.
+-- A small run: a session puts a row and commits, and then reads it. One shard, one session, one cube with a dimension
+-- of numbers and a metric.
 use Rattle.std.specs.Prelude.{List, [], ◌∷◌, false, pos}
 use Rattle.cube_values.specs.declared.query.BoundItem.TheVariants.{Count}
 use Rattle.cube_values.specs.declared.query.BoundQuery.{BoundQuery}

@@ -1,5 +1,5 @@
--- A run with all that the core has: a session makes a cube, opens the reader of a watch, puts a row and commits, asks what
--- changed for the watch, has a round saved and purges, and then reads. One shard, one session, and the flusher.
+-- A run with all that the core has: a session makes a cube, opens the reader of a watch, puts a row and commits, asks
+-- what changed for the watch, has a round saved and purges, and then reads. One shard, one session, and the flusher.
 use Rattle.std.specs.Prelude.{ℕ, List, [], ◌∷◌, false}
 use Rattle.cube_values.specs.declared.snapshot.Snapshot.{Snapshot}
 use Rattle.cube_language.specs.declared.decl.Decl.{Decl}

@@ -6,16 +6,13 @@ use Rattle.cube_journal.specs.declared.journal_entry.JournalEntry.TheVariants as
 use Rattle.cube_journal.specs.Counters.{held_by, counters}
 use Rattle.cube_journal.specs.Entries.{note_entry}
 use Rattle.cube_journal.specs.Legal.{CountersAllow, HoldsReader, MayAskRound}
+use Rattle.aosi_register.specs.declared.register.TheConstants.{MOST_HOLDERS}
 use Rattle.aosi_register.specs.State.{state_of, writer_snapshot, reader_snapshot, IsWriting, round_answer, end_entry, answer_entry, after_begin, after_read, after_commit, after_abort}
 use Rattle.aosi_desk.specs.Desks.{DeskState, desk_over, desk_with_entry, IsFound, desk_after_search, cube_answer, desk_after_answer, speaks_of_cubes}
 use Rattle.core_cells.specs.declared.desk.DeskCall.{DeskCall}
 use Rattle.core_cells.specs.declared.desk.DeskCall.TheVariants as call
 use Rattle.core_cells.specs.declared.desk.DeskAnswer.{DeskAnswer}
 use Rattle.core_cells.specs.declared.desk.DeskAnswer.TheVariants as answer
-
--- The greatest number under which a snapshot is held.
-abbrev pub most_holders : ℕ
-most_holders = 48
 
 -- What a writer asks: the number is a session's, and it holds no snapshot.
 pub record CanOpenWrite (desk : DeskState) (session : ℕ) : Type 0 where
@@ -26,7 +23,7 @@ pub record CanOpenWrite (desk : DeskState) (session : ℕ) : Type 0 where
 -- What a reader asks.
 pub record CanOpenRead (desk : DeskState) (number : ℕ) : Type 0 where
   pub low : 1 ≤ number
-  pub high : number ≤ most_holders
+  pub high : number ≤ MOST_HOLDERS
   pub free : held_by (state_of desk.register).snapshots number ≡ None
 
 -- The desk can take the call.

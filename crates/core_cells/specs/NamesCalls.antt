@@ -19,7 +19,8 @@ CanCallNames names (call.CopyFrom cube dim from) = from ≤ length (dictionary_a
 abbrev pub NamesStep : List (List Dictionary) → NamesCall → NamesAnswer → List (List Dictionary) → Type 0
 NamesStep names (call.Encode cube dim shape name) (answer.Coded code) new =
     IsCodeFor shape names cube dim name code × IsEncoded shape cube dim name names new code
-NamesStep names (call.Encode cube dim shape name) answer.NoMemory new = IsNewFor shape names cube dim name × (new ≡ names)
+NamesStep names (call.Encode cube dim shape name) answer.NoMemory new =
+    IsNewFor shape names cube dim name × (new ≡ names)
 NamesStep names (call.Find cube dim name) (answer.Found number) new =
     (number ≡ number_of (dictionary_at names cube dim) name) × (new ≡ names)
 NamesStep names (call.CopyFrom cube dim from) (answer.Copied copied) new =

@@ -33,7 +33,7 @@ free-takes q lost w client job free = coe 1 0 (i. FitsWork q lost (free i) (Take
 free-finds : (q : RoundProgress) (lost : Bool) (w : WorkerState) (closed : Bool) → w ≡ Free → FitsWork q lost w (NoJob closed)
 free-finds q lost w closed free = coe 1 0 (i. FitsWork q lost (free i) (NoJob closed)) tt
 
-module _ {J A : Type 0} (job_of : J → CoreJob) (stands_for : A → JobOutcome → Type 0) where
+module _ {J A : Type 0} (job_of : J → CoreJob) (stands_for : CoreJob → A → JobOutcome → Type 0) where
   -- A client of the mail has a place in it.
   placed : (o : Opening) (n client : ℕ) (es : List CoreEvent) (m : MailState J A) → IsMailCellOf job_of stands_for o n es m
       → client < clients_of o n → client < length m.places
@@ -65,7 +65,7 @@ module _ {J A : Type 0} (job_of : J → CoreJob) (stands_for : A → JobOutcome 
   can o n call.Take es m run may stand = tt
   can o n (call.Reply client said) es m run may stand =
       let below = placed o n client es m stand (reply-known o n client said es run may) in
-      (below, (mail.replies job_of stands_for o es n client said may.outcome m may.stands (reply-run o n client said es run may) stand.of below).0)
+      (below, (mail.replies job_of stands_for o es n client may.job said may.outcome m may.serves may.stands (reply-run o n client said es run may) stand.of below).0)
   can o n (call.Fetch client) es m run may stand = placed o n client es m stand may.known
   can o n call.Close es m run may stand = tt
 
@@ -120,7 +120,7 @@ module _ {J A : Type 0} (job_of : J → CoreJob) (stands_for : A → JobOutcome 
       let below = placed o n client es m stand may.known in
       let step = mail.fetches job_of stands_for o es n client said m stand.of below is in record {
         event = By client (Fetch n step.outcome);
-        of = (step.outcome, step.stands, refl);
+        of = record { of = step.job; outcome = step.outcome; asked = step.asked; stands = step.stands; is = refl };
         run = (run, record { fits = may.fits step.outcome; says = step.says });
         stands = subst (λ (x : MailState J A). IsMailCellOf job_of stands_for o n (By client (Fetch n step.outcome) ∷ es) x) (sym after)
             (record { of = step.is; clients = fetch-length m client ∙ stand.clients });
@@ -154,11 +154,11 @@ module _ {J A : Type 0} (job_of : J → CoreJob) (stands_for : A → JobOutcome 
       let next = reply-run o n client x es run may in
       let below = placed o n client es m stand (reply-known o n client x es run may) in record {
         event = At n (Reply client may.outcome);
-        of = (may.outcome, may.stands, refl);
+        of = record { of = may.job; outcome = may.outcome; asked = may.serves; stands = may.stands; is = refl };
         run = next;
         stands = subst (λ (y : MailState J A). IsMailCellOf job_of stands_for o n (At n (Reply client may.outcome) ∷ es) y) (sym step)
             (record {
-              of = (mail.replies job_of stands_for o es n client x may.outcome m may.stands next stand.of below).1;
+              of = (mail.replies job_of stands_for o es n client may.job x may.outcome m may.serves may.stands next stand.of below).1;
               clients = length-set m.places client (Answered x) ∙ stand.clients;
             });
       }

@@ -1,7 +1,7 @@
 -- Which event of the core a call on a mail is, with its answer, which calls fit, and when a mail is what events have
 -- made of it. A job of the mail is one job of the core; an answer stands for outcomes.
 -- Source: this project's own.
-use Rattle.std.specs.Prelude.{◌≡◌, ℕ, ◌+◌, ◌<◌, ◌≤◌, ◌==◌, true, false, List, ◌∷◌, length, if◌then◌else◌}
+use Rattle.std.specs.Prelude.{◌≡◌, ℕ, ◌+◌, ◌<◌, ◌≤◌, ◌==◌, true, false, List, ◌∷◌, length, Option, Some, if◌then◌else◌}
 use Rattle.mail_cell.specs.declared.answer.Fetched.TheVariants.{Got, NotYet}
 use Rattle.mail_cell.specs.declared.answer.Taken.TheVariants.{Job, Empty, Closed}
 use Rattle.mail_cell.specs.State.{MailState}
@@ -15,6 +15,7 @@ use Rattle.core_events.specs.Events.{Opening, flush_mail, Post, Fetch, CloseMail
 use Rattle.core_events.specs.Fitting.{FitsCall, FitsMove}
 use Rattle.core_events.specs.Jobs.{CoreJob, JobOutcome}
 use Rattle.core_events.specs.Runs.{IsCoreRun}
+use Rattle.core_mails.specs.Histories.{last_post, job_served}
 use Rattle.core_mail_cells.specs.MailCells.{IsMailOf}
 
 -- How many clients a mail has: main and the sessions, and at a shard's mail the flusher.
@@ -26,25 +27,38 @@ abbrev pub FitsEvent : Opening → List CoreEvent → CoreEvent → Type 0
 FitsEvent o es (By client call) = FitsCall o client call (client_state o client es)
 FitsEvent o es (At mail move) = (mail ≤ o.shards) × FitsMove o es mail move
 
-module _ {J A : Type 0} (job_of : J → CoreJob) (stands_for : A → JobOutcome → Type 0) where
-  -- The event is a call with its answer. The outcome of a reply and of a fetch is one for which the answer stands.
-  abbrev pub IsMailEvent : ℕ → MailCall J A → MailAnswer J A → CoreEvent → Type 0
-  IsMailEvent mail (call.Post client job) answer.Done event = event ≡ By client (Post mail (job_of job))
-  IsMailEvent mail call.Take (answer.Taken (Job client job)) event = event ≡ At mail (Take client (job_of job))
-  IsMailEvent mail call.Take (answer.Taken Empty) event = event ≡ At mail (NoJob false)
-  IsMailEvent mail call.Take (answer.Taken Closed) event = event ≡ At mail (NoJob true)
-  IsMailEvent mail (call.Reply client said) answer.Done event =
-      (outcome : JobOutcome) × stands_for said outcome × (event ≡ At mail (Reply client outcome))
-  IsMailEvent mail (call.Fetch client) (answer.Fetched (Got said)) event =
-      (outcome : JobOutcome) × stands_for said outcome × (event ≡ By client (Fetch mail outcome))
-  IsMailEvent mail (call.Fetch client) (answer.Fetched NotYet) event = event ≡ By client NoChange
-  IsMailEvent mail call.Close answer.Done event = event ≡ By 0 (CloseMail mail)
-  IsMailEvent mail call answer event = ⊥
-
-  -- A reply is of an outcome for which it stands.
-  pub record MayReply (o : Opening) (es : List CoreEvent) (mail client : ℕ) (said : A) : Type 0 where
+module _ {A : Type 0} (stands_for : CoreJob → A → JobOutcome → Type 0) where
+  -- An event that hands on the outcome of a job, for which an answer stands.
+  pub record HandsOn (job : Option CoreJob) (said : A) (event_of : JobOutcome → CoreEvent) (event : CoreEvent)
+      : Type 0 where
+    pub of : CoreJob
     pub outcome : JobOutcome
-    pub stands : stands_for said outcome
+    pub asked : job ≡ Some of
+    pub stands : stands_for of said outcome
+    pub is : event ≡ event_of outcome
+
+module _ {J A : Type 0} (job_of : J → CoreJob) (stands_for : CoreJob → A → JobOutcome → Type 0) where
+  -- The event is a call with its answer. The outcome of a reply is that of the worker's job, and of a fetch that of the
+  -- client's last.
+  abbrev pub IsMailEvent : List CoreEvent → ℕ → MailCall J A → MailAnswer J A → CoreEvent → Type 0
+  IsMailEvent es mail (call.Post client job) answer.Done event = event ≡ By client (Post mail (job_of job))
+  IsMailEvent es mail call.Take (answer.Taken (Job client job)) event = event ≡ At mail (Take client (job_of job))
+  IsMailEvent es mail call.Take (answer.Taken Empty) event = event ≡ At mail (NoJob false)
+  IsMailEvent es mail call.Take (answer.Taken Closed) event = event ≡ At mail (NoJob true)
+  IsMailEvent es mail (call.Reply client said) answer.Done event =
+      HandsOn stands_for (job_served (worker_of mail es)) said (λ outcome. At mail (Reply client outcome)) event
+  IsMailEvent es mail (call.Fetch client) (answer.Fetched (Got said)) event =
+      HandsOn stands_for (last_post mail client es) said (λ outcome. By client (Fetch mail outcome)) event
+  IsMailEvent es mail (call.Fetch client) (answer.Fetched NotYet) event = event ≡ By client NoChange
+  IsMailEvent es mail call.Close answer.Done event = event ≡ By 0 (CloseMail mail)
+  IsMailEvent es mail call answer event = ⊥
+
+  -- A reply is of an outcome of the worker's job, for which it stands.
+  pub record MayReply (o : Opening) (es : List CoreEvent) (mail client : ℕ) (said : A) : Type 0 where
+    pub job : CoreJob
+    pub outcome : JobOutcome
+    pub serves : job_served (worker_of mail es) ≡ Some job
+    pub stands : stands_for job said outcome
     pub fits : FitsEvent o es (At mail (Reply client outcome))
 
   -- Whoever fetches is one of the mail's clients and waits for an outcome, whatever it is.
@@ -74,6 +88,6 @@ module _ {J A : Type 0} (job_of : J → CoreJob) (stands_for : A → JobOutcome 
   pub record IsMailLinked (o : Opening) (mail : ℕ) (call : MailCall J A) (answer : MailAnswer J A) (es : List CoreEvent)
       (new : MailState J A) : Type 0 where
     pub event : CoreEvent
-    pub of : IsMailEvent mail call answer event
+    pub of : IsMailEvent es mail call answer event
     pub run : IsCoreRun o (event ∷ es)
     pub stands : IsMailCellOf o mail (event ∷ es) new

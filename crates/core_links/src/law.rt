@@ -62,15 +62,15 @@ pub fn names_calls_are_events()
 pub fn mail_calls_are_events<J, A: StandsForOutcome>()
     ensures can { (job_of : J → CoreJob) (o : Opening)
         (mail : ℕ) (call : MailCall J A) (es : List CoreEvent) (m : MailState J A) → IsCoreRun o es
-        → FitsMailCall job_of A.StandsForOutcome.stands_for o es mail call
-        → IsMailCellOf job_of A.StandsForOutcome.stands_for o mail es m → CanCallMail m call }
+        → FitsMailCall job_of A.stands_for o es mail call
+        → IsMailCellOf job_of A.stands_for o mail es m → CanCallMail m call }
     ensures steps { (job_of : J → CoreJob) (o : Opening)
         (mail : ℕ) (call : MailCall J A) (said : MailAnswer J A) (es : List CoreEvent)
-        (m new : MailState J A) → IsCoreRun o es → FitsMailCall job_of A.StandsForOutcome.stands_for o es mail call
-        → IsMailCellOf job_of A.StandsForOutcome.stands_for o mail es m → MailStep m call said new
-        → IsMailLinked job_of A.StandsForOutcome.stands_for o mail call said es new }
+        (m new : MailState J A) → IsCoreRun o es → FitsMailCall job_of A.stands_for o es mail call
+        → IsMailCellOf job_of A.stands_for o mail es m → MailStep m call said new
+        → IsMailLinked job_of A.stands_for o mail call said es new }
     ensures others { (job_of : J → CoreJob) (o : Opening)
         (mail : ℕ) (event : CoreEvent) (es : List CoreEvent) (m : MailState J A)
-        → is_on_mail mail event ≡ false → IsMailCellOf job_of A.StandsForOutcome.stands_for o mail es m
-        → IsMailCellOf job_of A.StandsForOutcome.stands_for o mail (event ∷ es) m }
+        → is_on_mail mail event ≡ false → IsMailCellOf job_of A.stands_for o mail es m
+        → IsMailCellOf job_of A.stands_for o mail (event ∷ es) m }
 {}

@@ -18,9 +18,9 @@ use Rattle.core_events.specs.Events as event
 use Rattle.core_events.specs.Cells.{Letter, letter, queue_of, queue_after_post, queue_after_take, reply_for, reply_after_fetch, reply_after_reply, queue_after_move, WorkerState, Free, Took, Worked, worker_after, worker_of, is_mail_closed}
 use Rattle.core_events.specs.Runs.{IsCoreRun, CallSays, IsOldest, MoveSays}
 use Rattle.core_mails.proofs.Places.{AreQueued, place}
-use Rattle.core_mails.specs.Histories.{has_letter_of, is_serving}
+use Rattle.core_mails.specs.Histories.{last_after_post, last_post, has_letter_of, is_serving, job_served}
 use Rattle.core_mails.proofs.MayMails.{may-post, may-reply, no-letter}
-use Rattle.core_mails.proofs.Posted.{run-posted}
+use Rattle.core_mails.proofs.Posted.{run-posted, served-is-last}
 use Rattle.core_mail_cells.specs.MailCells.{IsThere, HoldsOutcome, IsPlaceIn, letters_posted, IsMailOf, IsFetched, is_on_mail}
 
 same_number : (n : ℕ) → (n == n) ≡ true
@@ -56,17 +56,19 @@ there-as : (queued served : Bool) (held : Option JobOutcome) (mail client : ℕ)
     → IsThere queued served held mail client es → IsThere queued served held mail client later
 there-as queued served held mail client es later l w r t = record { letter = l ∙ t.letter; worker = w ∙ t.worker; reply = r ∙ t.reply }
 
-module _ {A : Type 0} (stands_for : A → JobOutcome → Type 0) where
+module _ {A : Type 0} (stands_for : CoreJob → A → JobOutcome → Type 0) where
   place-as : (p : Place A) (mail client : ℕ) (es later : List CoreEvent)
       → has_letter_of client (queue_of mail later) ≡ has_letter_of client (queue_of mail es)
       → is_serving client (worker_of mail later) ≡ is_serving client (worker_of mail es)
-      → reply_for mail client later ≡ reply_for mail client es
+      → reply_for mail client later ≡ reply_for mail client es → last_post mail client later ≡ last_post mail client es
       → IsPlaceIn stands_for p mail client es → IsPlaceIn stands_for p mail client later
-  place-as Idle mail client es later l w r t = there-as false false None mail client es later l w r t
-  place-as Waiting mail client es later l w r t = there-as true false None mail client es later l w r t
-  place-as Out mail client es later l w r t = there-as false true None mail client es later l w r t
-  place-as (Answered x) mail client es later l w r t = record {
+  place-as Idle mail client es later l w r a t = there-as false false None mail client es later l w r t
+  place-as Waiting mail client es later l w r a t = there-as true false None mail client es later l w r t
+  place-as Out mail client es later l w r a t = there-as false true None mail client es later l w r t
+  place-as (Answered x) mail client es later l w r a t = record {
+    job = t.job;
     outcome = t.outcome;
+    asked = a ∙ t.asked;
     stands = t.stands;
     there = there-as false false (Some t.outcome) mail client es later l w r t.there;
   }
@@ -99,7 +101,13 @@ module _ {A : Type 0} (stands_for : A → JobOutcome → Type 0) where
   answered-there Waiting x mail client es e t = absurd (false≢true (ap is_got e))
   answered-there Out x mail client es e t = absurd (false≢true (ap is_got e))
   answered-there (Answered y) x mail client es e t =
-      record { outcome = t.outcome; stands = subst (λ (z : A). stands_for z t.outcome) (ap (out y) e) t.stands; there = t.there }
+      record {
+        job = t.job;
+        outcome = t.outcome;
+        asked = t.asked;
+        stands = subst (λ (z : A). stands_for t.job z t.outcome) (ap (out y) e) t.stands;
+        there = t.there;
+      }
     where
       out : A → Fetched A → A
       out default (Got z) = z
@@ -129,7 +137,7 @@ or-false : (b : Bool) → (b || false) ≡ b
 or-false true = refl
 or-false false = refl
 
-module _ {J A : Type 0} (job_of : J → CoreJob) (stands_for : A → JobOutcome → Type 0) where
+module _ {J A : Type 0} (job_of : J → CoreJob) (stands_for : CoreJob → A → JobOutcome → Type 0) where
   -- The places of all clients, where one has changed.
   places-set : (mail client : ℕ) (es : List CoreEvent) (places : List (Place A)) (p : Place A) (later : List CoreEvent)
       → (client < length places → IsPlaceIn stands_for p mail client later)
@@ -148,6 +156,11 @@ module _ {J A : Type 0} (job_of : J → CoreJob) (stands_for : A → JobOutcome 
       ]
 
   -- Post.
+
+  last-other : (own : Bool) (job : CoreJob) (last : Option CoreJob) → own ≡ false → (here : Bool) → last_after_post here own job last ≡ last
+  last-other true job last e here = absurd (true≢false e)
+  last-other false job last e true = refl
+  last-other false job last e false = refl
 
   pub posts : (o : Opening) (es : List CoreEvent) (mail client : ℕ) (job : J) (m : MailState J A)
       → IsCoreRun o (By client (event.Post mail (job_of job)) ∷ es) → IsMailOf job_of stands_for mail es m → client < length m.places
@@ -172,7 +185,7 @@ module _ {J A : Type 0} (job_of : J → CoreJob) (stands_for : A → JobOutcome 
               })
               (λ d l other. place-as stands_for (place_of m d) mail d es later
               (has d ∙ ap (λ b. has_letter_of d (queue_of mail es) || b) (ne_eqb client d (λ same. other (sym same))) ∙ or-false (has_letter_of d (queue_of mail es)))
-              refl refl (f.places d l));
+              refl refl (last-other (client == d) (job_of job) (last_post mail d es) (ne_eqb client d (λ same. other (sym same))) (mail == mail)) (f.places d l));
           closed = f.closed;
         },
       )
@@ -191,7 +204,9 @@ module _ {J A : Type 0} (job_of : J → CoreJob) (stands_for : A → JobOutcome 
       let held = answered-there stands_for (place_of m client) answer mail client es got (f.places client known) in
       let there = held.there in
       let later = By client (event.Fetch mail held.outcome) ∷ es in record {
+        job = held.job;
         outcome = held.outcome;
+        asked = held.asked;
         stands = held.stands;
         says = there.reply;
         is = record {
@@ -206,7 +221,7 @@ module _ {J A : Type 0} (job_of : J → CoreJob) (stands_for : A → JobOutcome 
                 reply = λ i. reply_after_fetch (same_number mail i) (same_number client i) (reply_for mail client es);
               })
               (λ d l other. place-as stands_for (place_of m d) mail d es later refl refl
-              (fetch-other (client == d) (reply_for mail d es) (ne_eqb client d (λ same. other (sym same))) (mail == mail)) (f.places d l)));
+              (fetch-other (client == d) (reply_for mail d es) (ne_eqb client d (λ same. other (sym same))) (mail == mail)) refl (f.places d l)));
           closed = f.closed;
         };
       }
@@ -222,9 +237,9 @@ module _ {J A : Type 0} (job_of : J → CoreJob) (stands_for : A → JobOutcome 
   not-yet es mail client m f known none = record {
     posted = f.posted;
     places = places-set mail client es m.places (without_answer (place_of m client)) (By client NoChange ∷ es)
-        (λ l. place-as stands_for (without_answer (place_of m client)) mail client es (By client NoChange ∷ es) refl refl refl
+        (λ l. place-as stands_for (without_answer (place_of m client)) mail client es (By client NoChange ∷ es) refl refl refl refl
         (subst (λ (p : Place A). IsPlaceIn stands_for p mail client es) (sym (same-after (place_of m client) none)) (f.places client known)))
-        (λ d l other. place-as stands_for (place_of m d) mail d es (By client NoChange ∷ es) refl refl refl (f.places d l));
+        (λ d l other. place-as stands_for (place_of m d) mail d es (By client NoChange ∷ es) refl refl refl refl (f.places d l));
     closed = f.closed;
   } where
     same-after : (p : Place A) → fetched p ≡ NotYet → without_answer p ≡ p
@@ -283,7 +298,7 @@ module _ {J A : Type 0} (job_of : J → CoreJob) (stands_for : A → JobOutcome 
                   let apart : (client == d) ≡ false = ne_eqb client d (λ same. other (sym same)) in
                   place-as stands_for (place_of m d) mail d es later
                   (ap (has_letter_of d) queue ∙ sym (ap (has_letter_of d) whole ∙ (λ i. apart i || has_letter_of d rest)))
-                  (ap (is_serving d) worker ∙ apart ∙ sym (ap (is_serving d) free)) refl (f.places d l));
+                  (ap (is_serving d) worker ∙ apart ∙ sym (ap (is_serving d) free)) refl refl (f.places d l));
               closed = f.closed;
             }),
       )
@@ -312,7 +327,7 @@ module _ {J A : Type 0} (job_of : J → CoreJob) (stands_for : A → JobOutcome 
       (sym none)
       (record {
         posted = ap (letters_posted job_of) (sym none) ∙ f.posted;
-        places = λ d l. place-as stands_for (place_of m d) mail d es later refl (ap (is_serving d) worker) refl (f.places d l);
+        places = λ d l. place-as stands_for (place_of m d) mail d es later refl (ap (is_serving d) worker) refl refl (f.places d l);
         closed = f.closed;
       })
 
@@ -352,11 +367,11 @@ module _ {J A : Type 0} (job_of : J → CoreJob) (stands_for : A → JobOutcome 
   serves-one (Took c job) client d e other = ne_eqb c d (λ same. other (sym same ∙ eqb-true c client e))
   serves-one (Worked c job answer) client d e other = ne_eqb c d (λ same. other (sym same ∙ eqb-true c client e))
 
-  pub replies : (o : Opening) (es : List CoreEvent) (mail client : ℕ) (answer : A) (outcome : JobOutcome) (m : MailState J A)
-      → stands_for answer outcome → IsCoreRun o (At mail (event.Reply client outcome) ∷ es) → IsMailOf job_of stands_for mail es m → client < length m.places
+  pub replies : (o : Opening) (es : List CoreEvent) (mail client : ℕ) (served : CoreJob) (answer : A) (outcome : JobOutcome)
+      (m : MailState J A) → job_served (worker_of mail es) ≡ Some served → stands_for served answer outcome → IsCoreRun o (At mail (event.Reply client outcome) ∷ es) → IsMailOf job_of stands_for mail es m → client < length m.places
       → (place_of m client ≡ Out)
       × IsMailOf job_of stands_for mail (At mail (event.Reply client outcome) ∷ es) (after_reply m client answer)
-  replies o es mail client answer outcome m stands run f known =
+  replies o es mail client served answer outcome m is stands run f known =
       let out = may-reply o mail client outcome es run in
       let later = At mail (event.Reply client outcome) ∷ es in
       let worker : worker_of mail later ≡ Free =
@@ -367,7 +382,9 @@ module _ {J A : Type 0} (job_of : J → CoreJob) (stands_for : A → JobOutcome 
           posted = f.posted;
           places = places-set mail client es m.places (Answered answer) later
               (λ l. record {
+                job = served;
                 outcome = outcome;
+                asked = served-is-last o es mail client served run.0 out.worker is;
                 stands = stands;
                 there = record {
                   letter = out.letter;
@@ -377,7 +394,7 @@ module _ {J A : Type 0} (job_of : J → CoreJob) (stands_for : A → JobOutcome 
               })
               (λ d l other. place-as stands_for (place_of m d) mail d es later refl
               (ap (is_serving d) worker ∙ sym (serves-one (worker_of mail es) client d out.worker other))
-              (reply-other (client == d) outcome (reply_for mail d es) (ne_eqb client d (λ same. other (sym same))) (mail == mail)) (f.places d l));
+              (reply-other (client == d) outcome (reply_for mail d es) (ne_eqb client d (λ same. other (sym same))) (mail == mail)) refl (f.places d l));
           closed = f.closed;
         },
       )
@@ -388,17 +405,18 @@ module _ {J A : Type 0} (job_of : J → CoreJob) (stands_for : A → JobOutcome 
       → IsMailOf job_of stands_for mail (By client (CloseMail mail) ∷ es) (after_close m)
   closes es mail client m f = record {
     posted = f.posted;
-    places = λ d l. place-as stands_for (place_of m d) mail d es (By client (CloseMail mail) ∷ es) refl refl refl (f.places d l);
+    places = λ d l. place-as stands_for (place_of m d) mail d es (By client (CloseMail mail) ∷ es) refl refl refl refl (f.places d l);
     closed = λ i. sym (same_number mail) i || is_mail_closed mail es;
   }
 
   as-before : (es later : List CoreEvent) (mail : ℕ) (m : MailState J A) → queue_of mail later ≡ queue_of mail es
       → ((d : ℕ) → is_serving d (worker_of mail later) ≡ is_serving d (worker_of mail es))
       → ((d : ℕ) → reply_for mail d later ≡ reply_for mail d es) → is_mail_closed mail later ≡ is_mail_closed mail es
+      → ((d : ℕ) → last_post mail d later ≡ last_post mail d es)
       → IsMailOf job_of stands_for mail es m → IsMailOf job_of stands_for mail later m
-  as-before es later mail m q w r c f = record {
+  as-before es later mail m q w r c a f = record {
     posted = f.posted ∙ sym q;
-    places = λ d l. place-as stands_for (place_of m d) mail d es later (ap (has_letter_of d) q) (w d) (r d) (f.places d l);
+    places = λ d l. place-as stands_for (place_of m d) mail d es later (ap (has_letter_of d) q) (w d) (r d) (a d) (f.places d l);
     closed = f.closed ∙ sym c;
   }
 
@@ -424,28 +442,28 @@ module _ {J A : Type 0} (job_of : J → CoreJob) (stands_for : A → JobOutcome 
   pub others : (es : List CoreEvent) (mail : ℕ) (e : CoreEvent) (m : MailState J A) → is_on_mail mail e ≡ false
       → IsMailOf job_of stands_for mail es m → IsMailOf job_of stands_for mail (e ∷ es) m
   others es mail (By client (event.Post other job)) m off f =
-      as-before es (By client (event.Post other job) ∷ es) mail m (λ i. queue_after_post (off i) client job (queue_of mail es)) (λ d. refl) (λ d. refl) refl f
+      as-before es (By client (event.Post other job) ∷ es) mail m (λ i. queue_after_post (off i) client job (queue_of mail es)) (λ d. refl) (λ d. refl) refl (λ d i. last_after_post (off i) (client == d) job (last_post mail d es)) f
   others es mail (By client (event.Fetch other answer)) m off f =
       as-before es (By client (event.Fetch other answer) ∷ es) mail m refl (λ d. refl)
-      (λ d. fetch-elsewhere (other == mail) (client == d) (reply_for mail d es) off) refl f
+      (λ d. fetch-elsewhere (other == mail) (client == d) (reply_for mail d es) off) refl (λ d. refl) f
   others es mail (By client (CloseMail other)) m off f =
-      as-before es (By client (CloseMail other) ∷ es) mail m refl (λ d. refl) (λ d. refl) (λ i. off i || is_mail_closed mail es) f
-  others es mail (By client (OnDesk call)) m off f = as-before es (By client (OnDesk call) ∷ es) mail m refl (λ d. refl) (λ d. refl) refl f
-  others es mail (By client (OnNames call)) m off f = as-before es (By client (OnNames call) ∷ es) mail m refl (λ d. refl) (λ d. refl) refl f
-  others es mail (By client NoChange) m off f = as-before es (By client NoChange ∷ es) mail m refl (λ d. refl) (λ d. refl) refl f
+      as-before es (By client (CloseMail other) ∷ es) mail m refl (λ d. refl) (λ d. refl) (λ i. off i || is_mail_closed mail es) (λ d. refl) f
+  others es mail (By client (OnDesk call)) m off f = as-before es (By client (OnDesk call) ∷ es) mail m refl (λ d. refl) (λ d. refl) refl (λ d. refl) f
+  others es mail (By client (OnNames call)) m off f = as-before es (By client (OnNames call) ∷ es) mail m refl (λ d. refl) (λ d. refl) refl (λ d. refl) f
+  others es mail (By client NoChange) m off f = as-before es (By client NoChange ∷ es) mail m refl (λ d. refl) (λ d. refl) refl (λ d. refl) f
   others es mail (At other (event.Take client job)) m off f =
       as-before es (At other (event.Take client job) ∷ es) mail m (λ i. queue_after_take (off i) (queue_of mail es))
-      (λ d i. is_serving d (worker_after (off i) (event.Take client job) (worker_of mail es))) (λ d. refl) refl f
+      (λ d i. is_serving d (worker_after (off i) (event.Take client job) (worker_of mail es))) (λ d. refl) refl (λ d. refl) f
   others es mail (At other (NoJob closed)) m off f =
       as-before es (At other (NoJob closed) ∷ es) mail m (λ i. queue_after_move (off i) (NoJob closed) (queue_of mail es))
-      (λ d i. is_serving d (worker_after (off i) (NoJob closed) (worker_of mail es))) (λ d. refl) refl f
+      (λ d i. is_serving d (worker_after (off i) (NoJob closed) (worker_of mail es))) (λ d. refl) refl (λ d. refl) f
   others es mail (At other (event.Reply client answer)) m off f =
       as-before es (At other (event.Reply client answer) ∷ es) mail m (λ i. queue_after_move (off i) (event.Reply client answer) (queue_of mail es))
       (λ d i. is_serving d (worker_after (off i) (event.Reply client answer) (worker_of mail es)))
-      (λ d. reply-elsewhere (other == mail) (client == d) answer (reply_for mail d es) off) refl f
+      (λ d. reply-elsewhere (other == mail) (client == d) answer (reply_for mail d es) off) refl (λ d. refl) f
   others es mail (At other (Work job answer)) m off f =
       as-before es (At other (Work job answer) ∷ es) mail m (work-queue (other == mail) job answer (queue_of mail es))
-      (λ d. work-serves (other == mail) d job answer (worker_of mail es)) (λ d. refl) refl f
+      (λ d. work-serves (other == mail) d job answer (worker_of mail es)) (λ d. refl) refl (λ d. refl) f
 
   -- A new mail.
 

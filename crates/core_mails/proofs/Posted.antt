@@ -11,8 +11,8 @@ use Rattle.core_events.specs.Clients.{ClientState, client_state, client_after_ca
 use Rattle.core_events.specs.Cells.{Letter, letter, queue_of, queue_after_post, queue_after_move, reply_for, reply_after_fetch, reply_after_move, reply_after_reply, WorkerState, Free, Took, Worked, worker_of, worker_after}
 use Rattle.core_events.specs.Fitting.{FitsCall, FitsWork, RoundProgress, BeginsGroup, JoinsGroup, round_progress}
 use Rattle.core_events.specs.Runs.{IsCoreRun, CallSays, MoveSays, IsOldest}
-use Rattle.core_mails.specs.Histories.{DoneJob, job_done, posts_of, letters_after, takes_of, takes_after, jobs_done, done_after, letters_of, job_to_come, last_post, last_after_post, done_since_post, since_after_post, since_after_move, with_own_done, IsAnswered}
-use Rattle.core_mails.proofs.Places.{JobPlace, Nowhere, Asked, Answered, is_out, place, place_after_post, place_after_fetch, place_after_call, place_where, place_with_done, place_after_move, FitsPlaces, after-post, after-fetch, after-take, after-work, after-reply, after-flush}
+use Rattle.core_mails.specs.Histories.{DoneJob, job_done, posts_of, letters_after, takes_of, takes_after, jobs_done, done_after, letters_of, job_to_come, last_post, last_after_post, done_since_post, since_after_post, since_after_move, with_own_done, is_serving, job_served, IsAnswered}
+use Rattle.core_mails.proofs.Places.{JobPlace, Nowhere, Asked, Answered, is_out, place, place_after_post, place_after_fetch, place_after_call, place_where, place_with_done, place_after_move, IsBusy, FitsPlaces, after-post, after-fetch, after-take, after-work, after-reply, after-flush}
 use Rattle.core_desk.proofs.Finished.{has-without}
 
 -- A client's calls.
@@ -469,3 +469,21 @@ fetched-is-done o es mail a answer run held =
     let there = ((run-posted o es run).posted mail).held a answer held in
     let f = coe 0 1 (i. SinceFits a (there.1 i) (last_post mail a es) (done_since_post mail a es)) (since-run o es mail a run) in
     record { job = there.0; asked = f.0; once = f.1 }
+
+-- The job of a worker is its client's last.
+last-served : (places : ℕ → JobPlace) (queue : List Letter) (replies : ℕ → Option JobOutcome) (a : ℕ) (job : CoreJob)
+    (worker : WorkerState) (last : Option CoreJob) (done : List DoneJob) → IsBusy places queue replies worker
+    → is_serving a worker ≡ true → job_served worker ≡ Some job → SinceFits a (places a) last done → last ≡ Some job
+last-served places queue replies a job Free last done busy serves is f = absurd (false≢true serves)
+last-served places queue replies a job (Took c j) last done busy serves is f =
+    let asked : places a ≡ Asked j = ap places (sym (eqb-true c a serves)) ∙ busy.asked in
+    (coe 0 1 (i. SinceFits a (asked i) last done) f).0 ∙ is
+last-served places queue replies a job (Worked c j x) last done busy serves is f =
+    let answered : places a ≡ Answered j x = ap places (sym (eqb-true c a serves)) ∙ busy.answered in
+    (coe 0 1 (i. SinceFits a (answered i) last done) f).0 ∙ is
+
+pub served-is-last : (o : Opening) (es : List CoreEvent) (mail a : ℕ) (job : CoreJob) → IsCoreRun o es
+    → is_serving a (worker_of mail es) ≡ true → job_served (worker_of mail es) ≡ Some job → last_post mail a es ≡ Some job
+served-is-last o es mail a job run serves is =
+    last-served (λ c. place mail c es) (queue_of mail es) (λ c. reply_for mail c es) a job (worker_of mail es) (last_post mail a es)
+    (done_since_post mail a es) ((run-posted o es run).posted mail).busy serves is (since-run o es mail a run)

@@ -123,6 +123,12 @@ is_serving client Free = false
 is_serving client (Took other job) = other == client
 is_serving client (Worked other job answer) = other == client
 
+-- The job that a worker has.
+abbrev pub job_served : WorkerState → Option CoreJob
+job_served Free = None
+job_served (Took client job) = Some job
+job_served (Worked client job answer) = Some job
+
 -- The client's job is out: the worker has it, and it has neither a job in the queue nor an answer to fetch.
 pub record HasJobOut (queue : List Letter) (held : Option JobOutcome) (by : WorkerState) (client : ℕ) : Type 0 where
   pub letter : has_letter_of client queue ≡ false

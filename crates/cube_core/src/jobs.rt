@@ -11,8 +11,8 @@ pub enum Work {
     Shard(ShardCall),
 }
 
-/// A job, with the session and the statement that it is for. Main and the flusher post jobs of session 0 and
-/// statement 0.
+/// A job, with the session and the statement that it is for. Main and the flusher post jobs of session 0
+/// and statement 0.
 #[derive(Drop)]
 pub struct Job {
     pub session: u32,

@@ -1,4 +1,5 @@
-//! The cells of the core and the calls on them: a desk, names, shards and mails, each call one call below.
+//! The cells of the core and the calls on them: a desk, names, shards and mails. Each call is one call
+//! below.
 #![tactic(auto)]
 
 mod cell;

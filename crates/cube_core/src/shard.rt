@@ -51,8 +51,6 @@ pub enum ShardCall {
         from: u64,
         to: u64,
     },
-    /// How many bricks there are.
-    Bricks,
 }
 
 /// What a shard answers.
@@ -64,7 +62,6 @@ pub enum ShardAnswer {
     Scanned(Partial),
     Changed(Change),
     Copied(RoundBricks),
-    Count(usize),
     /// Memory ran out; nothing changed.
     NoMemory,
 }
