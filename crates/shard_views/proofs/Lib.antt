@@ -1,3 +1,5 @@
 pub mod Items
 pub mod Shown
 pub mod Seen
+pub mod Alike
+pub mod Grown

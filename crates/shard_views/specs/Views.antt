@@ -10,10 +10,11 @@ use Rattle.cube_values.specs.Sees.{sees}
 use Rattle.cube_rounds.specs.Bricks.{EntryRows, entries_with_rows}
 use Rattle.epochs_vector.specs.Seen.{seen_rows}
 use Rattle.brick_store.specs.Deltas.{seen_apart}
-use Rattle.brick_map.specs.Births.{BrickContent}
+use Rattle.brick_map.specs.Births.{BrickContent, content_purged, content_with_mark, content_with_rows, content_without}
 use Rattle.core_events.specs.Runs.{Sight, rows_shown_besides}
 use Rattle.core_events.specs.ShardView.{BrickEntry, RowRun, RowMark, ShardView, brick_rows_seen, is_below_mark, rows_shown_to}
 use Rattle.shard_cell.specs.Shards.{ShardState, shard_brick}
+use Rattle.shard_cell.specs.Slots.{untouched}
 
 -- A run with its rows, or a mark.
 abbrev pub brick_entry : Entry → List CodedRow → BrickEntry
@@ -60,3 +61,30 @@ abbrev pub SeesApartTheSame : Type 0
 SeesApartTheSame = (c : BrickContent) → IsVector c.entries (length c.rows) → (one other : Snapshot)
     → items_where_true (seen_apart one other c.entries) c.rows
     ≡ rows_shown_besides (sight_of one) (sight_of other) (brick_view c)
+
+-- The entries of a brick are a vector over its rows.
+abbrev pub IsWholeContent : BrickContent → Type 0
+IsWholeContent c = IsVector c.entries (length c.rows)
+
+-- What calls make of a brick that is whole is whole.
+pub record StaysWhole (c : BrickContent) : Type 0 where
+  pub appended : (epoch : ℕ) (rows : List CodedRow) → IsWholeContent (content_with_rows epoch rows c)
+  pub marked : (epoch : ℕ) → IsWholeContent (content_with_mark epoch c)
+  pub rolled_back : (epoch : ℕ) → IsWholeContent (content_without epoch c)
+  pub purged : (epoch : ℕ) → IsWholeContent (content_purged epoch c)
+
+-- A brick of which nothing came is whole, and whatever calls make of it.
+pub record ContentsAreWhole : Type 0 where
+  pub first : IsWholeContent untouched
+  pub later : (c : BrickContent) → IsWholeContent c → StaysWhole c
+
+-- Rows that an epoch appends are a run more, and a deletion is a mark more.
+pub record GrowsTheSame (low : ℕ) (c : BrickContent) (view : List BrickEntry) : Type 0 where
+  pub appended : (epoch : ℕ) (rows : List CodedRow) → low < epoch
+      → ShowAlikeAbove low (brick_view (content_with_rows epoch rows c)) (RowRun epoch rows ∷ view)
+  pub marked : (epoch : ℕ) → low < epoch
+      → ShowAlikeAbove low (brick_view (content_with_mark epoch c)) (RowMark epoch ∷ view)
+
+abbrev pub CallsGrowTheSame : Type 0
+CallsGrowTheSame = (low : ℕ) (c : BrickContent) (view : List BrickEntry)
+    → IsWholeContent c → ShowAlikeAbove low (brick_view c) view → GrowsTheSame low c view

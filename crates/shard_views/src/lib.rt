@@ -3,4 +3,4 @@
 
 mod law;
 
-pub use law::snapshots_see_the_same;
+pub use law::{calls_grow_the_same, contents_are_whole, snapshots_see_the_same};
