@@ -3,3 +3,4 @@ pub mod Shown
 pub mod Seen
 pub mod Alike
 pub mod Grown
+pub mod Rollbacks

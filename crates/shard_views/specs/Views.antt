@@ -12,7 +12,7 @@ use Rattle.epochs_vector.specs.Seen.{seen_rows}
 use Rattle.brick_store.specs.Deltas.{seen_apart}
 use Rattle.brick_map.specs.Births.{BrickContent, content_purged, content_with_mark, content_with_rows, content_without}
 use Rattle.core_events.specs.Runs.{Sight, rows_shown_besides}
-use Rattle.core_events.specs.ShardView.{BrickEntry, RowRun, RowMark, ShardView, brick_rows_seen, is_below_mark, rows_shown_to}
+use Rattle.core_events.specs.ShardView.{BrickEntry, RowRun, RowMark, ShardView, ShowAlike, brick_rows_seen, entries_without_epoch, is_below_mark, rows_shown_to}
 use Rattle.shard_cell.specs.Shards.{ShardState, shard_brick}
 use Rattle.shard_cell.specs.Slots.{untouched}
 
@@ -88,3 +88,8 @@ pub record GrowsTheSame (low : ℕ) (c : BrickContent) (view : List BrickEntry) 
 abbrev pub CallsGrowTheSame : Type 0
 CallsGrowTheSame = (low : ℕ) (c : BrickContent) (view : List BrickEntry)
     → IsWholeContent c → ShowAlikeAbove low (brick_view c) view → GrowsTheSame low c view
+
+-- A rollback takes the runs and marks of its epoch out.
+abbrev pub RollsBackTheSame : Type 0
+RollsBackTheSame = (epoch : ℕ) (c : BrickContent) → IsWholeContent c
+    → ShowAlike (brick_view (content_without epoch c)) (entries_without_epoch epoch (brick_view c))

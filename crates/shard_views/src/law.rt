@@ -1,6 +1,6 @@
 //! What follows from the definitions, for whoever reasons with them.
 
-ghost use Rattle.shard_views.specs.Views.{CallsGrowTheSame, ContentsAreWhole, SeesApartTheSame, SeesTheSame};
+ghost use Rattle.shard_views.specs.Views.{CallsGrowTheSame, ContentsAreWhole, RollsBackTheSame, SeesApartTheSame, SeesTheSame};
 
 /// What snapshots see of a brick by its vector of epochs, alone or apart from another, is what they see by its
 /// runs and marks in the core's words.
@@ -21,4 +21,10 @@ pub fn contents_are_whole()
 #[tactic(auto, using(crate::proofs::Grown::calls_grow_the_same))]
 pub fn calls_grow_the_same()
     ensures { CallsGrowTheSame }
+{}
+
+/// A rollback makes of a brick what the core's words say, whoever looks.
+#[tactic(auto, using(crate::proofs::Rollbacks::rolls_back_the_same))]
+pub fn rollbacks_are_the_same()
+    ensures { RollsBackTheSame }
 {}

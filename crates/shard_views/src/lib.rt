@@ -3,4 +3,6 @@
 
 mod law;
 
-pub use law::{calls_grow_the_same, contents_are_whole, snapshots_see_the_same};
+pub use law::{
+    calls_grow_the_same, contents_are_whole, rollbacks_are_the_same, snapshots_see_the_same,
+};
