@@ -52,7 +52,7 @@ contents_are_whole = record {
 }
 
 -- rows behind those of the entries do not count
-view_more : (xs : List Entry) (rows more : List CodedRow) (n to : ℕ) (older : List BrickEntry) → Leads n xs to → to ≤ length rows → view_from older n (rows ++ more) xs ≡ view_from older n rows xs
+pub view_more : (xs : List Entry) (rows more : List CodedRow) (n to : ℕ) (older : List BrickEntry) → Leads n xs to → to ≤ length rows → view_from older n (rows ++ more) xs ≡ view_from older n rows xs
 view_more [] rows more n to older l m = refl
 view_more (Run k end ∷ xs) rows more n to older l m =
     let up = lead_up end xs to l.1 in

@@ -4,3 +4,4 @@ pub mod Seen
 pub mod Alike
 pub mod Grown
 pub mod Rollbacks
+pub mod CopiedParts

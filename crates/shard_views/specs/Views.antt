@@ -7,12 +7,13 @@ use Rattle.cube_values.specs.declared.row.CodedRow.{CodedRow}
 use Rattle.cube_values.specs.declared.snapshot.Snapshot.{Snapshot}
 use Rattle.cube_values.specs.EpochsVector.{IsVector}
 use Rattle.cube_values.specs.Sees.{sees}
-use Rattle.cube_rounds.specs.Bricks.{EntryRows, entries_with_rows}
+use Rattle.cube_rounds.specs.Bricks.{BrickPart, EntryRows, entries_with_rows}
 use Rattle.epochs_vector.specs.Seen.{seen_rows}
 use Rattle.brick_store.specs.Deltas.{seen_apart}
 use Rattle.brick_map.specs.Births.{BrickContent, content_purged, content_with_mark, content_with_rows, content_without}
+use Rattle.brick_map.specs.Copied.{round_part_with}
 use Rattle.core_events.specs.Runs.{Sight, rows_shown_besides}
-use Rattle.core_events.specs.ShardView.{BrickEntry, RowRun, RowMark, ShardView, ShowAlike, brick_rows_seen, entries_without_epoch, is_below_mark, rows_shown_to}
+use Rattle.core_events.specs.ShardView.{BrickEntry, RowRun, RowMark, ShardView, ShowAlike, brick_rows_seen, entries_of_round, entries_without_epoch, is_below_mark, rows_shown_to}
 use Rattle.shard_cell.specs.Shards.{ShardState, shard_brick}
 use Rattle.shard_cell.specs.Slots.{untouched}
 
@@ -93,3 +94,12 @@ CallsGrowTheSame = (low : ℕ) (c : BrickContent) (view : List BrickEntry)
 abbrev pub RollsBackTheSame : Type 0
 RollsBackTheSame = (epoch : ℕ) (c : BrickContent) → IsWholeContent c
     → ShowAlike (brick_view (content_without epoch c)) (entries_without_epoch epoch (brick_view c))
+
+-- What a round has of a brick, in the core's words.
+abbrev pub part_view : BrickPart → List BrickEntry
+part_view part = brick_view (record { rows = part.rows; entries = part.entries })
+
+-- It is the runs and marks of the round's epochs.
+abbrev pub CopiesTheSame : Type 0
+CopiesTheSame = (from to number : ℕ) (c : BrickContent) → IsWholeContent c
+    → ShowAlike (part_view (round_part_with from to number c)) (entries_of_round from to (brick_view c))

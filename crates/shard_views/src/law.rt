@@ -1,6 +1,6 @@
 //! What follows from the definitions, for whoever reasons with them.
 
-ghost use Rattle.shard_views.specs.Views.{CallsGrowTheSame, ContentsAreWhole, RollsBackTheSame, SeesApartTheSame, SeesTheSame};
+ghost use Rattle.shard_views.specs.Views.{CallsGrowTheSame, ContentsAreWhole, CopiesTheSame, RollsBackTheSame, SeesApartTheSame, SeesTheSame};
 
 /// What snapshots see of a brick by its vector of epochs, alone or apart from another, is what they see by its
 /// runs and marks in the core's words.
@@ -27,4 +27,9 @@ pub fn calls_grow_the_same()
 #[tactic(auto, using(crate::proofs::Rollbacks::rolls_back_the_same))]
 pub fn rollbacks_are_the_same()
     ensures { RollsBackTheSame }
+{}
+
+/// What a round has of a brick is what the core's words say, whoever looks.
+pub fn copies_are_the_same()
+    ensures { CopiesTheSame }
 {}
