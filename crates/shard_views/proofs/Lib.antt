@@ -5,3 +5,4 @@ pub mod Alike
 pub mod Grown
 pub mod Rollbacks
 pub mod CopiedParts
+pub mod ViewedShards

@@ -1,19 +1,22 @@
 -- A shard in the core's words: of each brick the runs of rows and the marks of deletions, the newest first.
-use Rattle.std.specs.Prelude.{◌≡◌, ℕ, ◌<◌, ◌≤◌, Bool, List, [], ◌∷◌, length, fold}
+use Rattle.std.specs.Prelude.{◌≡◌, ℕ, ◌<◌, ◌≤◌, ◌==◌, ◌&&◌, Bool, false, List, [], ◌∷◌, length, fold, if◌then◌else◌}
 use Rattle.std.specs.List.{items_where_true}
 use Rattle.cube_values.specs.declared.entry.Entry.{Entry}
 use Rattle.cube_values.specs.declared.entry.Entry.TheVariants.{Run, Mark}
 use Rattle.cube_values.specs.declared.row.CodedRow.{CodedRow}
+use Rattle.cube_values.specs.declared.shape.Size.{Size}
 use Rattle.cube_values.specs.declared.snapshot.Snapshot.{Snapshot}
+use Rattle.cube_values.specs.declared.span.Span.{Span}
 use Rattle.cube_values.specs.EpochsVector.{IsVector}
 use Rattle.cube_values.specs.Sees.{sees}
 use Rattle.cube_rounds.specs.Bricks.{BrickPart, EntryRows, entries_with_rows}
 use Rattle.epochs_vector.specs.Seen.{seen_rows}
 use Rattle.brick_store.specs.Deltas.{seen_apart}
-use Rattle.brick_map.specs.Births.{BrickContent, content_purged, content_with_mark, content_with_rows, content_without}
+use Rattle.brick_map.specs.Births.{BrickContent, content_purged, content_with_mark, content_with_rows, content_without, has_brick, rows_of_brick}
 use Rattle.brick_map.specs.Copied.{round_part_with}
 use Rattle.core_events.specs.Runs.{Sight, rows_shown_besides}
 use Rattle.core_events.specs.ShardView.{BrickEntry, RowRun, RowMark, ShardView, ShowAlike, brick_rows_seen, entries_of_round, entries_without_epoch, is_below_mark, rows_shown_to}
+use Rattle.shard_cell.specs.Answers.{brick_after_append, brick_after_drop}
 use Rattle.shard_cell.specs.Shards.{ShardState, shard_brick}
 use Rattle.shard_cell.specs.Slots.{untouched}
 
@@ -103,3 +106,30 @@ part_view part = brick_view (record { rows = part.rows; entries = part.entries }
 abbrev pub CopiesTheSame : Type 0
 CopiesTheSame = (from to number : ℕ) (c : BrickContent) → IsWholeContent c
     → ShowAlike (part_view (round_part_with from to number c)) (entries_of_round from to (brick_view c))
+
+-- A shard is what the core takes it for, and each of its bricks is whole.
+pub record IsViewedAs (low : ℕ) (shard : ShardState) (view : ShardView) : Type 0 where
+  pub whole : (cube number : ℕ) → IsWholeContent (shard_brick shard cube number)
+  pub stands : StandsForView low shard view
+
+-- What an append and a deletion make of a view: the core's words.
+abbrev pub view_after_append : List Size → ℕ → ℕ → List CodedRow → ShardView → ShardView
+view_after_append sizes cube epoch rows view other number =
+    if cube == other then RowRun epoch (rows_of_brick sizes number rows) ∷ view other number else view other number
+
+abbrev pub view_after_drop : List Size → ℕ → ℕ → Span → ShardView → ShardView
+view_after_drop sizes cube epoch box view other number =
+    if cube == other && has_brick sizes box number then RowMark epoch ∷ view other number else view other number
+
+-- A shard after an append or a deletion of an epoch above that of the last purge is what the core takes it for.
+pub record CallsAreViewed (low epoch cube : ℕ) (sizes : List Size) (old : ShardState) (view : ShardView) : Type 0 where
+  pub appended : (rows : List CodedRow) (new : ShardState)
+      → ((other number : ℕ) → shard_brick new other number ≡ brick_after_append sizes cube epoch rows old other number)
+      → IsViewedAs low new (view_after_append sizes cube epoch rows view)
+  pub deleted : (box : Span) (new : ShardState)
+      → ((other number : ℕ) → shard_brick new other number ≡ brick_after_drop sizes cube epoch box old other number)
+      → IsViewedAs low new (view_after_drop sizes cube epoch box view)
+
+abbrev pub ShardsAreViewed : Type 0
+ShardsAreViewed = (low epoch cube : ℕ) (sizes : List Size) (old : ShardState) (view : ShardView)
+    → low < epoch → IsViewedAs low old view → CallsAreViewed low epoch cube sizes old view
