@@ -1,15 +1,14 @@
 -- Bricks that show alike, and what runs and marks that become one show.
-use Rattle.std.proofs.Common.{◌≡◌, ℕ, ◌+◌, ◌-◌, ◌<◌, ◌≤◌, ◌==◌, ◌&&◌, ◌||◌, not, nat_lt, Bool, true, false, cond, List, [], ◌∷◌, ◌++◌, length, take, drop, fold, refl, sym, ap, ◌∙◌, arith, append_assoc, append-nil}
+use Rattle.std.proofs.Common.{◌≡◌, ℕ, ◌+◌, ◌-◌, ◌≤◌, ◌==◌, ◌&&◌, ◌||◌, not, nat_lt, Bool, true, false, cond, List, [], ◌∷◌, ◌++◌, take, drop, refl, sym, ap, ◌∙◌, arith, append_assoc, append-nil}
 use Rattle.std.proofs.Math.Seq.{take-add}
 use Rattle.std.proofs.lemmas.Bool.Decides.{nat_tests}
-use Rattle.std.proofs.lemmas.List.{drop-drop, length-append, take-append-le, drop-append-le, take_all, drop_all}
-use Rattle.std.proofs.lemmas.List.Sums.{fold-append}
+use Rattle.std.proofs.lemmas.List.{drop-drop}
 use Rattle.cube_values.specs.declared.entry.Entry.{Entry}
 use Rattle.cube_values.specs.declared.entry.Entry.TheVariants.{Run, Mark}
 use Rattle.cube_values.specs.declared.row.CodedRow.{CodedRow}
 use Rattle.cube_values.specs.EpochsVector.{Leads, is_one_with, vector_with_entry}
 use Rattle.cube_rounds.specs.Bricks.{EntryRows, entries_with_rows}
-use Rattle.core_events.specs.ShardView.{BrickEntry, RowRun, RowMark, ShowAlike, epochs_above, epochs_before_mark, is_below_mark, rows_shown_to, rows_where}
+use Rattle.core_events.specs.ShardView.{BrickEntry, RowRun, RowMark, ShowAlike, epochs_before_mark, is_below_mark, rows_shown_to, rows_where}
 use Rattle.shard_views.specs.Views.{brick_entry, entries_newest_first}
 
 pub alike_same : (a b : List BrickEntry) → a ≡ b → ShowAlike a b

@@ -1,5 +1,5 @@
 -- What a round has of a brick, in the core's words.
-use Rattle.std.proofs.Common.{◌≡◌, ℕ, ◌+◌, ◌-◌, ◌<◌, ◌≤◌, Bool, true, false, cond, List, [], ◌∷◌, ◌++◌, length, take, drop, filter, fold, refl, sym, ap, subst, ◌∙◌, arith, append_assoc, append-nil}
+use Rattle.std.proofs.Common.{◌≡◌, ℕ, ◌+◌, ◌-◌, ◌<◌, ◌≤◌, Bool, true, false, cond, List, [], ◌∷◌, ◌++◌, length, take, drop, filter, fold, refl, sym, ap, ◌∙◌, arith, append_assoc, append-nil}
 use Rattle.std.proofs.lemmas.List.{length-append, length-drop, length-take-le, take_all}
 use Rattle.std.proofs.Math.Seq.{drop-append_seam}
 use Rattle.cube_values.specs.declared.entry.Entry.{Entry}
@@ -10,7 +10,6 @@ use Rattle.cube_rounds.specs.Bricks.{EntryRows, entries_with_rows}
 use Rattle.epochs_vector.proofs.Ends.{lead_more, rows_led}
 use Rattle.epochs_vector.proofs.VisibleRows.{lead_up}
 use Rattle.brick_store.specs.Copies.{entries_of_epochs, is_of_epochs, rows_of_entries, vector_with_rows}
-use Rattle.brick_map.specs.Births.{BrickContent}
 use Rattle.brick_map.specs.Copied.{round_part_with}
 use Rattle.core_events.specs.ShardView.{BrickEntry, RowRun, RowMark, ShowAlike, entries_of_round}
 use Rattle.shard_views.specs.Views.{CopiesTheSame, brick_entry, brick_view, entries_newest_first, part_view}

@@ -1,13 +1,12 @@
 -- What calls make of a brick stays whole, and what appends and deletions make of it in the core's words.
 use Rattle.std.proofs.Common.{◌≡◌, ℕ, ◌+◌, ◌-◌, ◌<◌, ◌≤◌, ◌&&◌, ◌||◌, not, nat_lt, Bool, true, false, List, [], ◌∷◌, ◌++◌, length, take, drop, refl, sym, ap, subst, ◌∙◌, arith}
-use Rattle.std.specs.List.{items_where_true}
 use Rattle.std.proofs.lemmas.Bool.Decides.{nat_tests}
 use Rattle.std.proofs.lemmas.List.{drop-append-le, length-append, length-drop, take-append-le, take_all}
 use Rattle.std.proofs.Math.Seq.{drop-append_seam}
 use Rattle.cube_values.specs.declared.entry.Entry.{Entry}
 use Rattle.cube_values.specs.declared.entry.Entry.TheVariants.{Run, Mark}
 use Rattle.cube_values.specs.declared.row.CodedRow.{CodedRow}
-use Rattle.cube_values.specs.EpochsVector.{IsVector, Leads, rows_of, vector_with_entry}
+use Rattle.cube_values.specs.EpochsVector.{IsVector, Leads, vector_with_entry}
 use Rattle.epochs_vector.specs.Without.{entries_without, staying_bits}
 use Rattle.epochs_vector.proofs.Ends.{vector_more, vector_rows}
 use Rattle.epochs_vector.proofs.VisibleRows.{lead_up}
@@ -16,8 +15,8 @@ use Rattle.purge_plan.specs.Purged.{purged_entries, spared_bits}
 use Rattle.purge_plan.proofs.Counts.{length-kept, vector_purged}
 use Rattle.brick_columns.proofs.KeptItems.{kept_length}
 use Rattle.brick_map.specs.Births.{BrickContent, content_purged, content_with_mark, content_with_rows, content_without}
-use Rattle.core_events.specs.ShardView.{BrickEntry, RowRun, RowMark, ShowAlike, epochs_before_mark, is_below_mark, rows_shown_to, rows_where}
-use Rattle.shard_views.specs.Views.{CallsGrowTheSame, ContentsAreWhole, IsUniform, IsWholeContent, ShowAlikeAbove, StaysWhole, brick_view}
+use Rattle.core_events.specs.ShardView.{BrickEntry, RowRun, RowMark, ShowAlike, epochs_before_mark, rows_where}
+use Rattle.shard_views.specs.Views.{CallsGrowTheSame, ContentsAreWhole, IsUniform, IsWholeContent, ShowAlikeAbove, brick_view}
 use Rattle.shard_views.proofs.Alike.{alike_empty, alike_same, alike_then, joined_alike, leads_push, view_from, view_push}
 
 -- a brick stays whole

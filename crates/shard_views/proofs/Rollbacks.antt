@@ -13,7 +13,7 @@ use Rattle.epochs_vector.specs.Without.{other_entries, set_bits_before, staying_
 use Rattle.epochs_vector.proofs.Ends.{lead_more, vector_rows}
 use Rattle.epochs_vector.proofs.WhatStays.{IsLeft, IsNext, counted_other, counted_same, lead_others, left_whole, length-staying, one_on, others_other, others_same}
 use Rattle.brick_columns.proofs.KeptItems.{kept_length}
-use Rattle.brick_map.specs.Births.{BrickContent, content_without}
+use Rattle.brick_map.specs.Births.{content_without}
 use Rattle.core_events.specs.ShardView.{BrickEntry, RowRun, RowMark, ShowAlike, entries_without_epoch}
 use Rattle.shard_views.specs.Views.{RollsBackTheSame, brick_view}
 use Rattle.shard_views.proofs.Alike.{alike_newest, alike_same, alike_then, joined_alike, leads_push, view_from}

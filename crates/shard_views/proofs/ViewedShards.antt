@@ -1,14 +1,11 @@
 -- Shards after appends and deletions, in the core's words.
-use Rattle.std.proofs.Common.{◌≡◌, ℕ, ◌<◌, ◌==◌, ◌&&◌, Bool, true, false, cond, List, ◌∷◌, refl, sym, ap, subst, ◌∙◌, arith}
+use Rattle.std.proofs.Common.{◌≡◌, ℕ, ◌==◌, ◌&&◌, Bool, true, false, cond, List, ◌∷◌, sym, ap, subst, ◌∙◌, arith}
 use Rattle.std.proofs.lemmas.Bool.Decides.{nat_tests}
 use Rattle.cube_values.specs.declared.row.CodedRow.{CodedRow}
-use Rattle.cube_values.specs.declared.shape.Size.{Size}
-use Rattle.cube_values.specs.declared.span.Span.{Span}
 use Rattle.brick_map.specs.Births.{BrickContent, content_with_mark, content_with_rows, has_brick, rows_of_brick}
-use Rattle.core_events.specs.ShardView.{BrickEntry, RowRun, RowMark, ShardView}
-use Rattle.shard_cell.specs.Answers.{brick_after_append, brick_after_drop}
-use Rattle.shard_cell.specs.Shards.{ShardState, shard_brick}
-use Rattle.shard_views.specs.Views.{IsViewedAs, IsWholeContent, ShardsAreViewed, ShowAlikeAbove, brick_view, view_after_append, view_after_drop}
+use Rattle.core_events.specs.ShardView.{BrickEntry, RowRun, RowMark}
+use Rattle.shard_cell.specs.Shards.{shard_brick}
+use Rattle.shard_views.specs.Views.{IsWholeContent, ShardsAreViewed, ShowAlikeAbove, brick_view, view_after_append, view_after_drop}
 use Rattle.shard_views.proofs.Grown.{calls_grow_the_same, contents_are_whole}
 
 other_way : (a b : ℕ) → (a == b) ≡ (b == a)
