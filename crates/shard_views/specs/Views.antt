@@ -40,8 +40,8 @@ shard_view shard cube number = brick_view (shard_brick shard cube number)
 abbrev pub IsUniform : ℕ → (ℕ → Bool) → Type 0
 IsUniform low epochs = (a b : ℕ) → a ≤ low → b ≤ low → epochs a ≡ epochs b
 
--- Two bricks show the same rows, and hide the same, to whoever does not tell the epochs up to one apart and obeys all
--- their marks: a purge may have made their runs one.
+-- Two bricks show the same rows, and hide the same, to whoever does not tell the epochs up to one apart, neither by rows
+-- nor by marks: a purge may have made their runs one.
 pub record ShowAlikeAbove (low : ℕ) (a b : List BrickEntry) : Type 0 where
   pub rows : (epochs marks : ℕ → Bool) → IsUniform low epochs → IsUniform low marks
       → rows_shown_to epochs marks a ≡ rows_shown_to epochs marks b
