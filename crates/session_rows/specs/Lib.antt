@@ -3,3 +3,4 @@ pub mod Coded
 pub mod RowsBehind
 pub mod RowsExecuted
 pub mod RowsRead
+pub mod DeskOnRows

@@ -1,6 +1,6 @@
 //! What holds of the rows of a session by what stands behind it.
 
-ghost use Rattle.std.specs.Prelude.{◌≡◌, ◌++◌, ℕ, Bool, List, Some, filter, slice_get};
+ghost use Rattle.std.specs.Prelude.{◌≡◌, ◌++◌, ◌∷◌, [], ℕ, Bool, List, Some, None, filter, slice_get};
 ghost use Rattle.cube_values.specs.declared.query.BoundQuery.{BoundQuery};
 ghost use Rattle.cube_values.specs.declared.row.CodedRow.{CodedRow};
 ghost use Rattle.cube_language.specs.declared.decl.Decl.{Decl};
@@ -14,9 +14,14 @@ ghost use Rattle.aosi_register.specs.State.{state_of};
 ghost use Rattle.plain_rows.specs.HeldRows.{HeldRows};
 ghost use Rattle.session_replies.specs.Modes.{mode_of};
 ghost use Rattle.session_desk.specs.AtDesk.{IsServing};
+ghost use Rattle.session_desk.specs.declared.session.Session.{Session};
 ghost use Rattle.session_desk.specs.Executed.{HasExecuted};
+ghost use Rattle.session_desk.specs.Moves.{IsClosed, epoch_in};
+ghost use Rattle.aosi_desk.specs.Desks.{DeskState};
 ghost use Rattle.session_rows.specs.Coded.{CodedOperation};
-ghost use Rattle.session_rows.specs.CubesAtDesk.{AllAreNamed, AreItsNames, GainsNames, HaveCome};
+ghost use Rattle.session_rows.specs.CubesAtDesk.{AllAreNamed, AreItsNames, ExecutesOnRows, GainsNames, HaveCome};
+ghost use Rattle.session_rows.specs.DeskOnRows.{GainsCube, IsDoneAtDesk, StaysOpen, cubes_back, cubes_kept};
+ghost use Rattle.session_rows.specs.declared.cubes.Cubes.{Cubes};
 ghost use Rattle.session_rows.specs.RowsBehind.{HasRows, RowWorld, world_of};
 ghost use Rattle.session_rows.specs.RowsExecuted.{ChangesAlone, ChangesInside, Commits, Creates, HasExecutedOnRows, RollsBack, Stays};
 ghost use Rattle.session_rows.specs.RowsRead.{AsksRowsOf, BeginsEmpty, IsAnswerNow, table_now};
@@ -102,4 +107,30 @@ pub fn changed_rows_are_named()
     ensures go { (d : Decl) (lists : List (List (List ℕ))) (keeps : CodedRow → Bool)
         (rows : List CodedRow)
         → AllStandForValues d lists rows → AllStandForValues d lists (filter keeps rows) }
+{}
+
+/// A statement that is executed at the desk is executed on rows: where nothing that is open ends the rows stay, where none
+/// is open afterwards they go back, and a commit keeps them; a cube that is made has none.
+pub fn statements_at_the_desk_are_executed_on_rows()
+    ensures stays { (sentence : Sentence) (desk : DeskState) (session : Session) (cubes : Cubes)
+        (new_desk : DeskState) (now : Session) (said : Reply)
+        → IsDoneAtDesk sentence None desk session cubes new_desk now said
+        → new_desk.cubes ≡ desk.cubes → StaysOpen desk session now
+        → ExecutesOnRows sentence desk session cubes new_desk now cubes said }
+    ensures rolled_back { (sentence : Sentence) (desk : DeskState) (session : Session)
+        (cubes : Cubes) (new_desk : DeskState) (now : Session) (said : Reply)
+        → IsDoneAtDesk sentence None desk session cubes new_desk now said
+        → new_desk.cubes ≡ desk.cubes → IsClosed (mode_of now.mode)
+        → ExecutesOnRows sentence desk session cubes new_desk now (cubes_back cubes) said }
+    ensures committed { (sentence : Sentence) (desk : DeskState) (session : Session)
+        (cubes : Cubes) (new_desk : DeskState) (now : Session) (said : Reply)
+        → IsDoneAtDesk sentence (epoch_in (mode_of session.mode)) desk session cubes new_desk now said
+        → new_desk.cubes ≡ desk.cubes → IsClosed (mode_of now.mode)
+        → ExecutesOnRows sentence desk session cubes new_desk now (cubes_kept cubes) said }
+    ensures created { (sentence : Sentence) (d : Decl) (desk : DeskState) (session : Session)
+        (cubes : Cubes) (new_desk : DeskState) (now : Session) (new_cubes : Cubes) (said : Reply)
+        → IsDoneAtDesk sentence None desk session cubes new_desk now said
+        → new_desk.cubes ≡ desk.cubes ++ d ∷ [] → StaysOpen desk session now
+        → GainsCube d cubes new_cubes
+        → ExecutesOnRows sentence desk session cubes new_desk now new_cubes said }
 {}
