@@ -94,7 +94,7 @@ rows_more [] h (suc place) before now = record { before = refl; now = refl }
 rows_more (g ∷ held) h zero before now = record { before = refl; now = refl }
 rows_more (g ∷ held) h (suc place) before now = rows_more held h place before now
 
-last_of : (held : List HeldRows) (h : HeldRows) (place : ℕ) → length held ≡ place
+pub last_of : (held : List HeldRows) (h : HeldRows) (place : ℕ) → length held ≡ place
     → rows_at (held ++ h ∷ []) place ≡ h
 last_of [] h zero is = refl
 last_of [] h (suc place) is = absurd (omega (arith, is))

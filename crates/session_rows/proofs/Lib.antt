@@ -6,3 +6,4 @@ pub mod RowsStay
 pub mod RowsJoin
 pub mod RowsAreRead
 pub mod DeskOnRows
+pub mod WholeCubes

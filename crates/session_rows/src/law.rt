@@ -1,14 +1,15 @@
 //! What holds of the rows of a session by what stands behind it.
 
-ghost use Rattle.std.specs.Prelude.{◌≡◌, ◌++◌, ◌∷◌, [], ℕ, Bool, List, Some, None, filter, slice_get};
+ghost use Rattle.std.specs.Prelude.{◌≡◌, ◌++◌, ◌∷◌, ◌≤◌, [], ℕ, Bool, List, Some, None, filter, length, slice_get};
 ghost use Rattle.cube_values.specs.declared.query.BoundQuery.{BoundQuery};
 ghost use Rattle.cube_values.specs.declared.row.CodedRow.{CodedRow};
+ghost use Rattle.cube_language.specs.CubesText.{cubes_limit};
 ghost use Rattle.cube_language.specs.declared.decl.Decl.{Decl};
 ghost use Rattle.cube_language.specs.declared.statement.Statement.{Statement};
 ghost use Rattle.cube_journal.specs.declared.reply.Reply.{Reply};
 ghost use Rattle.cube_run.specs.RunRecords.{RunRecord, Sentence};
 ghost use Rattle.names_dict.specs.Dictionaries.{Dictionary, names_of};
-ghost use Rattle.one_session.specs.Changes.{AllStandForValues};
+ghost use Rattle.one_session.specs.Changes.{AllStandForValues, AreNamedApart};
 ghost use Rattle.one_session.specs.Pasts.{Beginning, GoesOn, SessionPast, nothing_behind};
 ghost use Rattle.aosi_register.specs.State.{state_of};
 ghost use Rattle.plain_rows.specs.HeldRows.{HeldRows};
@@ -19,7 +20,7 @@ ghost use Rattle.session_desk.specs.Executed.{HasExecuted};
 ghost use Rattle.session_desk.specs.Moves.{IsClosed, epoch_in};
 ghost use Rattle.aosi_desk.specs.Desks.{DeskState};
 ghost use Rattle.session_rows.specs.Coded.{CodedOperation};
-ghost use Rattle.session_rows.specs.CubesAtDesk.{AllAreNamed, AreItsNames, ExecutesOnRows, GainsNames, HaveCome};
+ghost use Rattle.session_rows.specs.CubesAtDesk.{AllAreNamed, AreItsNames, AreWholeCubes, ExecutesOnRows, GainsNames, HaveCome};
 ghost use Rattle.session_rows.specs.DeskOnRows.{GainsCube, IsDoneAtDesk, StaysOpen, cubes_back, cubes_kept};
 ghost use Rattle.session_rows.specs.declared.cubes.Cubes.{Cubes};
 ghost use Rattle.session_rows.specs.RowsBehind.{HasRows, RowWorld, world_of};
@@ -133,4 +134,13 @@ pub fn statements_at_the_desk_are_executed_on_rows()
         → new_desk.cubes ≡ desk.cubes ++ d ∷ [] → StaysOpen desk session now
         → GainsCube d cubes new_cubes
         → ExecutesOnRows sentence desk session cubes new_desk now new_cubes said }
+{}
+
+/// Cubes stay whole where their rows go back or are kept, and where one more is made that has neither rows nor names.
+pub fn cubes_stay_whole()
+    ensures back { (cubes : Cubes) → AreWholeCubes cubes → AreWholeCubes (cubes_back cubes) }
+    ensures kept { (cubes : Cubes) → AreWholeCubes cubes → AreWholeCubes (cubes_kept cubes) }
+    ensures more { (d : Decl) (old new : Cubes) → AreWholeCubes old → GainsCube d old new
+        → AreNamedApart new.schemas.items → length new.schemas.items ≤ cubes_limit
+        → AreWholeCubes new }
 {}
