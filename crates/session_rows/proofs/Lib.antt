@@ -7,3 +7,4 @@ pub mod RowsJoin
 pub mod RowsAreRead
 pub mod DeskOnRows
 pub mod WholeCubes
+pub mod PlayedStatements

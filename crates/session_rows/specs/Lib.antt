@@ -4,3 +4,4 @@ pub mod RowsBehind
 pub mod RowsExecuted
 pub mod RowsRead
 pub mod DeskOnRows
+pub mod PlayedOnRows

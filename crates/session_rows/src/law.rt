@@ -9,6 +9,8 @@ ghost use Rattle.cube_language.specs.declared.statement.Statement.{Statement};
 ghost use Rattle.cube_journal.specs.declared.reply.Reply.{Reply};
 ghost use Rattle.cube_run.specs.RunRecords.{RunRecord, Sentence};
 ghost use Rattle.names_dict.specs.Dictionaries.{Dictionary, names_of};
+ghost use Rattle.cube_run.specs.SessionStates.{fresh_session};
+ghost use Rattle.session_desk.specs.Standing.{session_state};
 ghost use Rattle.one_session.specs.Changes.{AllStandForValues, AreNamedApart};
 ghost use Rattle.one_session.specs.Pasts.{Beginning, GoesOn, SessionPast, nothing_behind};
 ghost use Rattle.aosi_register.specs.State.{state_of};
@@ -20,9 +22,10 @@ ghost use Rattle.session_desk.specs.Executed.{HasExecuted};
 ghost use Rattle.session_desk.specs.Moves.{IsClosed, epoch_in};
 ghost use Rattle.aosi_desk.specs.Desks.{DeskState};
 ghost use Rattle.session_rows.specs.Coded.{CodedOperation};
-ghost use Rattle.session_rows.specs.CubesAtDesk.{AllAreNamed, AreItsNames, AreWholeCubes, ExecutesOnRows, GainsNames, HaveCome};
+ghost use Rattle.session_rows.specs.CubesAtDesk.{AllAreNamed, AreItsNames, AreWholeCubes, ExecutesOnRows, GainsNames, HaveCome, row_world};
 ghost use Rattle.session_rows.specs.DeskOnRows.{GainsCube, IsDoneAtDesk, StaysOpen, cubes_back, cubes_kept};
 ghost use Rattle.session_rows.specs.declared.cubes.Cubes.{Cubes};
+ghost use Rattle.session_rows.specs.PlayedOnRows.{HasPlayedOnRows};
 ghost use Rattle.session_rows.specs.RowsBehind.{HasRows, RowWorld, world_of};
 ghost use Rattle.session_rows.specs.RowsExecuted.{ChangesAlone, ChangesInside, Commits, Creates, HasExecutedOnRows, RollsBack, Stays};
 ghost use Rattle.session_rows.specs.RowsRead.{AsksRowsOf, BeginsEmpty, IsAnswerNow, table_now};
@@ -143,4 +146,20 @@ pub fn cubes_stay_whole()
     ensures more { (d : Decl) (old new : Cubes) → AreWholeCubes old → GainsCube d old new
         → AreNamedApart new.schemas.items → length new.schemas.items ≤ cubes_limit
         → AreWholeCubes new }
+{}
+
+/// A script is played on rows statement by statement: before the first nothing is, and one that is executed joins those
+/// before it.
+pub fn a_script_is_played_on_rows()
+    ensures none { (beginning : Beginning) (desk : DeskState) (session : Session) (cubes : Cubes)
+        → HasRows beginning (nothing_behind beginning) (row_world desk session cubes [])
+        → session_state session ≡ fresh_session
+        → HasPlayedOnRows beginning [] [] desk session cubes }
+    ensures next { (beginning : Beginning) (script : List Sentence) (replies : List Reply)
+        (sentence : Sentence) (desk : DeskState) (session : Session) (cubes : Cubes)
+        (new_desk : DeskState) (now : Session) (new_cubes : Cubes) (said : Reply)
+        → HasPlayedOnRows beginning script replies desk session cubes
+        → ExecutesOnRows sentence desk session cubes new_desk now new_cubes said
+        → HasPlayedOnRows beginning (script ++ sentence ∷ []) (replies ++ said ∷ []) new_desk now
+        new_cubes }
 {}
