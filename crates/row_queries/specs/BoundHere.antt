@@ -1,9 +1,8 @@
 -- A SELECT as it is bound to one of the cubes that a session works with.
 -- Source: Cubrick (VLDB 2016), queries over coordinates.
-use Rattle.std.specs.Prelude.{◌≡◌, ℕ, List, Some, slice_get}
+use Rattle.std.specs.Prelude.{◌≡◌, List, Some, slice_get}
 use Rattle.cube_values.specs.Answer.{table_of}
 use Rattle.cube_values.specs.First.{first_rows}
-use Rattle.cube_values.specs.declared.query.BoundQuery.{BoundQuery}
 use Rattle.cube_values.specs.declared.table.Field.{Field}
 use Rattle.cube_language.specs.Misfits.{FitsCube}
 use Rattle.cube_language.specs.ResolvedNames.{resolved_plan}

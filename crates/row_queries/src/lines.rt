@@ -22,7 +22,8 @@ use cube_schema::Schema;
 use cube_values::{BoundQuery, CallError, NameLists, Table, TopPlan};
 use names_dict::Dicts;
 use query_plan::{
-    BindFault, bind_select, bind_top, cube_needed, cube_place, statements_are_bound_to_what_they_ask,
+    BindFault, bind_select, bind_top, cube_needed, cube_place,
+    statements_are_bound_to_what_they_ask,
 };
 use select_lines::select_lines;
 use session_rows::Cubes;
@@ -92,11 +93,7 @@ fn fold_rows(alloc: Global, cubes: &Cubes, query: &BoundQuery) -> Result<Partial
 
 /// The lines of a SELECT that is bound, over the rows that its cube has now. The only error is out of
 /// memory.
-pub fn lines_of(
-    alloc: Global,
-    cubes: &Cubes,
-    bound: &BoundSelect,
-) -> Result<Table, AllocError>
+pub fn lines_of(alloc: Global, cubes: &Cubes, bound: &BoundSelect) -> Result<Table, AllocError>
     requires whole { AreWholeCubes cubes.now }
     requires bound { IsSomeBound cubes.now bound.now }
     ensures { IfOk result (λ table. table ≡ lines_now cubes.now bound.now) }
