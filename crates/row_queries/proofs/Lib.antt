@@ -1,2 +1,3 @@
 pub mod FoldedRows
 pub mod NamesFor
+pub mod LinesAnswered
