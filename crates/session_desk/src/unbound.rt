@@ -9,6 +9,7 @@ ghost use Rattle.aosi_desk.specs.Desks.{desk_with_entry};
 ghost use Rattle.session_replies.specs.Modes.{mode_of};
 ghost use Rattle.session_desk.specs.AtDesk.{IsAtDesk};
 ghost use Rattle.session_desk.specs.Executed.{ExecutesAtDesk, IfReplied};
+ghost use Rattle.session_desk.specs.Moves.{MovesOn, OpenStays};
 
 use crate::answered::Answered;
 use crate::refusing::refuse;
@@ -47,6 +48,8 @@ fn refuse_unknown(
     ensures at { IsAtDesk desk.new session.new }
     ensures number { session.new.statements ≡ session.old.statements + 1 }
     ensures cubes { desk.new.cubes ≡ desk.old.cubes }
+    ensures moves { MovesOn None desk.old desk.new }
+    ensures turns { OpenStays desk.old session.old session.new }
     ensures executed { IfReplied result
         (ExecutesAtDesk (Says statement.now) desk.old session.old desk.new session.new) }
 {
@@ -73,6 +76,8 @@ fn refuse_unfit(
     ensures at { IsAtDesk desk.new session.new }
     ensures number { session.new.statements ≡ session.old.statements + 1 }
     ensures cubes { desk.new.cubes ≡ desk.old.cubes }
+    ensures moves { MovesOn None desk.old desk.new }
+    ensures turns { OpenStays desk.old session.old session.new }
     ensures executed { IfReplied result
         (ExecutesAtDesk (Says statement.now) desk.old session.old desk.new session.new) }
 {
@@ -96,6 +101,8 @@ pub fn refuse_unbound(
     ensures at { IsAtDesk desk.new session.new }
     ensures number { session.new.statements ≡ session.old.statements + 1 }
     ensures cubes { desk.new.cubes ≡ desk.old.cubes }
+    ensures moves { MovesOn None desk.old desk.new }
+    ensures turns { OpenStays desk.old session.old session.new }
     ensures executed { IfReplied result
         (ExecutesAtDesk (Says statement.now) desk.old session.old desk.new session.new) }
 {
