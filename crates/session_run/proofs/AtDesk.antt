@@ -9,9 +9,9 @@ use Rattle.session_desk.specs.declared.answered.Answered.TheVariants.{Replied, S
 use Rattle.session_desk.specs.declared.session.Session.{Session}
 use Rattle.session_desk.specs.AtDesk.{IsAtDesk}
 use Rattle.session_desk.specs.Executed.{ExecutesAtDesk, IfReplied}
-use Rattle.session_desk.specs.Moves.{IsClosed, MovesOn, epoch_in}
+use Rattle.session_desk.specs.Moves.{IsClosed, MovesOn, OpenStays, epoch_in}
 use Rattle.session_rows.specs.CubesAtDesk.{ExecutesOnRows, IsAtCubes}
-use Rattle.session_rows.specs.DeskOnRows.{StaysOpen, cubes_back, cubes_kept}
+use Rattle.session_rows.specs.DeskOnRows.{cubes_back, cubes_kept}
 use Rattle.session_rows.specs.declared.cubes.Cubes.{Cubes}
 use Rattle.session_rows.proofs.DeskOnRows.{desk_commits, desk_rolls_back, desk_stays}
 use Rattle.session_rows.proofs.WholeCubes.{whole_back, whole_kept}
@@ -41,7 +41,7 @@ kept_at desk session cubes new_desk now h at same =
 pub answered_stays : (answered : Answered) (sentence : Sentence) (desk : DeskState) (session : Session)
     (cubes : Cubes) (new_desk : DeskState) (now : Session) → IsAtCubes desk session cubes
     → IfReplied answered (ExecutesAtDesk sentence desk session new_desk now) → new_desk.cubes ≡ desk.cubes
-    → MovesOn None desk new_desk → StaysOpen desk session now
+    → MovesOn None desk new_desk → OpenStays desk session now
     → IfReplied answered (ExecutesOnRows sentence desk session cubes new_desk now cubes)
 answered_stays (Replied said) sentence desk session cubes new_desk now h x same moves turns =
     desk_stays sentence desk session cubes new_desk now said (record { at = h; executed = x; moves = moves }) same turns
