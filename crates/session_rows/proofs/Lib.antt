@@ -5,3 +5,7 @@ pub mod NamesCome
 pub mod RowsStay
 pub mod RowsJoin
 pub mod RowsAreRead
+pub mod RunsEnd
+pub mod DeskOnRows
+pub mod WholeCubes
+pub mod PlayedStatements
