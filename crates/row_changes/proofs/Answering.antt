@@ -1,5 +1,6 @@
 -- What holds of an answer, by the ways in which the calls at the desk may end.
 use Rattle.std.proofs.Common.{◌≡◌, ◌∙◌, ℕ, ◌+◌, List, length, Option, Some, None, refl, sym, ap, subst}
+use Rattle.std.proofs.lemmas.Option.{same_Some}
 use Rattle.cube_values.specs.Batches.{Batch}
 use Rattle.cube_values.specs.declared.snapshot.Snapshot.{Snapshot}
 use Rattle.cube_language.specs.declared.statement.Statement.{Statement}
@@ -160,17 +161,10 @@ pub record HasWriter (mode : Mode) (epoch : ℕ) : Type 0 where
   pub mode_is : mode ≡ Open writer
   pub epoch_is : epoch ≡ writer.epoch
 
-some_same : (x y : ℕ) → Some x ≡ Some y → x ≡ y
-some_same x y same = ap (λ (o : Option ℕ). value x o) same
-  where
-    value : ℕ → Option ℕ → ℕ
-    value d None = d
-    value d (Some z) = z
-
 pub writer_in : (mode : Mode) (epoch : ℕ) → epoch_in mode ≡ Some epoch → HasWriter mode epoch
 writer_in Idle epoch is = absurd cc
 writer_in (Open writer) epoch is =
-    record { writer = writer; mode_is = refl; epoch_is = some_same epoch writer.epoch (sym is) }
+    record { writer = writer; mode_is = refl; epoch_is = same_Some epoch writer.epoch (sym is) }
 writer_in (Aborted was) epoch is = absurd cc
 
 pub inside_answered : (s : Statement) (result : Answered) (epoch rows : ℕ) (desk : DeskState) (session now : Session)

@@ -29,7 +29,8 @@ use Rattle.row_changes.specs.AnswersGiven.{HasCommittedAt}
 use Rattle.row_changes.specs.ChangedCubes.{ExecutesWithNames, HaveChanged, HaveChangedAndKept}
 use Rattle.row_changes.specs.DropForms.{IsDropSpanAt, dropped_answer}
 use Rattle.row_changes.proofs.Answering.{at_others, gained_changed, gained_kept, one_more, writer_in}
-use Rattle.row_changes.proofs.Deleting.{delete_alone_executes, delete_inside_executes, delete_of}
+use Rattle.row_changes.proofs.Deleting.{delete_alone_executes, delete_inside_executes}
+use Rattle.query_plan.proofs.Plans.{delete_of}
 
 -- The span is the same where nothing has changed but rows.
 pub span_still : (cubes now : Cubes) (s : Statement) (place : ℕ) (span : Span) → now.schemas ≡ cubes.schemas

@@ -1,36 +1,11 @@
 -- Names of which none is repeated are distinct.
-use Rattle.std.proofs.Common.{◌≡◌, Bool, true, false, ◌||◌, ℕ, List, [], ◌∷◌, Some, None, if◌then◌else◌, refl, sym}
+use Rattle.std.proofs.Common.{◌≡◌, false, ℕ, List, [], ◌∷◌, None, sym}
 use Rattle.std.specs.List.{AllByRecursion, IsDistinct, list_any}
 use Rattle.std.specs.Str.{bytes_eq}
 use Rattle.std.proofs.lemmas.Bool.{both_ways, false_from_ne_true}
-use Rattle.std.proofs.lemmas.Option.{none-some}
 use Rattle.std.proofs.lemmas.Slice.Eq.{bytes_eq-Decides}
 use Rattle.cube_language.specs.Cubes.{first_repeated, repeated_after}
-
-or_right : (a b : Bool) → (a || b) ≡ false → b ≡ false
-or_right true b h = absurd (both_ways true h refl)
-or_right false b h = h
-
-or_left : (a b : Bool) → (a || b) ≡ false → a ≡ false
-or_left true b h = h
-or_left false b h = refl
-
-first_is_new : (before names : List (List ℕ)) (name : List ℕ) → repeated_after before (name ∷ names) ≡ None
-    → list_any (bytes_eq name) before ≡ false
-first_is_new before names name h = at (list_any (bytes_eq name) before) h
-  where
-    at : (b : Bool) → (if b then Some name else repeated_after (name ∷ before) names) ≡ None → b ≡ false
-    at true h = absurd (none-some name (sym h))
-    at false h = refl
-
-later_are_new : (before names : List (List ℕ)) (name : List ℕ) → repeated_after before (name ∷ names) ≡ None
-    → repeated_after (name ∷ before) names ≡ None
-later_are_new before names name h = at (list_any (bytes_eq name) before) h
-  where
-    at : (b : Bool) → (if b then Some name else repeated_after (name ∷ before) names) ≡ None
-        → repeated_after (name ∷ before) names ≡ None
-    at true h = absurd (none-some name (sym h))
-    at false h = h
+use Rattle.session_desk.proofs.NamedApart.{first_is_new, later_are_new, or_left, or_right}
 
 turned : (a b : List ℕ) → bytes_eq a b ≡ false → bytes_eq b a ≡ false
 turned a b other =

@@ -11,7 +11,6 @@ use Rattle.cube_language.specs.declared.decl.Decl.{Decl}
 use Rattle.cube_language.specs.declared.decl.DimDecl.{DimDecl}
 use Rattle.cube_language.specs.declared.statement.Cond.{Cond}
 use Rattle.cube_language.specs.declared.statement.Statement.{Statement}
-use Rattle.cube_language.specs.declared.statement.Statement.TheVariants.{Select, Insert, Load, Delete, Begin, Commit, Rollback, Flush, Purge, ShowEpochs, CreateCube, Watch, ShowWatch}
 use Rattle.cube_journal.specs.declared.reply.Reply.TheVariants as reply
 use Rattle.cube_run.specs.RunRecords.{Missing, RunRecord, Says}
 use Rattle.cube_run.specs.SessionStates.{Idle, Open}
@@ -22,8 +21,8 @@ use Rattle.one_session.specs.Changes.{Go}
 use Rattle.one_session.specs.Pasts.{Beginning, EndsWithMore, GoesOn, NamesOnlyCome}
 use Rattle.aosi_register.specs.State.{state_of}
 use Rattle.aosi_desk.specs.Desks.{DeskState}
-use Rattle.query_plan.specs.Bindings.{DeletesRows}
 use Rattle.query_plan.specs.Ties.{TakesRegion}
+use Rattle.query_plan.proofs.Plans.{IsDelete}
 use Rattle.row_encoding.specs.CodedTexts.{AreNames}
 use Rattle.row_encoding.specs.DictsAsEncoder.{IsDictionaryOf, Suit}
 use Rattle.session_replies.specs.RowEntries.{own_commit}
@@ -44,26 +43,6 @@ use Rattle.row_entries.proofs.Executing.{changes_alone_on_rows, changes_inside_o
 use Rattle.row_changes.specs.DropForms.{IsDropSpanAt}
 use Rattle.row_changes.proofs.CutNames.{cut_at, lists_cut, may_cut, names_cut, region_cut}
 use Rattle.row_changes.proofs.InRuns.{EndsThere, ends_there, meets_in_run}
-
-pub record IsDelete (s : Statement) : Type 0 where
-  pub cube : List ℕ
-  pub conds : List Cond
-  pub is : s ≡ Delete cube conds
-
-pub delete_of : (s : Statement) → DeletesRows s → IsDelete s
-delete_of (Delete cube conds) form = record { cube = cube; conds = conds; is = refl }
-delete_of (Insert cube rows) form = absurd form
-delete_of (Select items cube conds group having order limit) form = absurd form
-delete_of (Load cube path reject) form = absurd form
-delete_of Begin form = absurd form
-delete_of Commit form = absurd form
-delete_of Rollback form = absurd form
-delete_of Flush form = absurd form
-delete_of Purge form = absurd form
-delete_of ShowEpochs form = absurd form
-delete_of (CreateCube decl) form = absurd form
-delete_of (Watch items cube conds group) form = absurd form
-delete_of ShowWatch form = absurd form
 
 -- ---- the change
 

@@ -1,5 +1,5 @@
 -- A DELETE that is bound to a cube has its span there.
-use Rattle.std.proofs.Common.{◌≡◌, ◌∙◌, ℕ, Bool, true, false, not, ◌||◌, List, [], ◌∷◌, map, Option, Some, None, refl, sym, ap, subst, if◌then◌else◌}
+use Rattle.std.proofs.Common.{◌≡◌, ◌∙◌, ℕ, Bool, true, false, not, List, [], ◌∷◌, map, Option, Some, None, refl, sym, ap, subst, if◌then◌else◌}
 use Rattle.std.specs.Prelude.{IfOk, Ok, Err, Result, filter_map, find, slice_get}
 use Rattle.std.specs.List.{list_any}
 use Rattle.std.proofs.lemmas.Bool.{both_ways}
@@ -21,6 +21,7 @@ use Rattle.condition_spans.specs.CodedConditions.{coded_conditions, values_of_te
 use Rattle.condition_spans.specs.Codes.{codes_in, lists_at}
 use Rattle.condition_spans.specs.Spans.{IsSpanOf}
 use Rattle.cube_language.specs.Cubes.{sizes_of}
+use Rattle.cube_schema.proofs.Bricks.{none_found}
 use Rattle.query_plan.specs.Bindings.{IsDropPlan, IsDropSpan}
 use Rattle.query_plan.specs.Ties.{AreCodesOf, SpansTakeRegions}
 use Rattle.query_plan.specs.declared.plan.DropPlan.{DropPlan}
@@ -30,18 +31,12 @@ use Rattle.query_plan.proofs.Ties.{are_codes, dim_there}
 use Rattle.row_encoding.specs.CodedTexts.{AreOfKind, AskTheirKinds}
 use Rattle.row_encoding.specs.CodedValues.{IsTextValue}
 use Rattle.row_encoding.specs.FinalCodes.{dim_at}
+use Rattle.session_desk.proofs.NamedApart.{or_left, or_right}
+use Rattle.session_rows.proofs.NamesCome.{same_decl}
 use Rattle.session_rows.specs.declared.cubes.Cubes.{Cubes}
 use Rattle.row_changes.specs.DropForms.{AreDropCodes, IsDropSpanAt}
 
 -- ---- kinds
-
-or_right : (a b : Bool) → (a || b) ≡ false → b ≡ false
-or_right true b h = absurd (both_ways true h refl)
-or_right false b h = h
-
-or_left : (a b : Bool) → (a || b) ≡ false → a ≡ false
-or_left true b h = h
-or_left false b h = refl
 
 text_has_kind : (b : Bool) → (if b then not true else true) ≡ false → b ≡ true
 text_has_kind true h = refl
@@ -58,9 +53,6 @@ values_of_kind dim (v ∷ values) h =
     All-cons (λ w. IsTextValue w → dim.text ≡ true) v values
     (value_of_kind dim v (or_left (is_of_other_kind dim v) (list_any (is_of_other_kind dim) values) h))
     (values_of_kind dim values (or_right (is_of_other_kind dim v) (list_any (is_of_other_kind dim) values) h))
-
-no_dim : DimDecl
-no_dim = record { name = []; text = false; cardinality = 0; range = 0 }
 
 cond_of_kind : (d : Decl) (c : Cond) (p : ℕ) → is_wrong_use d (cond_use c) ≡ false
     → dim_place d (cond_name c) ≡ Some p → AreOfKind (dim_at d.dims p) (values_of_test (cond_test c))
@@ -80,32 +72,13 @@ ask_with d c rest (Some p) fits is others =
     All-cons (λ (x : Condition). AreOfKind (dim_at d.dims x.place) (values_of_test x.test))
     (record { place = p; test = cond_test c }) rest (cond_of_kind d c p fits is) others
 
-none_first : {X : Type 0} (p : X → Bool) (x : X) (xs : List X) → find p (x ∷ xs) ≡ None
-    → (p x ≡ false) × (find p xs ≡ None)
-none_first p x xs none = at (p x) refl none
-  where
-    at : (b : Bool) → p x ≡ b → (if b then Some x else find p xs) ≡ None → (p x ≡ false) × (find p xs ≡ None)
-    at true is none = absurd cc
-    at false is none = (is, none)
-
 all_ask : (d : Decl) (conds : List Cond) → find (is_wrong_use d) (map cond_use conds) ≡ None
     → AskTheirKinds d.dims (filter_map (resolved_cond d) conds)
 all_ask d [] fit = All-nil (λ (x : Condition). AreOfKind (dim_at d.dims x.place) (values_of_test x.test))
 all_ask d (c ∷ conds) fit =
-    let parts = none_first (is_wrong_use d) (cond_use c) (map cond_use conds) fit in
+    let parts = none_found (is_wrong_use d) (cond_use c) (map cond_use conds) fit in
     ask_with d c (filter_map (resolved_cond d) conds) (dim_place d (cond_name c)) parts.0 refl
     (all_ask d conds parts.1)
-
-same_decl : (cubes : List Decl) (place : ℕ) (d e : Decl) → slice_get cubes place ≡ Some d
-    → slice_get cubes place ≡ Some e → d ≡ e
-same_decl cubes place d e first second = at (sym first ∙ second)
-  where
-    at : Some d ≡ Some e → d ≡ e
-    at same = ap (λ (o : Option Decl). value o) same
-      where
-        value : Option Decl → Decl
-        value None = d
-        value (Some x) = x
 
 -- The conditions of a plan ask their kinds of the cube that stands at its place.
 pub plan_asks : (cubes : List Decl) (s : Statement) (plan : DropPlan) (d : Decl) → IsDropPlan cubes s plan
