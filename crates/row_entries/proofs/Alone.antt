@@ -132,7 +132,8 @@ leaves_commit sentence desk session new_desk now at h f =
     let moves = whole_moves desk session new_desk now at h in
     record {
       round = round;
-      left = has_left Idle sentence added (λ step. own_commit step s.ec s.pending (session_part 1 round)) (Some s.ec) desk
+      left =
+          has_left Idle sentence added (λ step. own_commit step s.ec s.pending (session_part 1 round)) (Some s.ec) desk
           session new_desk now at (record {
             was = idle;
             desk_is = desk_is;
@@ -141,7 +142,9 @@ leaves_commit sentence desk session new_desk now at h f =
             every = h.counted.every;
             becomes = (λ i. record {
               mode = (now_idle ∙ ap (λ (m : Mode). mode_after m part) (sym idle)) i;
-              watch = sym (begin_watched sentence 1 n s.ec s.pending (entry.Committed 1 n s.ec ∷ session_part 1 round)) i;
+              watch =
+                  sym (begin_watched sentence 1 n s.ec s.pending
+                  (entry.Committed 1 n s.ec ∷ session_part 1 round)) i;
               commits =
                   (h.counted.commits ∙ ap (λ (k : ℕ). session.commits + (1 + k)) (sym rear.commits)
                   ∙ ap (λ (k : ℕ). session.commits + k)
@@ -151,7 +154,9 @@ leaves_commit sentence desk session new_desk now at h f =
             owners = rear.owners;
             no_cube = rear.cubes;
             own = λ beginning past names new_names done file stands.
-                let number = number_of past sentence file added new_names session now stands.number h.counted.statements in
+                let number =
+                number_of past sentence file added new_names session now stands.number h.counted.statements
+                in
                 record {
                   mode_is = idle;
                   sentence_is = refl;
@@ -163,7 +168,9 @@ leaves_commit sentence desk session new_desk now at h f =
             epochs = same_mode_rises desk session new_desk now h.counted.mode_is moves.next;
           });
       follows = λ beginning past names new_names done file run stands on.
-          let number = number_of past sentence file added new_names session now stands.number h.counted.statements in
+          let number =
+          number_of past sentence file added new_names session now stands.number h.counted.statements
+          in
           let every : unwrap_or session.round_every 0 ≡ run.round_every = sym stands.every ∙ sym on.round_every in
           coe 0 1 (i. RoundFollows 1 (number i) (round_follows (every i) session.commits) (session_part 1 round))
           rear.follows;
@@ -197,7 +204,8 @@ leaves_abort cause sentence desk session new_desk now at h =
     let now_idle : mode_of now.mode ≡ Idle = ap mode_of h.counted.mode_is ∙ idle in
     let moves = moves_by None desk new_desk added desk_is (λ epoch. refl) in
     record {
-      left = has_left Idle sentence added (λ step. own_abort step s.ec s.pending cause) None desk session new_desk now at
+      left =
+          has_left Idle sentence added (λ step. own_abort step s.ec s.pending cause) None desk session new_desk now at
           (record {
             was = idle;
             desk_is = desk_is;
@@ -213,11 +221,14 @@ leaves_abort cause sentence desk session new_desk now at h =
             owners = refl;
             no_cube = λ run. refl;
             own = λ beginning past names new_names done file stands.
-                let number = number_of past sentence file added new_names session now stands.number h.counted.statements in
+                let number =
+                number_of past sentence file added new_names session now stands.number h.counted.statements
+                in
                 record {
                   mode_is = idle;
                   sentence_is = refl;
-                  entries_are = (λ i. entry.Begin 1 (number i) s.ec s.pending ∷ entry.Aborted 1 (number i) s.ec cause ∷ []);
+                  entries_are = (λ i. entry.Begin 1 (number i) s.ec s.pending
+                      ∷ entry.Aborted 1 (number i) s.ec cause ∷ []);
                 };
             serving =
                 served added desk new_desk (mode_of now.mode) desk_is

@@ -23,7 +23,7 @@ use Rattle.session_replies.proofs.Doing.{ended_does_nothing, ended_inside_does_n
 use Rattle.session_replies.proofs.Refusing.{without_memory}
 use Rattle.session_desk.specs.declared.session.Session.{Session}
 use Rattle.session_desk.specs.Executed.{HasExecuted}
-use Rattle.session_desk.specs.Moves.{IsClosed, MovesOn, epoch_in}
+use Rattle.session_desk.specs.Moves.{IsClosed, MovesOn, OpenStays, epoch_in}
 use Rattle.session_desk.specs.Standing.{StandsBehind, World}
 use Rattle.session_desk.proofs.Changing.{executes_on_rows}
 use Rattle.session_desk.proofs.Growing.{world_of}
@@ -34,7 +34,7 @@ use Rattle.session_rows.specs.RowsExecuted.{HasExecutedOnRows, IsChanged, IsChan
 use Rattle.session_rows.proofs.RowsJoin.{changes_alone, changes_inside}
 use Rattle.session_rows.proofs.RowsStay.{rolls_back_on_rows, stays_on_rows}
 use Rattle.row_entries.specs.LeftEntries.{HasLeft, row_step}
-use Rattle.row_entries.specs.EntryGroups.{LeavesAbort, LeavesCommit, LeavesNothing, LeavesOpenAbort, LeavesReading, LeavesRefusal, OpenStays, abort_entries, commit_entries, end_entries, reading_entries, refusal_entries}
+use Rattle.row_entries.specs.EntryGroups.{LeavesAbort, LeavesCommit, LeavesNothing, LeavesOpenAbort, LeavesReading, LeavesRefusal, abort_entries, commit_entries, end_entries, reading_entries, refusal_entries}
 use Rattle.row_entries.specs.ExecutedHere.{ChangesRows, DoesInRuns, ExecutesUnchanged, GivesRowsBack, IsAnswered, KeepsRows}
 
 -- ---- at the desk

@@ -150,7 +150,9 @@ leaves_open_abort writer cause sentence desk session new_desk now at h =
     let moves = moves_by None desk new_desk added desk_is (λ epoch. refl) in
     let now_is : mode_of now.mode ≡ Aborted writer.epoch = ap mode_of h.counted.mode_is in
     record {
-      left = has_left (Open writer) sentence added (λ step. open_abort step writer.epoch cause) None desk session new_desk now at
+      left =
+          has_left (Open writer) sentence added (λ step. open_abort step writer.epoch cause) None desk session new_desk
+          now at
           (record {
             was = open_is;
             desk_is = desk_is;
@@ -168,7 +170,9 @@ leaves_open_abort writer cause sentence desk session new_desk now at h =
             owners = refl;
             no_cube = λ run. refl;
             own = λ beginning past names new_names done file stands.
-                let number = number_of past sentence file added new_names session now stands.number h.counted.statements in
+                let number =
+                number_of past sentence file added new_names session now stands.number h.counted.statements
+                in
                 record {
                   mode_is = open_is;
                   sentence_is = refl;

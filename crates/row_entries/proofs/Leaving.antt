@@ -21,9 +21,9 @@ use Rattle.session_desk.specs.Standing.{session_state}
 use Rattle.session_desk.proofs.RoundEntries.{state_more}
 use Rattle.row_entries.specs.LeftEntries.{AreItsEntries, HasLeft}
 
-pub record IsGroup (mode : Mode) (sentence : Sentence) (added : List JournalEntry) (entries_of : SessionStep → List JournalEntry)
-    (committed : Option ℕ) (desk : DeskState) (session : Session) (new_desk : DeskState) (now : Session)
-    : Type 0 where
+pub record IsGroup (mode : Mode) (sentence : Sentence) (added : List JournalEntry)
+    (entries_of : SessionStep → List JournalEntry) (committed : Option ℕ) (desk : DeskState)
+    (session : Session) (new_desk : DeskState) (now : Session) : Type 0 where
   pub was : mode_of session.mode ≡ mode
   pub desk_is : new_desk ≡ desk_with_entries desk added
   pub statements : now.statements ≡ session.statements + 1
@@ -51,8 +51,8 @@ serves_then added desk session new_desk now at desk_is statements commits servin
   counted = let counted = at.counted in omega (arith, counted, statements, commits);
 }
 
-pub has_left : (mode : Mode) (sentence : Sentence) (added : List JournalEntry) (entries_of : SessionStep → List JournalEntry)
-    (committed : Option ℕ) (desk : DeskState) (session : Session) (new_desk : DeskState) (now : Session)
+pub has_left : (mode : Mode) (sentence : Sentence) (added : List JournalEntry)
+    (entries_of : SessionStep → List JournalEntry) (committed : Option ℕ) (desk : DeskState) (session : Session) (new_desk : DeskState) (now : Session)
     → IsAtDesk desk session → IsGroup mode sentence added entries_of committed desk session new_desk now
     → HasLeft mode sentence added entries_of committed desk session new_desk now
 has_left mode sentence added entries_of committed desk session new_desk now at g = record {

@@ -8,28 +8,24 @@ use Rattle.cube_journal.specs.declared.counters.OpenSnapshot.{OpenSnapshot}
 use Rattle.cube_journal.specs.declared.journal_entry.JournalEntry.{JournalEntry}
 use Rattle.cube_journal.specs.declared.journal_entry.JournalEntry.TheVariants as entry
 use Rattle.cube_run.specs.RunRecords.{Sentence}
-use Rattle.cube_run.specs.SessionStates.{Mode, Idle, Open, Aborted, mode_after}
+use Rattle.cube_run.specs.SessionStates.{Mode, Idle, mode_after}
 use Rattle.aosi_register.specs.State.{after_read, state_of}
 use Rattle.aosi_desk.specs.Desks.{DeskState, desk_over}
 use Rattle.session_replies.specs.Modes.{mode_of}
 use Rattle.session_replies.specs.RowEntries.{lone_refusal, own_reading}
 use Rattle.session_desk.specs.declared.session.Session.{Session}
 use Rattle.session_desk.specs.AtDesk.{IsAtDesk, IsServing, desk_with_entries}
-use Rattle.session_desk.specs.Moves.{KeepsOpen}
+use Rattle.session_desk.specs.Moves.{KeepsOpen, OpenStays}
 use Rattle.session_desk.proofs.Moving.{moves_by}
 use Rattle.session_desk.proofs.RoundEntries.{desk_more}
 use Rattle.session_desk.proofs.Staying.{refused_still}
+use Rattle.session_desk.proofs.Turning.{keeps_itself}
 use Rattle.row_entries.specs.CountedSessions.{HasOneMore}
 use Rattle.row_entries.specs.RowCalls.{NotesRefusal, ReadsAlone}
-use Rattle.row_entries.specs.EntryGroups.{LeavesReading, LeavesRefusal, OpenStays}
+use Rattle.row_entries.specs.EntryGroups.{LeavesReading, LeavesRefusal}
 use Rattle.row_entries.proofs.Leaving.{has_left, number_of, read_watched, same_mode_rises, served}
 
 -- ---- what is open
-
-keeps_itself : (next : ℕ) (mode : Mode) → KeepsOpen next mode mode
-keeps_itself next Idle = tt
-keeps_itself next (Open writer) = refl
-keeps_itself next (Aborted epoch) = tt
 
 pub open_stays : (desk : DeskState) (session now : Session) → now.mode ≡ session.mode → OpenStays desk session now
 open_stays desk session now same =
@@ -50,7 +46,7 @@ leaves_refusal code sentence desk session new_desk now at h =
     let still = refused_still 1 now.statements code in
     let moves = moves_by None desk new_desk added h.noted (λ epoch. refl) in
     record {
-      left = has_left (mode_of session.mode) sentence added (λ step. lone_refusal step code) None desk session new_desk now at (record {
+      left = has_left mode sentence added (λ step. lone_refusal step code) None desk session new_desk now at (record {
         was = refl;
         desk_is = h.noted;
         statements = h.counted.statements;
@@ -65,7 +61,9 @@ leaves_refusal code sentence desk session new_desk now at h =
         owners = refl;
         no_cube = λ run. refl;
         own = λ beginning past names new_names done file stands.
-            let number = number_of past sentence file added new_names session now stands.number h.counted.statements in
+            let number =
+            number_of past sentence file added new_names session now stands.number h.counted.statements
+            in
             record {
               mode_is = refl;
               sentence_is = refl;
@@ -147,7 +145,9 @@ leaves_reading sentence desk session new_desk now at h =
         owners = refl;
         no_cube = λ run. refl;
         own = λ beginning past names new_names done file stands.
-            let number = number_of past sentence file added new_names session now stands.number h.counted.statements in
+            let number =
+            number_of past sentence file added new_names session now stands.number h.counted.statements
+            in
             record {
               mode_is = h.idle;
               sentence_is = refl;

@@ -137,7 +137,8 @@ begins_here before later n epoch deps =
     ∙ list_any-append (is_begin_of epoch) (session_part 1 before) (session_part 1 (e ∷ later))
     ∙ (λ i. list_any (is_begin_of epoch) (session_part 1 before)
     || (is_itself epoch i || list_any (is_begin_of epoch) (session_part 1 later)))
-    ∙ or_true (list_any (is_begin_of epoch) (session_part 1 before)) (list_any (is_begin_of epoch) (session_part 1 later))
+    ∙ or_true (list_any (is_begin_of epoch) (session_part 1 before))
+    (list_any (is_begin_of epoch) (session_part 1 later))
 
 -- What was begun before was begun.
 pub begun_before : (before later : List JournalEntry) (epoch : ℕ)

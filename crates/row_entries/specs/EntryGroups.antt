@@ -16,14 +16,10 @@ use Rattle.session_replies.specs.Modes.{mode_of}
 use Rattle.session_replies.specs.RowEntries.{IsRoundAfter, lone_refusal, open_abort, own_abort, own_commit, own_reading}
 use Rattle.session_desk.specs.declared.session.Session.{Session}
 use Rattle.session_desk.specs.AtDesk.{IsAtDesk}
-use Rattle.session_desk.specs.Moves.{IsClosed, KeepsOpen, MovesOn}
+use Rattle.session_desk.specs.Moves.{IsClosed, MovesOn, OpenStays}
 use Rattle.session_desk.specs.RowsDone.{EpochsRise, next_change, past_with}
 use Rattle.session_desk.specs.Standing.{StandsBehind}
 use Rattle.row_entries.specs.LeftEntries.{HasLeft, row_step}
-
--- What is open stays so; nothing begins.
-abbrev pub OpenStays : DeskState → Session → Session → Type 0
-OpenStays desk session now = KeepsOpen (state_of desk.register).ec (mode_of session.mode) (mode_of now.mode)
 
 -- ---- the entries
 
@@ -55,8 +51,8 @@ end_entries writer now cause = entry.Aborted 1 now.statements writer.epoch cause
 -- A refusal of this number alone.
 pub record LeavesRefusal (code : ℕ) (sentence : Sentence) (desk : DeskState) (session : Session)
     (new_desk : DeskState) (now : Session) : Type 0 where
-  pub left : HasLeft (mode_of session.mode) sentence (refusal_entries code now) (λ step. lone_refusal step code) None desk
-      session new_desk now
+  pub left : HasLeft (mode_of session.mode) sentence (refusal_entries code now) (λ step. lone_refusal step code)
+      None desk session new_desk now
   pub turns : OpenStays desk session now
 
 -- A reader of its own, of the epoch before the next one.
@@ -94,7 +90,8 @@ HasItsRound sentence added round desk session =
     → GoesOn beginning (past_with past sentence file added new_names) run
     → IsRoundAfter run (row_step past session sentence file added new_names) (session_part 1 round)
 
--- A transaction of its own, of the next epoch, that is committed, and a round where one is due: a change has that epoch.
+-- A transaction of its own, of the next epoch, that is committed, and a round where one is due: a change has that
+-- epoch.
 pub record LeavesCommit (sentence : Sentence) (desk : DeskState) (session : Session) (new_desk : DeskState)
     (now : Session) : Type 0 where
   pub round : List JournalEntry

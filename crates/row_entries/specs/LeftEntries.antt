@@ -33,11 +33,11 @@ AreItsEntries mode sentence added entries_of desk session =
     → IsStep (row_step past session sentence file added new_names) mode sentence
     (entries_of (row_step past session sentence file added new_names))
 
--- In this mode of its session. The desk serves the session as it then is, and has the statement's entries more, by which a
+-- The session was in this mode. The desk serves it as it then is, and has the statement's entries more, by which a
 -- transaction of the session is committed, or none; the epoch of the next change does not fall.
-pub record HasLeft (mode : Mode) (sentence : Sentence) (added : List JournalEntry) (entries_of : SessionStep → List JournalEntry)
-    (committed : Option ℕ) (desk : DeskState) (session : Session) (new_desk : DeskState) (now : Session)
-    : Type 0 where
+pub record HasLeft (mode : Mode) (sentence : Sentence) (added : List JournalEntry)
+    (entries_of : SessionStep → List JournalEntry) (committed : Option ℕ) (desk : DeskState)
+    (session : Session) (new_desk : DeskState) (now : Session) : Type 0 where
   pub was : mode_of session.mode ≡ mode
   pub at : IsAtDesk new_desk now
   pub cubes : new_desk.cubes ≡ desk.cubes

@@ -1,5 +1,6 @@
--- The calls at the desk with which a statement on rows leaves its entries, by what each of them gives: a refusal alone; a
--- reader of its own; nothing; a transaction of its own, which is committed or aborted; the end of the one that is open.
+-- The calls at the desk with which a statement on rows leaves its entries, by what each of them gives: a refusal
+-- alone; a reader of its own; nothing; a transaction of its own, which is committed or aborted; the end of the one that
+-- is open.
 -- Source: AOSI (ICDE 2018), begin, commit and abort of a transaction, and readers; the rest is this project's own.
 use Rattle.std.specs.Prelude.{◌≡◌, ◌≢◌, ℕ, None, unwrap_or}
 use Rattle.cube_values.specs.declared.snapshot.Snapshot.{Snapshot}

@@ -1,4 +1,5 @@
-//! How a statement on rows is executed by what it left at the desk. INSERT, LOAD, DELETE and SELECT stand on these laws.
+//! How a statement on rows is executed by what it left at the desk. INSERT, LOAD, DELETE and SELECT stand on these
+//! laws.
 
 ghost use Rattle.std.specs.Prelude.{◌≡◌, ℕ, true, []};
 ghost use Rattle.cube_values.specs.declared.snapshot.Snapshot.{Snapshot};
@@ -20,8 +21,8 @@ ghost use Rattle.session_rows.specs.RowsExecuted.{HasExecutedOnRows, IsChanged, 
 ghost use Rattle.row_entries.specs.EntryGroups.{LeavesAbort, LeavesCommit, LeavesNothing, LeavesOpenAbort, LeavesReading, LeavesRefusal, abort_entries, commit_entries, end_entries, reading_entries, refusal_entries};
 ghost use Rattle.row_entries.specs.ExecutedHere.{ChangesRows, DoesInRuns, ExecutesUnchanged, GivesRowsBack, IsAnswered, KeepsRows};
 
-/// A statement that is refused, that reads, or whose transaction is aborted is executed at the desk and changes no rows,
-/// also where names have come.
+/// A statement that is refused, that reads, or whose transaction is aborted is executed at the desk and changes no
+/// rows, also where names have come.
 pub fn statements_that_change_no_rows_are_executed()
     ensures refused { (code : ℕ) (sentence : Sentence) (desk : DeskState) (session : Session)
         (new_desk : DeskState) (now : Session)
@@ -64,8 +65,8 @@ pub fn refusals_are_executed_on_rows()
 
 /// A SELECT is executed on rows, which stay: with a reader of its own, or inside the transaction that is open.
 pub fn selects_are_executed_on_rows()
-    ensures alone { (s : Statement) (beginning : Beginning) (past : SessionPast) (file : LoadedFile)
-        (old now : RowWorld) (said : Reply)
+    ensures alone { (s : Statement) (beginning : Beginning) (past : SessionPast)
+        (file : LoadedFile) (old now : RowWorld) (said : Reply)
         → HasRows beginning past old → is_select s ≡ true
         → LeavesReading (Says s) old.desk old.session now.desk now.session → KeepsRows old now
         → IsAnswered beginning past old.session (Says s) file
@@ -74,13 +75,14 @@ pub fn selects_are_executed_on_rows()
     ensures inside { (writer : Snapshot) (s : Statement) (beginning : Beginning)
         (past : SessionPast) (file : LoadedFile) (old now : RowWorld) (said : Reply)
         → HasRows beginning past old → is_select s ≡ true
-        → LeavesNothing writer (Says s) old.desk old.session now.desk now.session → KeepsRows old now
+        → LeavesNothing writer (Says s) old.desk old.session now.desk now.session
+        → KeepsRows old now
         → IsAnswered beginning past old.session (Says s) file [] (names_of now.dictionaries) said
         → HasExecutedOnRows beginning past (Says s) old now said }
 {}
 
-/// An INSERT, a LOAD or a DELETE whose transaction is aborted is executed on rows. Those stay where it has changed none of
-/// them, and else go back.
+/// An INSERT, a LOAD or a DELETE whose transaction is aborted is executed on rows. Those stay where it has changed none
+/// of them, and else go back.
 pub fn aborts_are_executed_on_rows()
     ensures alone { (cause : AbortCause) (sentence : Sentence) (beginning : Beginning)
         (past : SessionPast) (file : LoadedFile) (old now : RowWorld) (said : Reply)
@@ -108,8 +110,8 @@ pub fn aborts_are_executed_on_rows()
         → HasExecutedOnRows beginning past sentence old now said }
 {}
 
-/// An INSERT, a LOAD or a DELETE that is done is executed on rows, which change: by a transaction of its own, or inside the
-/// one that is open.
+/// An INSERT, a LOAD or a DELETE that is done is executed on rows, which change: by a transaction of its own, or inside
+/// the one that is open.
 pub fn changes_are_executed_on_rows()
     ensures alone { (sentence : Sentence) (beginning : Beginning) (past : SessionPast)
         (file : LoadedFile) (c : CodedOperation) (old now : RowWorld) (said : Reply)

@@ -1,2 +1,4 @@
 pub mod FoldedRows
 pub mod NamesFor
+pub mod LinesAnswered
+pub mod LinesRefused

@@ -11,7 +11,10 @@ use Rattle.cube_language.specs.declared.statement.Statement.{Statement}
 use Rattle.cube_run.specs.RunRecords.{cube_needed}
 use Rattle.names_dict.specs.Dictionaries.{names_of}
 use Rattle.condition_spans.specs.Codes.{lists_at}
-use Rattle.query_plan.specs.Bindings.{IsQueryOn}
+use Rattle.cube_values.specs.declared.call_error.CallError.{CallError}
+use Rattle.cube_values.specs.declared.call_error.CallError.TheVariants.{Fault, NoMemory}
+use Rattle.query_plan.specs.Bindings.{IsBindFault, IsQueryOn}
+use Rattle.query_plan.specs.declared.fault.BindFault.{BindFault}
 use Rattle.query_plan.specs.Ties.{AreDistinct, rows_taken}
 use Rattle.plain_rows.specs.HeldRows.{rows_at}
 use Rattle.session_rows.specs.declared.cubes.Cubes.{Cubes}
@@ -38,3 +41,12 @@ lines_now cubes bound =
     first_rows bound.plan
     (table_of bound.query.group bound.query.items
     (rows_taken (lists_at (names_of cubes.names) bound.query.cube) bound.query (rows_at cubes.rows bound.query.cube).now))
+
+-- A table has the lines of a statement that is bound here.
+abbrev pub AreItsLines : Cubes → Statement → List (List Field) → Type 0
+AreItsLines cubes s table = (bound : BoundSelect) × (IsBoundHere cubes s bound × (table ≡ lines_now cubes bound))
+
+-- Why a statement is bound to none of the cubes, unless memory ran out.
+abbrev pub IsWhyUnbound : List Decl → Statement → CallError BindFault → Type 0
+IsWhyUnbound cubes s (Fault fault) = IsBindFault cubes s fault
+IsWhyUnbound cubes s NoMemory = Unit {0}

@@ -3,5 +3,7 @@
 
 mod lines;
 mod names;
+mod selecting;
 
 pub use lines::{BoundSelect, bind_lines, lines_of};
+pub use selecting::select;

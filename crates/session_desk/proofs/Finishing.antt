@@ -324,7 +324,7 @@ without_transaction session more = record {
   round_every = session.round_every;
 }
 
-held_open : (desk : DeskState) (session : Session) (epoch : ℕ) → IsAtDesk desk session
+pub held_open : (desk : DeskState) (session : Session) (epoch : ℕ) → IsAtDesk desk session
     → HasOpen session.mode epoch → held_epoch (state_of desk.register) 1 ≡ epoch
 held_open desk session epoch at o =
     held_here (state_of desk.register) desk.register.safe o.writer (serving_open desk session epoch at o)

@@ -17,3 +17,4 @@ pub mod Changing
 pub mod OpenBegun
 pub mod SettledAtDesk
 pub mod Moving
+pub mod Turning

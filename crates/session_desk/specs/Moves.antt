@@ -8,6 +8,8 @@ use Rattle.cube_run.specs.SessionStates.{Mode, Idle, Open, Aborted}
 use Rattle.cube_run.specs.SessionSteps.{session_part}
 use Rattle.aosi_register.specs.State.{state_of}
 use Rattle.aosi_desk.specs.Desks.{DeskState}
+use Rattle.session_replies.specs.Modes.{mode_of}
+use Rattle.session_desk.specs.declared.session.Session.{Session}
 
 -- The session has committed the transaction of an epoch.
 abbrev pub is_committed_at : DeskState → ℕ → Bool
@@ -29,6 +31,10 @@ KeepsOpen next (Open writer) mode = mode ≡ Open writer
 KeepsOpen next Idle (Open writer) = writer.epoch ≡ next
 KeepsOpen next (Aborted epoch) (Open writer) = ⊥
 KeepsOpen next mode new = Unit {0}
+
+-- The same of a session and of its desk before a statement.
+abbrev pub OpenStays : DeskState → Session → Session → Type 0
+OpenStays desk session now = KeepsOpen (state_of desk.register).ec (mode_of session.mode) (mode_of now.mode)
 
 -- The epoch is this one, if there is one.
 abbrev pub is_epoch_of : Option ℕ → ℕ → Bool

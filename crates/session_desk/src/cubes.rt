@@ -12,6 +12,7 @@ ghost use Rattle.session_replies.specs.Modes.{mode_of};
 ghost use Rattle.session_desk.specs.AtDesk.{IsAtDesk};
 ghost use Rattle.session_desk.specs.CubeReplies.{HasNewName, created_reply, cubes_after_answer, cubes_after_create};
 ghost use Rattle.session_desk.specs.Executed.{ExecutesAtDesk, IfReplied};
+ghost use Rattle.session_desk.specs.Moves.{MovesOn, OpenStays};
 
 use crate::answered::Answered;
 use crate::refusals::refuse_memory;
@@ -69,6 +70,8 @@ fn create_named(
     ensures at { IsAtDesk desk.new session.new }
     ensures number { session.new.statements ≡ session.old.statements + 1 }
     ensures cubes { desk.new.cubes ≡ cubes_after_create desk.old.cubes decl result }
+    ensures moves { MovesOn None desk.old desk.new }
+    ensures turns { OpenStays desk.old session.old session.new }
     ensures schemas { cubes.new.items ≡ cubes_after_create cubes.old.items decl result }
     ensures new { HasNewName desk.old.cubes decl result }
     ensures executed { IfReplied result
@@ -98,6 +101,8 @@ fn refuse_create(desk: &mut Desk, session: &mut Session, decl: &Decl) -> Answere
     ensures at { IsAtDesk desk.new session.new }
     ensures number { session.new.statements ≡ session.old.statements + 1 }
     ensures cubes { desk.new.cubes ≡ desk.old.cubes }
+    ensures moves { MovesOn None desk.old desk.new }
+    ensures turns { OpenStays desk.old session.old session.new }
     ensures said { IfReplied result (λ said. said ≡ reply.Refused cause.NoMemory) }
     ensures executed { IfReplied result (ExecutesAtDesk (Says (statement.CreateCube decl.now))
         desk.old session.old desk.new session.new) }
@@ -122,6 +127,8 @@ fn create_with_room(
     ensures at { IsAtDesk desk.new session.new }
     ensures number { session.new.statements ≡ session.old.statements + 1 }
     ensures cubes { desk.new.cubes ≡ cubes_after_create desk.old.cubes decl result }
+    ensures moves { MovesOn None desk.old desk.new }
+    ensures turns { OpenStays desk.old session.old session.new }
     ensures schemas { cubes.new.items ≡ cubes_after_create cubes.old.items decl result }
     ensures new { HasNewName desk.old.cubes decl result }
     ensures executed { IfReplied result
@@ -150,6 +157,8 @@ fn create_storable(
     ensures at { IsAtDesk desk.new session.new }
     ensures number { session.new.statements ≡ session.old.statements + 1 }
     ensures cubes { desk.new.cubes ≡ cubes_after_create desk.old.cubes decl result }
+    ensures moves { MovesOn None desk.old desk.new }
+    ensures turns { OpenStays desk.old session.old session.new }
     ensures schemas { cubes.new.items ≡ cubes_after_create cubes.old.items decl result }
     ensures new { HasNewName desk.old.cubes decl result }
     ensures executed { IfReplied result
@@ -171,6 +180,8 @@ fn refuse_fault(desk: &mut Desk, session: &mut Session, decl: &Decl, fault: Sche
     ensures at { IsAtDesk desk.new session.new }
     ensures number { session.new.statements ≡ session.old.statements + 1 }
     ensures cubes { desk.new.cubes ≡ desk.old.cubes }
+    ensures moves { MovesOn None desk.old desk.new }
+    ensures turns { OpenStays desk.old session.old session.new }
     ensures said { IfReplied result (λ said. said ≡ reply.Refused (cause.BadCube fault)) }
     ensures executed { IfReplied result (ExecutesAtDesk (Says (statement.CreateCube decl.now))
         desk.old session.old desk.new session.new) }
@@ -194,6 +205,8 @@ pub fn create_cube(
     ensures at { IsAtDesk desk.new session.new }
     ensures number { session.new.statements ≡ session.old.statements + 1 }
     ensures cubes { desk.new.cubes ≡ cubes_after_create desk.old.cubes decl result }
+    ensures moves { MovesOn None desk.old desk.new }
+    ensures turns { OpenStays desk.old session.old session.new }
     ensures schemas { cubes.new.items ≡ cubes_after_create cubes.old.items decl result }
     ensures new { HasNewName desk.old.cubes decl result }
     ensures executed { IfReplied result

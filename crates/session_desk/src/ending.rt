@@ -1,10 +1,12 @@
 //! The end of the script, and the closing round.
 
-ghost use Rattle.std.specs.Prelude.{◌≡◌, ◌≤◌, OnOk, OnErr};
+ghost use Rattle.std.specs.Prelude.{◌≡◌, ◌≤◌, OnOk, OnErr, None};
 ghost use Rattle.one_session.specs.Pasts.{Beginning, SessionPast};
 ghost use Rattle.cube_run.specs.SessionStates.{SessionState};
+ghost use Rattle.session_replies.specs.Modes.{mode_of};
 ghost use Rattle.session_desk.specs.AtDesk.{IsAtDesk, IsOpen};
 ghost use Rattle.session_desk.specs.Ended.{EndsAtDesk, HasEnded};
+ghost use Rattle.session_desk.specs.Moves.{IsClosed, MovesOn};
 
 use crate::rounds::make_round;
 use crate::session::{SESSION, Session};
@@ -22,6 +24,8 @@ pub fn end(desk: &mut Desk, session: &mut Session)
     ensures closed { IsOpen session.new.mode → ⊥ }
     ensures ended { EndsAtDesk desk.old session.old desk.new }
     ensures cubes { desk.new.cubes ≡ desk.old.cubes }
+    ensures moves { MovesOn None desk.old desk.new }
+    ensures turns { IsClosed (mode_of session.new.mode) }
 {
     if let SessionMode::Open { .. } = session.mode {
         desk.abort_end(SESSION, session.statements + 1, AbortCause::EndOfScript);
@@ -37,6 +41,7 @@ pub fn close(desk: &mut Desk, session: &Session) -> Result<(), AllocError>
         → HasEnded beginning past state desk.old → HasEnded beginning past state desk.new) }
     ensures same { OnErr result (desk.new ≡ desk.old) }
     ensures cubes { desk.new.cubes ≡ desk.old.cubes }
+    ensures moves { MovesOn None desk.old desk.new }
 {
     make_round(desk)
 }

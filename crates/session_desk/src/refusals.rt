@@ -1,6 +1,6 @@
 //! Statements that are not looked at further.
 
-ghost use Rattle.std.specs.Prelude.{◌≡◌, ◌+◌, ◌<◌, Some};
+ghost use Rattle.std.specs.Prelude.{◌≡◌, ◌+◌, ◌<◌, Some, None};
 ghost use Rattle.cube_language.specs.declared.statement.Statement.{Statement};
 ghost use Rattle.cube_journal.specs.declared.refusal.Refusal.TheVariants as cause;
 ghost use Rattle.cube_journal.specs.declared.reply.Reply.TheVariants as reply;
@@ -9,6 +9,7 @@ ghost use Rattle.cube_run.specs.StepOutcomes.{refused_by_mode};
 ghost use Rattle.session_replies.specs.Modes.{mode_of};
 ghost use Rattle.session_desk.specs.AtDesk.{IsAtDesk};
 ghost use Rattle.session_desk.specs.Executed.{ExecutesAtDesk, IfReplied};
+ghost use Rattle.session_desk.specs.Moves.{MovesOn, OpenStays};
 
 use crate::answered::Answered;
 use crate::refusing::refuse;
@@ -24,6 +25,8 @@ pub fn refuse_syntax(desk: &mut Desk, session: &mut Session, fault: Syntax) -> A
     ensures at { IsAtDesk desk.new session.new }
     ensures number { session.new.statements ≡ session.old.statements + 1 }
     ensures cubes { desk.new.cubes ≡ desk.old.cubes }
+    ensures moves { MovesOn None desk.old desk.new }
+    ensures turns { OpenStays desk.old session.old session.new }
     ensures said { IfReplied result (λ said. said ≡ reply.Refused (cause.Syntax fault)) }
     ensures executed { IfReplied result
         (ExecutesAtDesk (SaysNone fault.at) desk.old session.old desk.new session.new) }
@@ -41,6 +44,8 @@ pub fn refuse_by_mode(desk: &mut Desk, session: &mut Session, refusal: Refusal) 
     ensures at { IsAtDesk desk.new session.new }
     ensures number { session.new.statements ≡ session.old.statements + 1 }
     ensures cubes { desk.new.cubes ≡ desk.old.cubes }
+    ensures moves { MovesOn None desk.old desk.new }
+    ensures turns { OpenStays desk.old session.old session.new }
     ensures said { IfReplied result (λ said. said ≡ reply.Refused refusal) }
     ensures executed { IfReplied result (λ said. (s : Statement)
         → refused_by_mode (mode_of session.old.mode) s ≡ Some refusal
@@ -57,6 +62,8 @@ pub fn refuse_memory(desk: &mut Desk, session: &mut Session) -> Answered
     ensures at { IsAtDesk desk.new session.new }
     ensures number { session.new.statements ≡ session.old.statements + 1 }
     ensures cubes { desk.new.cubes ≡ desk.old.cubes }
+    ensures moves { MovesOn None desk.old desk.new }
+    ensures turns { OpenStays desk.old session.old session.new }
     ensures said { IfReplied result (λ said. said ≡ reply.Refused cause.NoMemory) }
     ensures executed { IfReplied result (λ said. (sentence : Sentence)
         → ExecutesAtDesk sentence desk.old session.old desk.new session.new said) }

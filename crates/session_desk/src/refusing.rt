@@ -1,11 +1,12 @@
 //! Refusals at the desk.
 
-ghost use Rattle.std.specs.Prelude.{◌≡◌, ◌≢◌, false, OnOk, OnErr};
+ghost use Rattle.std.specs.Prelude.{◌≡◌, ◌≢◌, false, OnOk, OnErr, None};
 ghost use Rattle.cube_journal.specs.Refusals.{code};
 ghost use Rattle.cube_journal.specs.declared.journal_entry.JournalEntry.TheVariants as entry;
 ghost use Rattle.cube_journal.specs.declared.reply.Reply.TheVariants as reply;
 ghost use Rattle.aosi_desk.specs.Desks.{desk_with_entry, is_cube_code};
 ghost use Rattle.session_desk.specs.Executed.{IfReplied, OnStopped};
+ghost use Rattle.session_desk.specs.Moves.{MovesOn};
 
 use crate::answered::Answered;
 use crate::session::SESSION;
@@ -21,6 +22,7 @@ pub(crate) fn note_refusal(desk: &mut Desk, statement: u32, code: u32) -> Result
     ensures desk { OnOk result (desk.new
         ≡ desk_with_entry desk.old (entry.Refused 1 statement code)) }
     ensures same { OnErr result (desk.new ≡ desk.old) }
+    ensures moves { MovesOn None desk.old desk.new }
 {
     let _counters = desk.note(&Note::Refused {
         session: SESSION,
@@ -39,6 +41,7 @@ pub fn refuse(desk: &mut Desk, statement: u32, refusal: Refusal) -> Answered
         ≡ desk_with_entry desk.old (entry.Refused 1 statement (code refusal))) }
     ensures same { OnStopped result (desk.new ≡ desk.old) }
     ensures cubes { desk.new.cubes ≡ desk.old.cubes }
+    ensures moves { MovesOn None desk.old desk.new }
 {
     match note_refusal(desk, statement, refusal.code()) {
         Ok(()) => Answered::Replied(Reply::Refused { refusal }),

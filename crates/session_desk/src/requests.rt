@@ -1,6 +1,6 @@
 //! FLUSH, PURGE and SHOW EPOCHS, in whatever mode.
 
-ghost use Rattle.std.specs.Prelude.{◌≡◌, ◌+◌, ◌<◌};
+ghost use Rattle.std.specs.Prelude.{◌≡◌, ◌+◌, ◌<◌, None};
 ghost use Rattle.cube_language.specs.declared.statement.Statement.TheVariants as statement;
 ghost use Rattle.cube_run.specs.RunRecords.{Says};
 ghost use Rattle.session_desk.specs.AtDesk.{IsAtDesk};
@@ -10,6 +10,7 @@ ghost use Rattle.cube_journal.specs.declared.reply.Reply.TheVariants as reply;
 ghost use Rattle.aosi_register.specs.State.{state_of};
 ghost use Rattle.aosi_desk.specs.Desks.{desk_with_entry};
 ghost use Rattle.session_desk.specs.Executed.{ExecutesAtDesk, IfReplied, OnStopped};
+ghost use Rattle.session_desk.specs.Moves.{MovesOn, OpenStays};
 
 use crate::answered::Answered;
 use crate::refusing::refuse;
@@ -28,6 +29,7 @@ fn note_flush(desk: &mut Desk, statement: u32) -> Answered
         ≡ reply.Flushed (state_of desk.old.register).lse) }
     ensures same { OnStopped result (desk.new ≡ desk.old) }
     ensures cubes { desk.new.cubes ≡ desk.old.cubes }
+    ensures moves { MovesOn None desk.old desk.new }
 {
     let flushed = Note::Flushed {
         session: SESSION,
@@ -48,6 +50,8 @@ pub fn flush(desk: &mut Desk, session: &mut Session) -> Answered
     ensures at { IsAtDesk desk.new session.new }
     ensures number { session.new.statements ≡ session.old.statements + 1 }
     ensures cubes { desk.new.cubes ≡ desk.old.cubes }
+    ensures moves { MovesOn None desk.old desk.new }
+    ensures turns { OpenStays desk.old session.old session.new }
     ensures executed { IfReplied result
         (ExecutesAtDesk (Says statement.Flush) desk.old session.old desk.new session.new) }
 {
@@ -65,6 +69,8 @@ pub fn purge(desk: &mut Desk, session: &mut Session) -> Answered
     ensures at { IsAtDesk desk.new session.new }
     ensures number { session.new.statements ≡ session.old.statements + 1 }
     ensures cubes { desk.new.cubes ≡ desk.old.cubes }
+    ensures moves { MovesOn None desk.old desk.new }
+    ensures turns { OpenStays desk.old session.old session.new }
     ensures executed { IfReplied result
         (ExecutesAtDesk (Says statement.Purge) desk.old session.old desk.new session.new) }
 {
@@ -88,6 +94,8 @@ pub fn show_epochs(desk: &mut Desk, session: &mut Session) -> Answered
     ensures at { IsAtDesk desk.new session.new }
     ensures number { session.new.statements ≡ session.old.statements + 1 }
     ensures cubes { desk.new.cubes ≡ desk.old.cubes }
+    ensures moves { MovesOn None desk.old desk.new }
+    ensures turns { OpenStays desk.old session.old session.new }
     ensures executed { IfReplied result
         (ExecutesAtDesk (Says statement.ShowEpochs) desk.old session.old desk.new session.new) }
 {

@@ -8,6 +8,7 @@ ghost use Rattle.session_replies.specs.Modes.{mode_of};
 ghost use Rattle.session_replies.specs.declared.mode.SessionMode.TheVariants as variant;
 ghost use Rattle.session_desk.specs.AtDesk.{IsAtDesk, IsOpen, IsOpenAt};
 ghost use Rattle.session_desk.specs.Executed.{ExecutesAtDesk, IfReplied};
+ghost use Rattle.session_desk.specs.Moves.{IsClosed, MovesOn, OpenStays, epoch_in};
 
 use crate::answered::Answered;
 use crate::refusing::refuse;
@@ -26,6 +27,8 @@ pub fn begin(desk: &mut Desk, session: &mut Session) -> Answered
     ensures at { IsAtDesk desk.new session.new }
     ensures number { session.new.statements ≡ session.old.statements + 1 }
     ensures cubes { desk.new.cubes ≡ desk.old.cubes }
+    ensures moves { MovesOn None desk.old desk.new }
+    ensures turns { OpenStays desk.old session.old session.new }
     ensures executed { IfReplied result
         (ExecutesAtDesk (Says statement.Begin) desk.old session.old desk.new session.new) }
 {
@@ -59,6 +62,8 @@ pub fn commit(desk: &mut Desk, session: &mut Session) -> Answered
     ensures at { IsAtDesk desk.new session.new }
     ensures number { session.new.statements ≡ session.old.statements + 1 }
     ensures cubes { desk.new.cubes ≡ desk.old.cubes }
+    ensures moves { MovesOn (epoch_in (mode_of session.old.mode)) desk.old desk.new }
+    ensures turns { IsClosed (mode_of session.new.mode) }
     ensures executed { IfReplied result
         (ExecutesAtDesk (Says statement.Commit) desk.old session.old desk.new session.new) }
 {
@@ -83,6 +88,8 @@ fn roll_back_open(desk: &mut Desk, session: &mut Session) -> Answered
     ensures at { IsAtDesk desk.new session.new }
     ensures number { session.new.statements ≡ session.old.statements + 1 }
     ensures cubes { desk.new.cubes ≡ desk.old.cubes }
+    ensures moves { MovesOn None desk.old desk.new }
+    ensures turns { IsClosed (mode_of session.new.mode) }
     ensures executed { IfReplied result
         (ExecutesAtDesk (Says statement.Rollback) desk.old session.old desk.new session.new) }
 {
@@ -101,6 +108,8 @@ fn clear(desk: &mut Desk, session: &mut Session, epoch: u64) -> Answered
     ensures at { IsAtDesk desk.new session.new }
     ensures number { session.new.statements ≡ session.old.statements + 1 }
     ensures cubes { desk.new.cubes ≡ desk.old.cubes }
+    ensures moves { MovesOn None desk.old desk.new }
+    ensures turns { IsClosed (mode_of session.new.mode) }
     ensures executed { IfReplied result
         (ExecutesAtDesk (Says statement.Rollback) desk.old session.old desk.new session.new) }
 {
@@ -119,7 +128,7 @@ fn clear(desk: &mut Desk, session: &mut Session, epoch: u64) -> Answered
 }
 
 /// ROLLBACK: ends the writer of the transaction that is open, or leaves behind the one that a fault ended.
-/// What it wrote is to be undone beside this.
+/// What it wrote is to be undone beside this. Nothing is open then, also where that is refused.
 pub fn rollback(desk: &mut Desk, session: &mut Session) -> Answered
     requires at { IsAtDesk desk.old session.old }
     requires few { session.old.statements < MOST_STATEMENTS }
@@ -127,6 +136,8 @@ pub fn rollback(desk: &mut Desk, session: &mut Session) -> Answered
     ensures at { IsAtDesk desk.new session.new }
     ensures number { session.new.statements ≡ session.old.statements + 1 }
     ensures cubes { desk.new.cubes ≡ desk.old.cubes }
+    ensures moves { MovesOn None desk.old desk.new }
+    ensures turns { IsClosed (mode_of session.new.mode) }
     ensures executed { IfReplied result
         (ExecutesAtDesk (Says statement.Rollback) desk.old session.old desk.new session.new) }
 {

@@ -10,6 +10,7 @@ ghost use Rattle.session_replies.specs.Modes.{mode_of};
 ghost use Rattle.session_desk.specs.AtDesk.{IsAtDesk};
 ghost use Rattle.session_desk.specs.Entries.{HasRefusal};
 ghost use Rattle.session_desk.specs.Executed.{ExecutesAtDesk, IfReplied};
+ghost use Rattle.session_desk.specs.Moves.{MovesOn, OpenStays};
 
 use crate::answered::Answered;
 use crate::refusing::refuse;
@@ -52,6 +53,8 @@ fn refuse_unknown(
         ≡ record session.old { statements = session.old.statements + 1 } }
     ensures refused { IfReplied result
         (λ said. HasRefusal session.new.statements desk.old desk.new) }
+    ensures moves { MovesOn None desk.old desk.new }
+    ensures turns { OpenStays desk.old session.old session.new }
     ensures executed { IfReplied result
         (ExecutesAtDesk (Says statement.now) desk.old session.old desk.new session.new) }
 {
@@ -82,6 +85,8 @@ fn refuse_unfit(
         ≡ record session.old { statements = session.old.statements + 1 } }
     ensures refused { IfReplied result
         (λ said. HasRefusal session.new.statements desk.old desk.new) }
+    ensures moves { MovesOn None desk.old desk.new }
+    ensures turns { OpenStays desk.old session.old session.new }
     ensures executed { IfReplied result
         (ExecutesAtDesk (Says statement.now) desk.old session.old desk.new session.new) }
 {
@@ -109,6 +114,8 @@ pub fn refuse_unbound(
         ≡ record session.old { statements = session.old.statements + 1 } }
     ensures refused { IfReplied result
         (λ said. HasRefusal session.new.statements desk.old desk.new) }
+    ensures moves { MovesOn None desk.old desk.new }
+    ensures turns { OpenStays desk.old session.old session.new }
     ensures executed { IfReplied result
         (ExecutesAtDesk (Says statement.now) desk.old session.old desk.new session.new) }
 {

@@ -10,10 +10,10 @@ use Rattle.plain_rows.specs.HeldRows.{HeldRows, no_rows, rows_at, with_rows_back
 use Rattle.session_replies.specs.Modes.{mode_of}
 use Rattle.session_desk.specs.declared.session.Session.{Session}
 use Rattle.session_desk.specs.Executed.{HasExecuted}
-use Rattle.session_desk.specs.Moves.{IsClosed, epoch_in}
+use Rattle.session_desk.specs.Moves.{IsClosed, OpenStays, epoch_in}
 use Rattle.session_rows.specs.Coded.{done_operations}
 use Rattle.session_rows.specs.CubesAtDesk.{ExecutesOnRows, row_world}
-use Rattle.session_rows.specs.DeskOnRows.{GainsCube, IsDoneAtDesk, StaysOpen, cubes_back, cubes_kept}
+use Rattle.session_rows.specs.DeskOnRows.{GainsCube, IsDoneAtDesk, cubes_back, cubes_kept}
 use Rattle.session_rows.specs.RowsBehind.{world_of}
 use Rattle.session_rows.specs.RowsExecuted.{GoesBack, IsKept, StaysHeld}
 use Rattle.session_rows.specs.declared.cubes.Cubes.{Cubes}
@@ -31,7 +31,7 @@ rows_kept held place =
 
 pub desk_stays : (sentence : Sentence) (desk : DeskState) (session : Session) (cubes : Cubes) (new_desk : DeskState)
     (now : Session) (said : Reply) → IsDoneAtDesk sentence None desk session cubes new_desk now said
-    → new_desk.cubes ≡ desk.cubes → StaysOpen desk session now
+    → new_desk.cubes ≡ desk.cubes → OpenStays desk session now
     → ExecutesOnRows sentence desk session cubes new_desk now cubes said
 desk_stays sentence desk session cubes new_desk now said x same turns = λ beginning past coded h. (
   coded,
@@ -104,7 +104,7 @@ last_of (g ∷ held) h (suc place) is = last_of held h place (omega (arith, is))
 pub desk_creates : (sentence : Sentence) (d : Decl) (desk : DeskState) (session : Session) (cubes : Cubes)
     (new_desk : DeskState) (now : Session) (new_cubes : Cubes) (said : Reply)
     → IsDoneAtDesk sentence None desk session cubes new_desk now said → new_desk.cubes ≡ desk.cubes ++ d ∷ []
-    → StaysOpen desk session now → GainsCube d cubes new_cubes
+    → OpenStays desk session now → GainsCube d cubes new_cubes
     → ExecutesOnRows sentence desk session cubes new_desk now new_cubes said
 desk_creates sentence d desk session cubes new_desk now new_cubes said x made turns g = λ beginning past coded h.
     let none = no_rows (length d.dims) (length d.metrics) in

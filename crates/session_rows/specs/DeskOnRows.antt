@@ -4,11 +4,9 @@ use Rattle.std.specs.Prelude.{◌≡◌, ◌++◌, ◌∷◌, [], Option}
 use Rattle.cube_language.specs.declared.decl.Decl.{Decl}
 use Rattle.cube_journal.specs.declared.reply.Reply.{Reply}
 use Rattle.cube_run.specs.RunRecords.{Sentence}
-use Rattle.aosi_register.specs.State.{state_of}
 use Rattle.aosi_desk.specs.Desks.{DeskState}
 use Rattle.plain_rows.specs.HeldRows.{no_rows, with_rows_back, with_rows_kept}
 use Rattle.std.specs.Prelude.{ℕ, length, map}
-use Rattle.session_replies.specs.Modes.{mode_of}
 use Rattle.session_desk.specs.declared.session.Session.{Session}
 use Rattle.session_desk.specs.Executed.{ExecutesAtDesk}
 use Rattle.session_desk.specs.Moves.{KeepsOpen, MovesOn}
@@ -21,10 +19,6 @@ pub record IsDoneAtDesk (sentence : Sentence) (committed : Option ℕ) (desk : D
   pub at : IsAtCubes desk session cubes
   pub executed : ExecutesAtDesk sentence desk session new_desk now said
   pub moves : MovesOn committed desk new_desk
-
--- What is open stays so.
-abbrev pub StaysOpen : DeskState → Session → Session → Type 0
-StaysOpen desk session now = KeepsOpen (state_of desk.register).ec (mode_of session.mode) (mode_of now.mode)
 
 -- The cubes with their rows as a rollback, or a commit, leaves them.
 abbrev pub cubes_back : Cubes → Cubes

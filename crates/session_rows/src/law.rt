@@ -19,12 +19,12 @@ ghost use Rattle.session_replies.specs.Modes.{mode_of};
 ghost use Rattle.session_desk.specs.AtDesk.{IsServing};
 ghost use Rattle.session_desk.specs.declared.session.Session.{Session};
 ghost use Rattle.session_desk.specs.Executed.{HasExecuted};
-ghost use Rattle.session_desk.specs.Moves.{IsClosed, epoch_in};
+ghost use Rattle.session_desk.specs.Moves.{IsClosed, OpenStays, epoch_in};
 ghost use Rattle.aosi_desk.specs.Desks.{DeskState};
 ghost use Rattle.session_desk.specs.Standing.{StandsBehind, World, session_state};
 ghost use Rattle.session_rows.specs.Coded.{CodedOperation};
 ghost use Rattle.session_rows.specs.CubesAtDesk.{AllAreNamed, AreItsNames, AreWholeCubes, ExecutesOnRows, GainsNames, HaveCome, row_world};
-ghost use Rattle.session_rows.specs.DeskOnRows.{GainsCube, IsDoneAtDesk, StaysOpen, cubes_back, cubes_kept};
+ghost use Rattle.session_rows.specs.DeskOnRows.{GainsCube, IsDoneAtDesk, cubes_back, cubes_kept};
 ghost use Rattle.session_rows.specs.declared.cubes.Cubes.{Cubes};
 ghost use Rattle.session_rows.specs.PlayedOnRows.{HasPlayedOnRows};
 ghost use Rattle.session_rows.specs.RowsBehind.{HasRows, RowWorld, world_of};
@@ -130,7 +130,7 @@ pub fn statements_at_the_desk_are_executed_on_rows()
     ensures stays { (sentence : Sentence) (desk : DeskState) (session : Session) (cubes : Cubes)
         (new_desk : DeskState) (now : Session) (said : Reply)
         → IsDoneAtDesk sentence None desk session cubes new_desk now said
-        → new_desk.cubes ≡ desk.cubes → StaysOpen desk session now
+        → new_desk.cubes ≡ desk.cubes → OpenStays desk session now
         → ExecutesOnRows sentence desk session cubes new_desk now cubes said }
     ensures rolled_back { (sentence : Sentence) (desk : DeskState) (session : Session)
         (cubes : Cubes) (new_desk : DeskState) (now : Session) (said : Reply)
@@ -145,7 +145,7 @@ pub fn statements_at_the_desk_are_executed_on_rows()
     ensures created { (sentence : Sentence) (d : Decl) (desk : DeskState) (session : Session)
         (cubes : Cubes) (new_desk : DeskState) (now : Session) (new_cubes : Cubes) (said : Reply)
         → IsDoneAtDesk sentence None desk session cubes new_desk now said
-        → new_desk.cubes ≡ desk.cubes ++ d ∷ [] → StaysOpen desk session now
+        → new_desk.cubes ≡ desk.cubes ++ d ∷ [] → OpenStays desk session now
         → GainsCube d cubes new_cubes
         → ExecutesOnRows sentence desk session cubes new_desk now new_cubes said }
 {}

@@ -12,6 +12,10 @@ use Rattle.session_desk.specs.Executed.{ExecutesAtDesk}
 use Rattle.session_desk.proofs.Making.{answers_made, at_answer}
 use Rattle.session_desk.proofs.MakingCubes.{after_reply, desk_cubes, new_name, refusal_makes_none, refusal_names_none}
 use Rattle.session_desk.proofs.Replying.{at_refuse, counted, memory_refused}
+use Rattle.std.proofs.Common.{None}
+use Rattle.aosi_register.specs.State.{state_of}
+use Rattle.session_replies.specs.Modes.{mode_of}
+use Rattle.session_desk.proofs.Turning.{keeps_itself, moves_answered, moves_from}
 use Rattle.session_desk.proofs.cubes.create_named.Goals as goal
 
 pub returns-in-Ok-clause-at : goal.returns-in-Ok-clause-at
@@ -68,3 +72,21 @@ returns-in-Err-clause-schemas c =
 pub returns-in-Err-clause-new : goal.returns-in-Err-clause-new
 returns-in-Err-clause-new c =
     refusal_names_none c.refuse.result NoMemory c.args.desk.now.cubes c.args.decl c.refuse.ensures.said
+
+pub returns-in-Ok-clause-moves : goal.returns-in-Ok-clause-moves
+returns-in-Ok-clause-moves c =
+    moves_answered (c.args.session.now.statements + 1) c.args.decl c.in-Ok.answer c.args.desk.now c.create_cube.new.self
+    c.in-Ok.ensures.desk
+
+pub returns-in-Ok-clause-turns : goal.returns-in-Ok-clause-turns
+returns-in-Ok-clause-turns c =
+    keeps_itself (state_of c.args.desk.now.register).ec (mode_of c.args.session.now.mode)
+
+pub returns-in-Err-clause-moves : goal.returns-in-Err-clause-moves
+returns-in-Err-clause-moves c =
+    moves_from None c.args.desk.now c.create_cube.new.self c.refuse.new.desk c.in-Err.ensures.same
+    c.refuse.ensures.moves
+
+pub returns-in-Err-clause-turns : goal.returns-in-Err-clause-turns
+returns-in-Err-clause-turns c =
+    keeps_itself (state_of c.args.desk.now.register).ec (mode_of c.args.session.now.mode)

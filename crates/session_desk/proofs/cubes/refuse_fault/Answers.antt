@@ -7,6 +7,9 @@ use Rattle.aosi_desk.specs.Desks.{desk_with_entry}
 use Rattle.session_desk.specs.Executed.{ExecutesAtDesk}
 use Rattle.session_desk.proofs.Making.{refuses_faulty}
 use Rattle.session_desk.proofs.Replying.{counted, if_refused, refuses_next}
+use Rattle.session_desk.proofs.Turning.{keeps_itself}
+use Rattle.aosi_register.specs.State.{state_of}
+use Rattle.session_replies.specs.Modes.{mode_of}
 use Rattle.session_desk.proofs.cubes.refuse_fault.Goals as goal
 
 pub returns-clause-executed : goal.returns-clause-executed
@@ -19,3 +22,7 @@ returns-clause-executed c =
     c.refuse.ensures.said c.refuse.ensures.desk
     (λ added. refuses_faulty c.args.decl.now c.args.fault desk session c.refuse.new.desk (counted session)
     c.requires.idle (refuses_next 20 desk session desk c.refuse.new.desk refl added) c.requires.fault)
+
+pub returns-clause-turns : goal.returns-clause-turns
+returns-clause-turns c =
+    keeps_itself (state_of c.args.desk.now.register).ec (mode_of c.args.session.now.mode)

@@ -10,6 +10,8 @@ use Rattle.session_replies.specs.Modes.{mode_of}
 use Rattle.session_desk.specs.Executed.{ExecutesAtDesk}
 use Rattle.session_desk.proofs.Refused.{refuses_by_mode}
 use Rattle.session_desk.proofs.Replying.{counted, if_refused, refuses_next}
+use Rattle.session_desk.proofs.Turning.{keeps_itself}
+use Rattle.aosi_register.specs.State.{state_of}
 use Rattle.session_desk.proofs.refusals.refuse_by_mode.Goals as goal
 
 pub returns-clause-executed : goal.returns-clause-executed
@@ -24,3 +26,7 @@ returns-clause-executed c =
     c.refuse.ensures.said c.refuse.ensures.desk
     (λ added s is. refuses_by_mode s r desk session c.refuse.new.desk (counted session)
     (refuses_next (code r) desk session desk c.refuse.new.desk refl added) is)
+
+pub returns-clause-turns : goal.returns-clause-turns
+returns-clause-turns c =
+    keeps_itself (state_of c.args.desk.now.register).ec (mode_of c.args.session.now.mode)

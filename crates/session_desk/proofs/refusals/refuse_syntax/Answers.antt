@@ -6,6 +6,9 @@ use Rattle.aosi_desk.specs.Desks.{desk_with_entry}
 use Rattle.session_desk.specs.Executed.{ExecutesAtDesk}
 use Rattle.session_desk.proofs.Refused.{refuses_syntax}
 use Rattle.session_desk.proofs.Replying.{counted, if_refused, refuses_next}
+use Rattle.session_desk.proofs.Turning.{keeps_itself}
+use Rattle.aosi_register.specs.State.{state_of}
+use Rattle.session_replies.specs.Modes.{mode_of}
 use Rattle.session_desk.proofs.refusals.refuse_syntax.Goals as goal
 
 pub returns-clause-executed : goal.returns-clause-executed
@@ -18,3 +21,7 @@ returns-clause-executed c =
     c.refuse.ensures.said c.refuse.ensures.desk
     (λ added. refuses_syntax c.args.fault.at desk session c.refuse.new.desk (counted session)
     (refuses_next 1 desk session desk c.refuse.new.desk refl added))
+
+pub returns-clause-turns : goal.returns-clause-turns
+returns-clause-turns c =
+    keeps_itself (state_of c.args.desk.now.register).ec (mode_of c.args.session.now.mode)

@@ -12,6 +12,10 @@ use Rattle.session_desk.specs.Executed.{ExecutesAtDesk}
 use Rattle.session_desk.proofs.Begun.{begin_executes}
 use Rattle.session_desk.proofs.May.{begin_idle}
 use Rattle.session_desk.proofs.Replying.{memory_refused}
+use Rattle.std.proofs.Common.{None}
+use Rattle.aosi_register.specs.State.{state_of}
+use Rattle.session_replies.specs.Modes.{mode_of}
+use Rattle.session_desk.proofs.Turning.{begins_open, keeps_itself, moves_begun, moves_from}
 use Rattle.session_desk.proofs.transactions.begin.Goals as goal
 
 pub returns-in-Ok-clause-executed : goal.returns-in-Ok-clause-executed
@@ -42,3 +46,21 @@ pub returns-in-Err-clause-executed : goal.returns-in-Err-clause-executed
 returns-in-Err-clause-executed c =
     memory_refused (Says Begin) c.refuse.result c.args.desk.now c.args.session.now c.open_write.new.self
     c.refuse.new.desk c.in-Err.ensures.same c.refuse.ensures.said c.refuse.ensures.desk
+
+pub returns-in-Ok-clause-moves : goal.returns-in-Ok-clause-moves
+returns-in-Ok-clause-moves c =
+    moves_begun (c.args.session.now.statements + 1) c.in-Ok.writer c.args.desk.now c.open_write.new.self
+    c.in-Ok.ensures.desk
+
+pub returns-in-Ok-clause-turns : goal.returns-in-Ok-clause-turns
+returns-in-Ok-clause-turns c =
+    begins_open (state_of c.args.desk.now.register).ec (mode_of c.args.session.now.mode) c.in-Ok.writer
+    (begin_idle c.args.session.now.mode c.requires.may) (ap (λ (s : Snapshot). s.epoch) c.in-Ok.ensures.snapshot)
+
+pub returns-in-Err-clause-moves : goal.returns-in-Err-clause-moves
+returns-in-Err-clause-moves c =
+    moves_from None c.args.desk.now c.open_write.new.self c.refuse.new.desk c.in-Err.ensures.same c.refuse.ensures.moves
+
+pub returns-in-Err-clause-turns : goal.returns-in-Err-clause-turns
+returns-in-Err-clause-turns c =
+    keeps_itself (state_of c.args.desk.now.register).ec (mode_of c.args.session.now.mode)

@@ -9,6 +9,9 @@ use Rattle.session_desk.specs.Executed.{ExecutesAtDesk}
 use Rattle.session_desk.proofs.Refused.{Refuses}
 use Rattle.session_desk.proofs.Replying.{at_refuse, counted, if_refused, refuses_next}
 use Rattle.session_desk.proofs.Unfit.{refuses_failing}
+use Rattle.session_desk.proofs.Turning.{keeps_itself}
+use Rattle.aosi_register.specs.State.{state_of}
+use Rattle.session_replies.specs.Modes.{mode_of}
 use Rattle.session_desk.proofs.unbound.refuse_unfit.Goals as goal
 
 pub returns-clause-at : goal.returns-clause-at
@@ -32,3 +35,7 @@ returns-clause-executed c =
     (λ h. refuses_failing s c.args.misfit desk session new_desk (counted session) h c.requires.may
     c.is_in_order.ensures.cubes c.requires.fails)
     (refuses_next (code r) desk session desk new_desk refl added))
+
+pub returns-clause-turns : goal.returns-clause-turns
+returns-clause-turns c =
+    keeps_itself (state_of c.args.desk.now.register).ec (mode_of c.args.session.now.mode)

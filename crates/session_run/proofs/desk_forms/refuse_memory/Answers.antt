@@ -1,0 +1,10 @@
+use Rattle.session_run.proofs.AtDesk.{still_at, each_stays}
+use Rattle.session_run.proofs.desk_forms.refuse_memory.Goals as goal
+
+pub returns-clause-at : goal.returns-clause-at
+returns-clause-at c =
+    still_at c.args.desk.now c.args.session.now c.args.cubes.now c.refuse_memory.new.desk c.refuse_memory.new.session c.requires.at
+    c.refuse_memory.ensures.at c.refuse_memory.ensures.cubes
+
+pub returns-clause-executed : goal.returns-clause-executed
+returns-clause-executed c = ?
