@@ -1,6 +1,5 @@
 -- Statements at the desk of the session's cubes.
-use Rattle.std.proofs.Common.{◌≡◌, ◌∙◌, ◌++◌, ◌∷◌, [], List, None, Some, sym, ap}
-use Rattle.cube_language.specs.declared.decl.Decl.{Decl}
+use Rattle.std.proofs.Common.{◌≡◌, ◌∙◌, None, Some, sym}
 use Rattle.cube_language.specs.declared.statement.Statement.{Statement}
 use Rattle.cube_journal.specs.declared.refusal.Refusal.{Refusal}
 use Rattle.cube_run.specs.RunRecords.{Says, Sentence}
@@ -93,3 +92,13 @@ refused_stays (Replied said) refusal desk session cubes new_desk now h x same mo
     desk_stays (Says s) desk session cubes new_desk now said
     (record { at = h; executed = x s refused; moves = moves }) same turns
 refused_stays Stopped refusal desk session cubes new_desk now h x same moves turns = tt
+
+-- The refusal is of the statement that the mode refuses so.
+pub refused_one : (answered : Answered) (refusal : Refusal) (s : Statement) (desk : DeskState) (session : Session)
+    (cubes : Cubes) (new_desk : DeskState) (now : Session)
+    → IfReplied answered (λ said. (each : Statement) → refused_by_mode (mode_of session.mode) each ≡ Some refusal
+    → ExecutesOnRows (Says each) desk session cubes new_desk now cubes said)
+    → refused_by_mode (mode_of session.mode) s ≡ Some refusal
+    → IfReplied answered (ExecutesOnRows (Says s) desk session cubes new_desk now cubes)
+refused_one (Replied said) refusal s desk session cubes new_desk now x is = x s is
+refused_one Stopped refusal s desk session cubes new_desk now x is = tt

@@ -1,13 +1,11 @@
 -- A CREATE CUBE is executed on rows.
-use Rattle.std.proofs.Common.{◌≡◌, ◌∙◌, ◌≤◌, ◌<◌, ◌+◌, List, [], ◌∷◌, ◌++◌, length, None, refl, sym, ap, arith, length-append}
+use Rattle.std.proofs.Common.{◌≡◌, ◌∙◌, ◌≤◌, List, [], ◌∷◌, ◌++◌, length, None, sym, ap, arith, length-append}
 use Rattle.cube_language.specs.CubesText.{cubes_limit}
 use Rattle.cube_language.specs.declared.decl.Decl.{Decl}
-use Rattle.cube_language.specs.declared.decl.TheConstants.{MOST_CUBES}
-use Rattle.cube_journal.specs.declared.reply.Reply.{Reply}
 use Rattle.cube_journal.specs.declared.reply.Reply.TheVariants as reply
 use Rattle.cube_run.specs.RunRecords.{Sentence}
 use Rattle.names_dict.specs.Dictionaries.{names_of}
-use Rattle.aosi_desk.specs.Desks.{AreCubes, DeskState}
+use Rattle.aosi_desk.specs.Desks.{DeskState}
 use Rattle.one_session.specs.Changes.{AreNamedApart}
 use Rattle.plain_rows.specs.HeldRows.{HeldRows}
 use Rattle.session_desk.specs.declared.answered.Answered.{Answered}
@@ -18,7 +16,6 @@ use Rattle.session_desk.specs.CubeReplies.{cubes_after_create}
 use Rattle.session_desk.specs.Executed.{ExecutesAtDesk, IfReplied}
 use Rattle.session_desk.specs.Moves.{MovesOn, OpenStays}
 use Rattle.session_rows.specs.CubesAtDesk.{AllAreNamed, AreItsNames, AreItsRows, AreWholeCubes, ExecutesOnRows, IsAtCubes}
-use Rattle.session_rows.specs.DeskOnRows.{GainsCube}
 use Rattle.session_rows.specs.declared.cubes.Cubes.{Cubes}
 use Rattle.session_rows.proofs.DeskOnRows.{desk_creates, desk_stays}
 use Rattle.session_rows.proofs.WholeCubes.{whole_with_cube}

@@ -19,10 +19,14 @@ returns-clause-at c =
     created_at c.create_cube-answered.result c.args.decl c.args.desk.now c.args.session.now c.args.cubes.now
     c.create_cube-answered.new.desk c.create_cube-answered.new.session _ c.requires.at
     c.create_cube-answered.ensures.at c.create_cube-answered.ensures.cubes
-    (record { schemas = c.create_cube-answered.ensures.schemas; names = refl; rows =
+    (record {
+      schemas = c.create_cube-answered.ensures.schemas;
+      names = refl;
+      rows =
           c.add_made.ensures
           ∙ (λ i. rows_after_create c.args.cubes.now.rows (c.len-dims.ensures i) (c.len-metrics.ensures i)
-          c.create_cube-answered.result) })
+          c.create_cube-answered.result);
+    })
     (c.cubes_of_a_desk_are_named_apart.ensures c.create_cube-answered.new.desk.cubes c.is_in_order.ensures.cubes)
     c.is_in_order.ensures.cubes.few
 
@@ -30,10 +34,20 @@ pub returns-clause-executed : goal.returns-clause-executed
 returns-clause-executed c =
     answered_creates c.create_cube-answered.result (Says (statement.CreateCube c.args.decl)) c.args.decl
     c.args.desk.now c.args.session.now c.args.cubes.now c.create_cube-answered.new.desk
-    c.create_cube-answered.new.session _ c.requires.at c.create_cube-answered.ensures.executed
+    c.create_cube-answered.new.session
+    (record {
+      schemas = c.create_cube-answered.new.cubes;
+      names = c.args.cubes.now.names;
+      rows = c.add_made.new.rows;
+    })
+    c.requires.at c.create_cube-answered.ensures.executed
     c.create_cube-answered.ensures.cubes
-    (record { schemas = c.create_cube-answered.ensures.schemas; names = refl; rows =
+    (record {
+      schemas = c.create_cube-answered.ensures.schemas;
+      names = refl;
+      rows =
           c.add_made.ensures
           ∙ (λ i. rows_after_create c.args.cubes.now.rows (c.len-dims.ensures i) (c.len-metrics.ensures i)
-          c.create_cube-answered.result) })
+          c.create_cube-answered.result);
+    })
     c.create_cube-answered.ensures.moves c.create_cube-answered.ensures.turns
