@@ -1,2 +1,3 @@
 pub mod RowsMade
 pub mod Forms
+pub mod Scripts

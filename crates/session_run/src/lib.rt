@@ -5,6 +5,7 @@ mod cubes_made;
 mod desk_forms;
 mod endings;
 mod executing;
+mod playing;
 
 pub use cubes_made::create_cube;
 pub use desk_forms::{
@@ -12,3 +13,4 @@ pub use desk_forms::{
 };
 pub use endings::{commit, rollback};
 pub use executing::exec;
+pub use playing::{Said, exec_said, play};
