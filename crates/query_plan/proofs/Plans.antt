@@ -67,12 +67,13 @@ pub fits_there : (cubes : List Decl) (s : Statement) (place : ℕ) (cube : Decl)
     → cube ≡ get_or cubes place cube → FitsCube cube s
 fits_there cubes s place cube bound there = (bound_cube cubes s place cube bound there).fits
 
-record IsDelete (s : Statement) : Type 0 where
+-- The parts of a DELETE.
+pub record IsDelete (s : Statement) : Type 0 where
   pub cube : List ℕ
   pub conds : List Cond
   pub is : s ≡ Delete cube conds
 
-delete_of : (s : Statement) → DeletesRows s → IsDelete s
+pub delete_of : (s : Statement) → DeletesRows s → IsDelete s
 delete_of (Select items cube conds group having order limit) deletes = absurd deletes
 delete_of (Insert cube rows) deletes = absurd deletes
 delete_of (Load cube path reject) deletes = absurd deletes

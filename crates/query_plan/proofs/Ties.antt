@@ -264,7 +264,7 @@ behind_all texts [] more = refl
 behind_all texts (Int n ∷ values) more = behind_all texts values more
 behind_all texts (Text text ∷ values) more = behind_all texts values more
 
-are_codes : (lists : List (List (List ℕ))) (conditions : List Condition)
+pub are_codes : (lists : List (List (List ℕ))) (conditions : List Condition)
     → AreCodesOf lists (codes_in lists conditions) conditions
 are_codes lists [] = tt
 are_codes lists (c ∷ conditions) =

@@ -1,5 +1,6 @@
 -- What holds of an answer, by the ways in which the calls at the desk may end.
 use Rattle.std.proofs.Common.{◌≡◌, ◌∙◌, ℕ, ◌+◌, List, length, Option, Some, None, refl, sym, ap, subst}
+use Rattle.std.proofs.lemmas.Option.{same_Some}
 use Rattle.cube_values.specs.Batches.{Batch}
 use Rattle.cube_values.specs.declared.snapshot.Snapshot.{Snapshot}
 use Rattle.cube_language.specs.declared.statement.Statement.{Statement}
@@ -30,13 +31,13 @@ use Rattle.session_rows.specs.RowsExecuted.{HasExecutedOnRows, IsChanged, IsChan
 use Rattle.session_rows.specs.declared.cubes.Cubes.{Cubes}
 use Rattle.session_rows.proofs.DeskOnRows.{desk_stays}
 use Rattle.row_entries.specs.CountedSessions.{HasOneMore}
-use Rattle.row_entries.specs.RowCalls.{CommitsAlone, NotesRefusal}
+use Rattle.row_entries.specs.RowCalls.{NotesRefusal}
 use Rattle.row_entries.proofs.Alone.{leaves_commit}
 use Rattle.row_entries.proofs.Executing.{memory_on_rows}
 use Rattle.row_entries.proofs.Inside.{leaves_nothing}
 use Rattle.row_entries.proofs.Lone.{leaves_refusal}
 use Rattle.row_changes.specs.AnswersGiven.{HasCommittedAt, InsertsRows, stored_answer}
-use Rattle.row_changes.specs.ChangedCubes.{ExecutesWithNames, HaveChanged, HaveChangedAndKept, HaveGained, HaveStayed}
+use Rattle.row_changes.specs.ChangedCubes.{ExecutesWithNames, HaveChanged, HaveChangedAndKept, HaveGained}
 use Rattle.row_changes.specs.EncodedForms.{AreEncodedAt}
 use Rattle.row_changes.specs.declared.encoded.EncodedRows.TheVariants.{Rows, Lacking}
 use Rattle.row_changes.proofs.Encoding.{encoded_still}
@@ -60,7 +61,7 @@ at_others desk session new_desk now cubes others at new_at same whole schemas = 
   whole = whole;
 }
 
-one_more : (session now : Session) → now ≡ counted session → HasOneMore session now
+pub one_more : (session now : Session) → now ≡ counted session → HasOneMore session now
 one_more session now is =
     subst (λ (n : Session). HasOneMore session n) (sym is)
     (record { mode_is = refl; statements = refl; commits = refl; every = refl })
@@ -117,13 +118,7 @@ lacking_answered s Stopped desk session new_desk now cubes place text at form ma
 
 -- ---- transactions
 
-pub committed_alone : (desk : DeskState) (session : Session) (new_desk : DeskState) (now : Session)
-    (committed : Option ℕ) → HasCommittedAt desk session new_desk now committed
-    → CommitsAlone desk session new_desk now
-committed_alone desk session new_desk now None h = h
-committed_alone desk session new_desk now (Some epoch) h = h.0.commits
-
-gained_kept : (c : ChangeAt) (before cubes now : Cubes) → HaveGained before cubes → HaveChangedAndKept c cubes now
+pub gained_kept : (c : ChangeAt) (before cubes now : Cubes) → HaveGained before cubes → HaveChangedAndKept c cubes now
     → OfEachCube (λ q. IsChangedAndKept q c) before.rows now.rows
 gained_kept c before cubes now g k = λ q. record {
   before =
@@ -131,7 +126,7 @@ gained_kept c before cubes now g k = λ q. record {
   now = (k.held q).now ∙ ap (λ (rows : List CodedRow). rows_with_change q rows c) (g.held q).now;
 }
 
-gained_changed : (c : ChangeAt) (before cubes now : Cubes) → HaveGained before cubes → HaveChanged c cubes now
+pub gained_changed : (c : ChangeAt) (before cubes now : Cubes) → HaveGained before cubes → HaveChanged c cubes now
     → OfEachCube (λ q. IsChanged q c) before.rows now.rows
 gained_changed c before cubes now g k = λ q. record {
   before = (k.held q).before ∙ (g.held q).before;
@@ -166,17 +161,10 @@ pub record HasWriter (mode : Mode) (epoch : ℕ) : Type 0 where
   pub mode_is : mode ≡ Open writer
   pub epoch_is : epoch ≡ writer.epoch
 
-some_same : (x y : ℕ) → Some x ≡ Some y → x ≡ y
-some_same x y same = ap (λ (o : Option ℕ). value x o) same
-  where
-    value : ℕ → Option ℕ → ℕ
-    value d None = d
-    value d (Some z) = z
-
 pub writer_in : (mode : Mode) (epoch : ℕ) → epoch_in mode ≡ Some epoch → HasWriter mode epoch
 writer_in Idle epoch is = absurd cc
 writer_in (Open writer) epoch is =
-    record { writer = writer; mode_is = refl; epoch_is = some_same epoch writer.epoch (sym is) }
+    record { writer = writer; mode_is = refl; epoch_is = same_Some epoch writer.epoch (sym is) }
 writer_in (Aborted was) epoch is = absurd cc
 
 pub inside_answered : (s : Statement) (result : Answered) (epoch rows : ℕ) (desk : DeskState) (session now : Session)
@@ -199,49 +187,3 @@ inside_answered s result epoch rows desk session now cubes after place batch at 
     (encoded_still cubes after s place (Rows batch) k.schemas k.names e)
     (coe 1 0 (i. NamesOnlyCome (names_of before.names) (names_of (k.names i))) g.come)
     (gained_changed (record { cube = place; change = Come batch.rows }) before cubes after g k) left))
-
-pub inside_at : (epoch : ℕ) (desk : DeskState) (session now : Session) → IsAtDesk desk session
-    → epoch_in (mode_of session.mode) ≡ Some epoch → (s : Statement) → now ≡ counted session → IsAtDesk desk now
-inside_at epoch desk session now at open_at s is =
-    let w = writer_in (mode_of session.mode) epoch open_at in
-    (leaves_nothing w.writer (Says s) desk session desk now at
-    (record { open_is = w.mode_is; same = refl; counted = one_more session now is })).left.at
-
--- ---- before room is made
-
-pub gained_stayed : (before cubes after : Cubes) → HaveGained before cubes → HaveStayed cubes after
-    → HaveGained before after
-gained_stayed before cubes after g k = record {
-  whole = k.whole;
-  schemas = k.schemas ∙ g.schemas;
-  come = coe 1 0 (i. NamesOnlyCome (names_of before.names) (names_of (k.names i))) g.come;
-  held = λ q. record {
-    before = (k.held q).before ∙ (g.held q).before;
-    now = (k.held q).now ∙ (g.held q).now;
-  };
-}
-
-pub with_names_through : (s : Statement) (result : Answered) (desk : DeskState) (session : Session)
-    (new_desk : DeskState) (now : Session) (cubes mid after : Cubes) → HaveStayed cubes mid
-    → IfReplied result (ExecutesWithNames (Says s) desk session mid new_desk now after)
-    → IfReplied result (ExecutesWithNames (Says s) desk session cubes new_desk now after)
-with_names_through s (Replied said) desk session new_desk now cubes mid after k h =
-    λ before g. h before (gained_stayed before cubes mid g k)
-with_names_through s Stopped desk session new_desk now cubes mid after k h = tt
-
-pub by_names : (s : Statement) (result : Answered) (desk : DeskState) (session : Session)
-    (new_desk : DeskState) (now : Session) (before cubes after : Cubes) → HaveGained before cubes
-    → IfReplied result (ExecutesWithNames (Says s) desk session cubes new_desk now after)
-    → IfReplied result (ExecutesOnRows (Says s) desk session before new_desk now after)
-by_names s (Replied said) desk session new_desk now before cubes after g h = h before g
-by_names s Stopped desk session new_desk now before cubes after g h = tt
-
--- Where the session is not in a transaction, it has none that a fault ended.
-pub idle_in : (mode : Mode) (s : Statement) → InsertsRows s → refused_by_mode mode s ≡ None → epoch_in mode ≡ None
-    → mode ≡ Idle
-idle_in Idle s form may none = refl
-idle_in (Open writer) s form may none = absurd cc
-idle_in (Aborted epoch) s form may none =
-    let is = insert_of s form in
-    let refused = subst (λ (x : Statement). refused_by_mode (Aborted epoch) x ≡ None) is.is may in
-    absurd cc

@@ -16,6 +16,7 @@ use Rattle.row_encoding.specs.DictsAsEncoder.{MayEndWith, Suit}
 use Rattle.row_encoding.specs.FinalCodes.{InTheEnd}
 use Rattle.query_plan.specs.Bindings.{IsBoundAt, IsBoundTo}
 use Rattle.query_plan.proofs.Cubes.{bound_cube}
+use Rattle.query_plan.proofs.FitConditions.{nothing}
 use Rattle.query_plan.proofs.Plans.{fits_there}
 use Rattle.statement_check.specs.OwnParts.{inserted_rows}
 use Rattle.session_rows.specs.CubesAtDesk.{AreWholeCubes, HaveCome}
@@ -24,13 +25,9 @@ use Rattle.row_changes.specs.ChangedCubes.{HaveGained}
 use Rattle.row_changes.specs.EncodedForms.{AreEncodedAs, AreEncodedAt, IsBatchFor}
 use Rattle.row_changes.specs.declared.encoded.EncodedRows.{EncodedRows}
 
-none_of : {X : Type 0} (o : Option X) → ((x : X) → o ≡ Some x → ⊥) → o ≡ None
-none_of None never = refl
-none_of (Some x) never = absurd (never x refl)
-
 -- The rows of an INSERT that fits its cube can be stored.
 pub good_rows : (d : Decl) (s : Statement) → FitsCube d s → first_bad_row d (inserted_rows s) ≡ None
-good_rows d (Insert cube rows) fits = none_of (first_bad_row d rows) (λ found is. fits (BadRow found.0 found.1) is)
+good_rows d (Insert cube rows) fits = nothing (first_bad_row d rows) (λ found is. fits (BadRow found.0 found.1) is)
 good_rows d (Select items cube conds group having order limit) fits = refl
 good_rows d (Load cube path reject) fits = refl
 good_rows d (Delete cube conds) fits = refl

@@ -6,16 +6,17 @@ use Rattle.std.proofs.lemmas.List.{length-set, length-map}
 use Rattle.std.proofs.lemmas.Option.{slice_get_within}
 use Rattle.cube_values.specs.Batches.{Batch}
 use Rattle.cube_values.specs.declared.row.CodedRow.{CodedRow}
+use Rattle.cube_values.specs.declared.span.Span.{Span}
 use Rattle.cube_language.specs.declared.decl.Decl.{Decl}
 use Rattle.names_dict.specs.Dictionaries.{names_of}
 use Rattle.condition_spans.specs.Codes.{lists_at}
-use Rattle.one_session.specs.Changes.{AllStandForValues, ChangeAt, CodedChange, Come, rows_changed, rows_with_change}
-use Rattle.plain_rows.specs.HeldRows.{HeldRows, rows_at, with_more, with_rows_kept}
+use Rattle.one_session.specs.Changes.{AllStandForValues, ChangeAt, CodedChange, Come, Go, rows_changed, rows_with_change}
+use Rattle.plain_rows.specs.HeldRows.{HeldRows, rows_at, span_lacks_row, with_more, with_rows_kept, without_span}
 use Rattle.session_rows.specs.CubesAtDesk.{AreNamed, AreWholeCubes}
 use Rattle.session_rows.specs.RowsExecuted.{IsChanged, StaysHeld}
 use Rattle.session_rows.specs.declared.cubes.Cubes.{Cubes}
 use Rattle.session_rows.proofs.CountedChanges.{equal_is, is_itself}
-use Rattle.session_rows.proofs.StillNamed.{all_both}
+use Rattle.session_rows.proofs.StillNamed.{all_both, all_left}
 use Rattle.row_changes.specs.ChangedCubes.{HaveChanged, HaveChangedAndKept, HaveStayed}
 use Rattle.row_changes.specs.MayCome.{MayCome}
 use Rattle.row_changes.proofs.HeldLists.{KeepsWidths, changed_at, kept_at, whole_with}
@@ -36,32 +37,57 @@ stays cubes h = record {
   held = λ place. record { before = refl; now = refl };
 }
 
--- More room changes no rows.
+-- Other room changes no rows.
+pub held_stays : (cubes : Cubes) (place : ℕ) (held : List HeldRows) (x : HeldRows) → AreWholeCubes cubes
+    → place < length cubes.schemas.items → held ≡ set cubes.rows place x → KeepsWidths (rows_at cubes.rows place) x
+    → StaysHeld (rows_at cubes.rows place) x
+    → HaveStayed cubes (record { schemas = cubes.schemas; names = cubes.names; rows = held })
+held_stays cubes place held x h l is widths same =
+    let within = rows_within cubes place h l in
+    coe 1 0 (i. HaveStayed cubes (record { schemas = cubes.schemas; names = cubes.names; rows = is i }))
+    (record {
+      whole =
+          whole_with cubes (set cubes.rows place x) h (length-set cubes.rows place x)
+          (changed_at (λ q. KeepsWidths) cubes.rows place x within widths
+          (λ q other. record { dims = refl; width = refl }))
+          (λ q d there.
+          changed_at (λ p old new. slice_get cubes.schemas.items p ≡ Some d
+          → AreNamed d (lists_at (names_of cubes.names) p) new) cubes.rows place x within
+          (λ is_d. record {
+            before =
+                subst (λ (rows : List CodedRow). AllStandForValues d (lists_at (names_of cubes.names) place) rows)
+                (sym same.before) (h.named place d is_d).before;
+            now =
+                subst (λ (rows : List CodedRow). AllStandForValues d (lists_at (names_of cubes.names) place) rows)
+                (sym same.now) (h.named place d is_d).now;
+          })
+          (λ p other is_d. h.named p d is_d) q there);
+      schemas = refl;
+      names = refl;
+      held =
+          changed_at (λ q. StaysHeld) cubes.rows place x within same
+          (λ q other. record { before = refl; now = refl });
+    })
+
 pub room_stays : (cubes : Cubes) (place more : ℕ) (held : List HeldRows) → AreWholeCubes cubes
     → place < length cubes.schemas.items
     → held ≡ set cubes.rows place
     (record (rows_at cubes.rows place) { spare = max (rows_at cubes.rows place).spare more })
     → HaveStayed cubes (record { schemas = cubes.schemas; names = cubes.names; rows = held })
 room_stays cubes place more held h l is =
-    let x : HeldRows = record (rows_at cubes.rows place) { spare = max (rows_at cubes.rows place).spare more } in
-    let within = rows_within cubes place h l in
-    coe 1 0 (i. HaveStayed cubes (record { schemas = cubes.schemas; names = cubes.names; rows = is i }))
-    (record {
-      whole =
-          whole_with cubes (set cubes.rows place x) h (length-set cubes.rows place x)
-          (changed_at (λ q. KeepsWidths) cubes.rows place x within (record { dims = refl; width = refl })
-          (λ q other. record { dims = refl; width = refl }))
-          (λ q d there.
-          changed_at (λ p old new. slice_get cubes.schemas.items p ≡ Some d
-          → AreNamed d (lists_at (names_of cubes.names) p) new) cubes.rows place x within
-          (λ is_d. let was = h.named place d is_d in record { before = was.before; now = was.now })
-          (λ p other is_d. h.named p d is_d) q there);
-      schemas = refl;
-      names = refl;
-      held =
-          changed_at (λ q. StaysHeld) cubes.rows place x within (record { before = refl; now = refl })
-          (λ q other. record { before = refl; now = refl });
-    })
+    held_stays cubes place held
+    (record (rows_at cubes.rows place) { spare = max (rows_at cubes.rows place).spare more }) h l is
+    (record { dims = refl; width = refl }) (record { before = refl; now = refl })
+
+pub removal_room_stays : (cubes : Cubes) (place : ℕ) (held : List HeldRows) → AreWholeCubes cubes
+    → place < length cubes.schemas.items
+    → held ≡ set cubes.rows place
+    (record (rows_at cubes.rows place) { removable = length (rows_at cubes.rows place).now })
+    → HaveStayed cubes (record { schemas = cubes.schemas; names = cubes.names; rows = held })
+removal_room_stays cubes place held h l is =
+    held_stays cubes place held
+    (record (rows_at cubes.rows place) { removable = length (rows_at cubes.rows place).now }) h l is
+    (record { dims = refl; width = refl }) (record { before = refl; now = refl })
 
 pub no_room_stays : (cubes : Cubes) (held : List HeldRows) → AreWholeCubes cubes → held ≡ cubes.rows
     → HaveStayed cubes (record { schemas = cubes.schemas; names = cubes.names; rows = held })
@@ -146,6 +172,19 @@ appended cubes place batch held h come is =
     (h.named place d is_d).now
     (same_named cubes.schemas.items place d come.decl (lists_at (names_of cubes.names) place) batch.rows come.cube_is
     is_d come.named))
+
+-- Rows have gone.
+pub removed : (cubes : Cubes) (place : ℕ) (span : Span) (held : List HeldRows) → AreWholeCubes cubes
+    → place < length cubes.schemas.items
+    → held ≡ set cubes.rows place (without_span (rows_at cubes.rows place) span)
+    → HaveChanged (record { cube = place; change = Go span }) cubes
+    (record { schemas = cubes.schemas; names = cubes.names; rows = held })
+removed cubes place span held h l is =
+    changes cubes place (Go span) held (without_span (rows_at cubes.rows place) span) h l is
+    (record { dims = refl; width = refl }) refl refl
+    (λ d is_d.
+    all_left d (lists_at (names_of cubes.names) place) (span_lacks_row span) (rows_at cubes.rows place).now
+    (h.named place d is_d).now)
 
 -- The rows of now are kept.
 pub kept : (c : ChangeAt) (old mid : Cubes) (held : List HeldRows) → HaveChanged c old mid

@@ -1,6 +1,11 @@
 -- What a statement that is bound to a cube meets in each run that goes on.
-use Rattle.std.proofs.Common.{◌≡◌, ◌∙◌, ℕ, List, [], false, Some, sym, subst}
-use Rattle.std.specs.Prelude.{slice_get}
+use Rattle.std.proofs.Common.{◌≡◌, ◌∙◌, ℕ, ◌<◌, ◌≤◌, List, [], length, false, Some, sym, subst}
+use Rattle.std.specs.Prelude.{All, slice_get}
+use Rattle.std.specs.List.{IsDistinct}
+use Rattle.std.specs.Str.{bytes_eq}
+use Rattle.cube_language.specs.declared.bad_row.TheConstants.{TEXT_BYTES}
+use Rattle.cube_run.specs.FinalNames.{names_at}
+use Rattle.row_changes.proofs.ApartNames.{apart_from}
 use Rattle.std.proofs.lemmas.Option.{slice_get-get_or}
 use Rattle.cube_journal.specs.declared.journal_entry.JournalEntry.{JournalEntry}
 use Rattle.cube_language.specs.declared.decl.Decl.{Decl}
@@ -9,7 +14,7 @@ use Rattle.cube_run.specs.RunRecords.{LoadedFile, RunRecord, Says, catalog_of}
 use Rattle.cube_run.specs.RunTransactions.{DoneOperation}
 use Rattle.cube_run.specs.SessionSteps.{SessionStep}
 use Rattle.names_dict.specs.Dictionaries.{Dictionary, names_of}
-use Rattle.condition_spans.specs.Codes.{lists_at}
+use Rattle.condition_spans.specs.Codes.{lists_at, texts_at}
 use Rattle.one_session.specs.Changes.{AreNamedApart}
 use Rattle.one_session.specs.Pasts.{Beginning, EndsWithMore, GoesOn, NamesOnlyCome, SessionPast}
 use Rattle.one_session.proofs.Backwards.{goes_on_before}
@@ -32,10 +37,16 @@ use Rattle.session_rows.proofs.RunsEnd.{runs_end}
 use Rattle.session_rows.proofs.StillNamed.{at_place}
 use Rattle.row_entries.specs.LeftEntries.{row_step}
 
+-- Texts that are distinct and not too long.
+pub record AreApart (texts : List (List ℕ)) : Type 0 where
+  pub distinct : IsDistinct bytes_eq texts
+  pub short : All (λ name. length name ≤ TEXT_BYTES) texts
+
 -- A run ends with names that dictionaries may end with, and those of a cube suit it.
 pub record EndsThere (run : RunRecord) (place : ℕ) (d : Decl) (dictionaries : List (List Dictionary)) : Type 0 where
   pub may : MayEndWith dictionaries run.names
   pub numbers : NumbersHaveNoNames d (lists_at run.names place)
+  pub apart : (k : ℕ) → k < length d.dims → AreApart (texts_at (lists_at run.names place) k)
 
 there_in_run : (beginning : Beginning) (past : SessionPast) (now : World) (run : RunRecord) (place : ℕ) (d : Decl)
     → StandsBehind beginning past now → GoesOn beginning past run → slice_get now.desk.cubes place ≡ Some d
@@ -50,15 +61,21 @@ pub ends_there : (beginning : Beginning) (past : SessionPast) (now : World) (run
     → GoesOn beginning past run → AreItsNames now.desk.cubes dictionaries
     → EndsWithMore run (names_of dictionaries) → slice_get now.desk.cubes place ≡ Some d
     → EndsThere run place d dictionaries
-ends_there beginning past now run dictionaries place d h g are ends is = record {
-  may = runs_end beginning past now run dictionaries h g are ends;
-  numbers = λ k l text.
-      sym (at_place run.names place k)
-      ∙ (ends place k d (dim_at d.dims k) (record {
-        cube_is = there_in_run beginning past now run place d h g is;
-        dim_is = slice_get-get_or d.dims k (record { name = []; text = false; cardinality = 0; range = 0 }) l;
-      })).numbers text;
-}
+ends_there beginning past now run dictionaries place d h g are ends is =
+    let its = (λ (k : ℕ) (l : k < length d.dims). ends place k d (dim_at d.dims k) (record {
+      cube_is = there_in_run beginning past now run place d h g is;
+      dim_is = slice_get-get_or d.dims k (record { name = []; text = false; cardinality = 0; range = 0 }) l;
+    })) in
+    record {
+      may = runs_end beginning past now run dictionaries h g are ends;
+      numbers = λ k l text. sym (at_place run.names place k) ∙ (its k l).numbers text;
+      apart = λ k l.
+          subst AreApart (at_place run.names place k)
+          (record {
+            distinct = apart_from (names_at run.names place k) (its k l).dictionary.distinct;
+            short = (its k l).dictionary.short;
+          });
+    }
 
 -- A statement meets its cube there, which it fits.
 pub record MeetsInRun (run : RunRecord) (step : SessionStep) (s : Statement) (d : Decl) (place : ℕ)

@@ -1,6 +1,11 @@
 pub mod HeldLists
 pub mod HeldChanges
 pub mod Encoding
+pub mod ApartNames
 pub mod InRuns
 pub mod Inserting
 pub mod Answering
+pub mod CutNames
+pub mod Dropping
+pub mod Deleting
+pub mod AnsweringDeletes

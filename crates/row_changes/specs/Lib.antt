@@ -2,3 +2,4 @@ pub mod MayCome
 pub mod EncodedForms
 pub mod ChangedCubes
 pub mod AnswersGiven
+pub mod DropForms

@@ -2,9 +2,12 @@
 #![tactic(auto)]
 
 mod at_desk;
+mod deletes;
+mod dropped;
 mod encoded;
 mod held;
 mod inserts;
 mod refused;
 
+pub use deletes::delete;
 pub use inserts::insert;

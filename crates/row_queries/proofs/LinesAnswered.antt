@@ -1,5 +1,5 @@
 -- The reply with the lines of a SELECT is its reply in each run that goes on.
-use Rattle.std.proofs.Common.{◌≡◌, ◌∙◌, ℕ, ◌+◌, ◌-◌, true, List, [], ◌∷◌, Some, None, fold, min, slice_get, length, take, refl, sym, ap, subst}
+use Rattle.std.proofs.Common.{◌≡◌, ◌∙◌, ℕ, ◌-◌, true, List, [], fold, min, slice_get, refl, sym, ap, subst}
 use Rattle.std.proofs.Math.Seq.{take-length}
 use Rattle.cube_values.specs.Answer.{answer}
 use Rattle.cube_values.specs.First.{first_rows}
@@ -12,18 +12,13 @@ use Rattle.cube_language.specs.declared.statement.Statement.{Statement}
 use Rattle.cube_language.specs.Cubes.{sizes_of}
 use Rattle.cube_journal.specs.Counters.{JournalState, lce}
 use Rattle.cube_journal.specs.declared.journal_entry.JournalEntry.{JournalEntry}
-use Rattle.cube_journal.specs.declared.journal_entry.JournalEntry.TheVariants as entry
-use Rattle.cube_journal.specs.declared.reply.Reply.{Reply}
 use Rattle.cube_journal.specs.declared.reply.Reply.TheVariants as reply
 use Rattle.cube_run.specs.FinalNames.{names_at}
 use Rattle.cube_run.specs.RunRecords.{Missing, RunRecord, Says, script_of}
 use Rattle.cube_run.specs.RunText.{IsReply, reader_of}
 use Rattle.cube_run.specs.RunTransactions.{run_transactions, transactions_inside}
-use Rattle.cube_run.specs.SessionStates.{Idle, Open}
-use Rattle.cube_run.specs.SessionSteps.{SessionStep}
 use Rattle.cube_run.specs.StatementEntries.{is_select}
 use Rattle.names_dict.specs.Dictionaries.{names_of}
-use Rattle.condition_spans.specs.Codes.{lists_at}
 use Rattle.condition_spans.specs.Spans.{IsSpanOf}
 use Rattle.query_plan.specs.Bindings.{query_conditions}
 use Rattle.query_plan.specs.Ties.{AreDistinct}
@@ -33,19 +28,12 @@ use Rattle.one_session.proofs.Backwards.{goes_on_before}
 use Rattle.one_session.proofs.Entries.{longer_by_one}
 use Rattle.aosi_register.specs.State.{state_of}
 use Rattle.aosi_desk.specs.Desks.{DeskState}
-use Rattle.plain_rows.specs.HeldRows.{rows_at}
-use Rattle.session_replies.specs.Modes.{mode_of}
-use Rattle.session_replies.specs.RowEntries.{own_reading}
 use Rattle.session_replies.specs.RowSteps.{FitsItsCube}
-use Rattle.session_replies.specs.StepParts.{IsStep}
-use Rattle.session_replies.proofs.Doing.{select_does_nothing}
 use Rattle.session_replies.proofs.Reading.{selected_alone, selected_inside}
 use Rattle.session_desk.specs.declared.session.Session.{Session}
 use Rattle.session_desk.specs.AtDesk.{IsAtDesk, IsServing}
-use Rattle.session_desk.specs.Executed.{HasExecuted}
 use Rattle.session_desk.specs.RowsDone.{AddsEntries, past_with}
-use Rattle.session_desk.specs.Standing.{StandsBehind, session_state}
-use Rattle.session_desk.proofs.Changing.{executes_on_rows, one_more_with}
+use Rattle.session_desk.proofs.Changing.{one_more_with}
 use Rattle.session_desk.proofs.FindingCubes.{finds_its_cube}
 use Rattle.row_entries.specs.EntryGroups.{LeavesNothing, LeavesReading, reading_entries}
 use Rattle.row_entries.specs.ExecutedHere.{KeepsRows}
@@ -53,14 +41,12 @@ use Rattle.row_entries.specs.LeftEntries.{row_step}
 use Rattle.row_entries.specs.RowCalls.{ReadsAlone}
 use Rattle.row_entries.proofs.Executing.{reads_inside_on_rows, reads_on_rows}
 use Rattle.session_rows.specs.Coded.{CodedOperation, done_operations}
-use Rattle.session_rows.specs.CubesAtDesk.{AreWholeCubes, ExecutesOnRows, IsAtCubes, row_world}
-use Rattle.session_rows.specs.RowsBehind.{HasRows, RowWorld, world_of}
-use Rattle.session_rows.specs.RowsExecuted.{HasExecutedOnRows, Stays}
+use Rattle.session_rows.specs.CubesAtDesk.{ExecutesOnRows, IsAtCubes, row_world}
+use Rattle.session_rows.specs.RowsBehind.{HasRows, world_of}
 use Rattle.session_rows.specs.RowsRead.{AsksRowsOf, IsAnswerNow, table_now}
 use Rattle.session_rows.specs.declared.cubes.Cubes.{Cubes}
 use Rattle.session_rows.proofs.RowsAreRead.{reads_rows}
-use Rattle.session_rows.proofs.RowsStay.{stays_on_rows}
-use Rattle.row_queries.specs.BoundHere.{AreItsLines, IsBoundHere, lines_now}
+use Rattle.row_queries.specs.BoundHere.{AreItsLines, IsBoundHere}
 use Rattle.row_queries.specs.declared.lines.BoundSelect.{BoundSelect}
 
 -- ---- what is asked
@@ -146,24 +132,23 @@ alone_answers desk session cubes new_desk now s table at select (bound, (b, line
     let names = names_of cubes.names in
     let old = row_world desk session cubes coded in
     let more = more_by beginning past desk session cubes coded s added new_desk now h left.left.adds in
-    let step = row_step past session (Says s) Missing added names in
-    (
+    let step = row_step past session (Says s) Missing added names in (
       coded,
       reads_on_rows s beginning past Missing old (row_world new_desk now cubes coded) (reply.Rows (ec - 1) table) h select
-      left (keeps desk session cubes new_desk now coded)
-      (λ run g.
-      subst (λ (rows : List (List Field)). IsReply run step (reply.Rows (ec - 1) rows))
-      (same_lines cubes s bound b
-      (answer (resolved_query b.decl s) (visible_rows (reader_of (ec - 1)) (run_transactions run)))
-      (table_now old bound.query) table
-      (coe 0 1 (i. IsAnswerNow run past ec (left.left.was i) b.decl s (table_now old bound.query))
-      (reads_rows beginning past old run b.decl s bound.query h at.desk_is.serving
-      (goes_on_before beginning past (past_with past (Says s) Missing added names) (Says s) added run more g)
-      (asks_rows desk session cubes coded s bound at b)))
-      lines)
-      (selected_alone run step s b.decl (ec - 1)
-      (left.left.own beginning past names names (done_operations coded) Missing h.stands)
-      select (fits_there beginning past desk session cubes coded s bound added run at b h more g)))
+          left (keeps desk session cubes new_desk now coded)
+          (λ run g.
+          subst (λ (rows : List (List Field)). IsReply run step (reply.Rows (ec - 1) rows))
+          (same_lines cubes s bound b
+          (answer (resolved_query b.decl s) (visible_rows (reader_of (ec - 1)) (run_transactions run)))
+          (table_now old bound.query) table
+          (coe 0 1 (i. IsAnswerNow run past ec (left.left.was i) b.decl s (table_now old bound.query))
+          (reads_rows beginning past old run b.decl s bound.query h at.desk_is.serving
+          (goes_on_before beginning past (past_with past (Says s) Missing added names) (Says s) added run more g)
+          (asks_rows desk session cubes coded s bound at b)))
+          lines)
+          (selected_alone run step s b.decl (ec - 1)
+          (left.left.own beginning past names names (done_operations coded) Missing h.stands)
+          select (fits_there beginning past desk session cubes coded s bound added run at b h more g))),
     )
 
 -- ---- inside the transaction that is open
@@ -180,28 +165,27 @@ inside_answers writer desk session cubes now s table at select (bound, (b, lines
     let old = row_world desk session cubes coded in
     let more = more_by beginning past desk session cubes coded s [] desk now h left.left.adds in
     let after = past_with past (Says s) Missing [] names in
-    let step = row_step past session (Says s) Missing [] names in
-    (
+    let step = row_step past session (Says s) Missing [] names in (
       coded,
       reads_inside_on_rows writer s beginning past Missing old (row_world desk now cubes coded)
-      (reply.Rows writer.epoch table) h select left (keeps desk session cubes desk now coded)
-      (λ run g.
-      subst (λ (rows : List (List Field)). IsReply run step (reply.Rows writer.epoch rows))
-      (same_lines cubes s bound b
-      (answer (resolved_query b.decl s)
-      (visible_rows writer (transactions_inside run 1 (script_of run 1) (last_number after) writer.epoch)))
-      (table_now old bound.query) table
-      (ap (λ (number : ℕ). answer (resolved_query b.decl s)
-      (visible_rows writer (transactions_inside run 1 (script_of run 1) number writer.epoch)))
-      (longer_by_one past after (Says s) [] more)
-      ∙ coe 0 1 (i. IsAnswerNow run past ec (left.left.was i) b.decl s (table_now old bound.query))
-      (reads_rows beginning past old run b.decl s bound.query h at.desk_is.serving
-      (goes_on_before beginning past after (Says s) [] run more g)
-      (asks_rows desk session cubes coded s bound at b)))
-      lines)
-      (selected_inside run step s b.decl writer
-      (left.left.own beginning past names names (done_operations coded) Missing h.stands)
-      select (fits_there beginning past desk session cubes coded s bound [] run at b h more g)))
+          (reply.Rows writer.epoch table) h select left (keeps desk session cubes desk now coded)
+          (λ run g.
+          subst (λ (rows : List (List Field)). IsReply run step (reply.Rows writer.epoch rows))
+          (same_lines cubes s bound b
+          (answer (resolved_query b.decl s)
+          (visible_rows writer (transactions_inside run 1 (script_of run 1) (last_number after) writer.epoch)))
+          (table_now old bound.query) table
+          (ap (λ (number : ℕ). answer (resolved_query b.decl s)
+          (visible_rows writer (transactions_inside run 1 (script_of run 1) number writer.epoch)))
+          (longer_by_one past after (Says s) [] more)
+          ∙ coe 0 1 (i. IsAnswerNow run past ec (left.left.was i) b.decl s (table_now old bound.query))
+          (reads_rows beginning past old run b.decl s bound.query h at.desk_is.serving
+          (goes_on_before beginning past after (Says s) [] run more g)
+          (asks_rows desk session cubes coded s bound at b)))
+          lines)
+          (selected_inside run step s b.decl writer
+          (left.left.own beginning past names names (done_operations coded) Missing h.stands)
+          select (fits_there beginning past desk session cubes coded s bound [] run at b h more g))),
     )
 
 -- ---- as the code answers them

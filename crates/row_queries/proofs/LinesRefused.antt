@@ -1,5 +1,5 @@
 -- A SELECT that is refused is executed on rows.
-use Rattle.std.proofs.Common.{◌≡◌, true, None}
+use Rattle.std.proofs.Common.{◌≡◌, true, None, subst, sym}
 use Rattle.cube_language.specs.declared.statement.Statement.{Statement}
 use Rattle.cube_run.specs.RunRecords.{Says, Sentence}
 use Rattle.cube_run.specs.StatementEntries.{is_select}
@@ -45,3 +45,18 @@ selects_stay (Replied said) desk session cubes new_desk now table h x same moves
     desk_stays (Says s) desk session cubes new_desk now said
     (record { at = h; executed = x (Says s); moves = moves }) same turns
 selects_stay Stopped desk session cubes new_desk now table h x same moves turns = tt
+
+-- The same where a call before it left the desk as it was.
+pub selects_stay_after : (answered : Answered) (opened desk : DeskState) (session : Session) (cubes : Cubes)
+    (new_desk : DeskState) (now : Session) (table : List (List Field)) → opened ≡ desk → IsAtCubes desk session cubes
+    → IfReplied answered (λ said. (each : Sentence) → ExecutesAtDesk each opened session new_desk now said)
+    → new_desk.cubes ≡ opened.cubes → MovesOn None opened new_desk → OpenStays opened session now
+    → IfReplied answered (λ said. (s : Statement) → is_select s ≡ true → AreItsLines cubes s table
+    → ExecutesOnRows (Says s) desk session cubes new_desk now cubes said)
+selects_stay_after answered opened desk session cubes new_desk now table same h x cubes_same moves turns =
+    subst
+    (λ (d : DeskState). IfReplied answered (λ said. (s : Statement) → is_select s ≡ true → AreItsLines cubes s table
+    → ExecutesOnRows (Says s) d session cubes new_desk now cubes said))
+    same
+    (selects_stay answered opened session cubes new_desk now table
+    (subst (λ (d : DeskState). IsAtCubes d session cubes) (sym same) h) x cubes_same moves turns)

@@ -11,7 +11,7 @@ use Rattle.one_session.specs.Changes.{AreNamedApart}
 use Rattle.one_session.proofs.Coded.{same_name}
 
 -- Where no name stands before already, neither the first does so nor any behind it.
-first_is_new : (before names : List (List ℕ)) (name : List ℕ)
+pub first_is_new : (before names : List (List ℕ)) (name : List ℕ)
     → repeated_after before (name ∷ names) ≡ None → list_any (bytes_eq name) before ≡ false
 first_is_new before names name h = at (list_any (bytes_eq name) before) h
   where
@@ -19,7 +19,7 @@ first_is_new before names name h = at (list_any (bytes_eq name) before) h
     at true h = absurd (none-some name (sym h))
     at false h = refl
 
-later_are_new : (before names : List (List ℕ)) (name : List ℕ)
+pub later_are_new : (before names : List (List ℕ)) (name : List ℕ)
     → repeated_after before (name ∷ names) ≡ None → repeated_after (name ∷ before) names ≡ None
 later_are_new before names name h = at (list_any (bytes_eq name) before) h
   where
@@ -28,11 +28,11 @@ later_are_new before names name h = at (list_any (bytes_eq name) before) h
     at true h = absurd (none-some name (sym h))
     at false h = h
 
-or_right : (a b : Bool) → (a || b) ≡ false → b ≡ false
+pub or_right : (a b : Bool) → (a || b) ≡ false → b ≡ false
 or_right true b h = absurd (both_ways true h refl)
 or_right false b h = h
 
-or_left : (a b : Bool) → (a || b) ≡ false → a ≡ false
+pub or_left : (a b : Bool) → (a || b) ≡ false → a ≡ false
 or_left true b h = h
 or_left false b h = refl
 

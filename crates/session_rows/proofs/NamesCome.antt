@@ -72,7 +72,7 @@ suiting_numbers dictionaries place d (inr all) = λ k l is.
 
 -- ---- names that come
 
-same_decl : (cubes : List Decl) (place : ℕ) (d e : Decl) → slice_get cubes place ≡ Some d
+pub same_decl : (cubes : List Decl) (place : ℕ) (d e : Decl) → slice_get cubes place ≡ Some d
     → slice_get cubes place ≡ Some e → d ≡ e
 same_decl cubes place d e first second = ap (λ (o : Option Decl). unwrap_or o d) (sym first ∙ second)
 

@@ -2,7 +2,7 @@ use Rattle.std.proofs.Common.{refl, ◌+◌}
 use Rattle.cube_run.specs.RunRecords.{Says}
 use Rattle.row_entries.specs.RowCalls.{ReadsAlone}
 use Rattle.row_queries.proofs.LinesAnswered.{alone_replied}
-use Rattle.row_queries.proofs.LinesRefused.{selects_stay}
+use Rattle.row_queries.proofs.LinesRefused.{selects_stay_after}
 use Rattle.row_queries.proofs.selecting.answer_alone.Goals as goal
 
 pub returns-in-Ok-clause-executed : goal.returns-in-Ok-clause-executed
@@ -25,6 +25,7 @@ returns-in-Ok-clause-executed c = λ s select lines.
 
 pub returns-in-Err-clause-executed : goal.returns-in-Err-clause-executed
 returns-in-Err-clause-executed c =
-    selects_stay c.refuse_memory.result c.args.desk.now c.args.session.now c.args.cubes.now c.refuse_memory.new.desk
-    c.refuse_memory.new.session c.args.table c.requires.at c.refuse_memory.ensures.executed
+    selects_stay_after c.refuse_memory.result c.open_read.new.self c.args.desk.now c.args.session.now c.args.cubes.now
+    c.refuse_memory.new.desk c.refuse_memory.new.session c.args.table c.in-Err.ensures.same c.requires.at
+    c.refuse_memory.ensures.executed
     c.refuse_memory.ensures.cubes c.refuse_memory.ensures.moves c.refuse_memory.ensures.turns

@@ -1,0 +1,9 @@
+use Rattle.row_changes.proofs.AnsweringDeletes.{delete_alone_answered}
+use Rattle.row_changes.proofs.deletes.delete_alone.Goals as goal
+
+pub returns-in-Ok-clause-executed : goal.returns-in-Ok-clause-executed
+returns-in-Ok-clause-executed c =
+    delete_alone_answered c.args.statement.now c.dropped_answer.result c.in-Ok.committed c.args.desk.now
+    c.args.session.now c.commit_alone.new.desk c.commit_alone.new.session c.args.cubes.now
+    c.remove_and_keep.new.cubes c.args.place c.args.span.now c.requires.at c.requires.form c.requires.span
+    c.in-Ok.ensures.committed c.remove_and_keep.ensures c.dropped_answer.ensures
