@@ -3,8 +3,10 @@
 ghost use Rattle.std.specs.Prelude.{◌≡◌, ◌≤◌, OnOk, OnErr, None};
 ghost use Rattle.one_session.specs.Pasts.{Beginning, SessionPast};
 ghost use Rattle.cube_run.specs.SessionStates.{SessionState};
+ghost use Rattle.aosi_register.specs.State.{state_of};
 ghost use Rattle.session_replies.specs.Modes.{mode_of};
-ghost use Rattle.session_desk.specs.AtDesk.{IsAtDesk, IsOpen};
+ghost use Rattle.session_desk.specs.AtDesk.{IsAtDesk, IsOpen, desk_with_entries};
+ghost use Rattle.session_desk.specs.Entries.{round_entries};
 ghost use Rattle.session_desk.specs.Ended.{EndsAtDesk, HasEnded};
 ghost use Rattle.session_desk.specs.Moves.{IsClosed, MovesOn};
 
@@ -39,6 +41,8 @@ pub fn close(desk: &mut Desk, session: &Session) -> Result<(), AllocError>
     ensures at { IsAtDesk desk.new session.now }
     ensures ended { OnOk result ((beginning : Beginning) (past : SessionPast) (state : SessionState)
         → HasEnded beginning past state desk.old → HasEnded beginning past state desk.new) }
+    ensures made { OnOk result (desk.new
+        ≡ desk_with_entries desk.old (round_entries (state_of desk.old.register))) }
     ensures same { OnErr result (desk.new ≡ desk.old) }
     ensures cubes { desk.new.cubes ≡ desk.old.cubes }
     ensures moves { MovesOn None desk.old desk.new }
