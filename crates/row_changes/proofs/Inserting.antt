@@ -1,13 +1,16 @@
 -- An INSERT that is encoded is executed on rows.
-use Rattle.std.proofs.Common.{◌≡◌, ◌∙◌, ℕ, List, [], ◌∷◌, ◌++◌, length, map, Some, None, refl, sym, ap, subst}
-use Rattle.std.specs.Prelude.{slice_get}
+use Rattle.std.proofs.Common.{◌≡◌, ◌∙◌, ℕ, suc, List, [], ◌∷◌, ◌++◌, length, map, Some, None, refl, sym, ap, subst, arith}
+use Rattle.std.specs.Prelude.{slice_get, All, false}
+use Rattle.std.proofs.lemmas.List.{get_or_default}
 use Rattle.cube_values.specs.Batches.{Batch}
 use Rattle.cube_values.specs.declared.operation.Operation.TheVariants.{Put}
 use Rattle.cube_values.specs.declared.row.CodedRow.{CodedRow}
+use Rattle.cube_values.specs.declared.row.StoredRow.{StoredRow}
 use Rattle.cube_values.specs.declared.snapshot.Snapshot.{Snapshot}
 use Rattle.cube_values.specs.declared.value.Value.{Value}
 use Rattle.cube_values.specs.declared.row.Row.{Row}
 use Rattle.cube_language.specs.declared.decl.Decl.{Decl}
+use Rattle.cube_language.specs.declared.decl.DimDecl.{DimDecl}
 use Rattle.cube_language.specs.declared.statement.Statement.{Statement}
 use Rattle.cube_language.specs.declared.statement.Statement.TheVariants.{Select, Insert, Load, Delete, Begin, Commit, Rollback, Flush, Purge, ShowEpochs, CreateCube, Watch, ShowWatch}
 use Rattle.cube_journal.specs.declared.refusal.Refusal.TheVariants as refusal
@@ -19,13 +22,17 @@ use Rattle.cube_run.specs.SessionStates.{Idle, Open}
 use Rattle.cube_run.specs.SessionSteps.{SessionStep, session_part}
 use Rattle.cube_run.specs.StepOutcomes.{refused_by_mode}
 use Rattle.names_dict.specs.Dictionaries.{Dictionary, names_of}
+use Rattle.agg_fold.specs.Coded.{row_for}
 use Rattle.condition_spans.specs.Codes.{lists_at}
-use Rattle.one_session.specs.Changes.{Come, ComeFor}
+use Rattle.query_plan.specs.Ties.{stored_for}
+use Rattle.one_session.specs.Changes.{AllStandForValues, Come, ComeFor}
 use Rattle.one_session.specs.Pasts.{Beginning, EndsWithMore, GoesOn, NamesOnlyCome}
 use Rattle.session_desk.specs.RowsDone.{past_with}
 use Rattle.session_replies.specs.RowEntries.{lone_refusal, own_commit}
 use Rattle.aosi_register.specs.State.{state_of}
 use Rattle.aosi_desk.specs.Desks.{DeskState}
+use Rattle.row_encoding.specs.CodedInserts.{HasCoords}
+use Rattle.row_encoding.specs.CodedValues.{HaveNames, NumbersHaveNoNames}
 use Rattle.row_encoding.specs.DictsAsEncoder.{MayEndAsTheyAre}
 use Rattle.statement_check.specs.OwnParts.{inserted_rows}
 use Rattle.session_replies.specs.Modes.{mode_of}
@@ -47,7 +54,6 @@ use Rattle.row_changes.specs.AnswersGiven.{InsertsRows}
 use Rattle.row_changes.specs.EncodedForms.{AreEncodedAt, IsBatchFor}
 use Rattle.row_changes.specs.MayCome.{MayCome}
 use Rattle.row_changes.specs.declared.encoded.EncodedRows.TheVariants.{Rows, Lacking}
-use Rattle.row_changes.proofs.NamedRows.{all_named, stored_of}
 use Rattle.row_changes.proofs.InRuns.{EndsThere, MeetsInRun, ends_there, meets_in_run}
 
 -- ---- the statement
@@ -73,6 +79,32 @@ insert_of (Watch items cube conds group) form = absurd form
 insert_of ShowWatch form = absurd form
 
 -- ---- rows that come
+
+stored_of : (name : List ℕ) (lists : List (List (List ℕ))) (coded : List CodedRow)
+    → map (stored_for name lists) coded ≡ rows_of_cube name (map (row_for lists) coded)
+stored_of name lists [] = refl
+stored_of name lists (row ∷ coded) =
+    ap (λ (rest : List StoredRow). stored_for name lists row ∷ rest) (stored_of name lists coded)
+
+all_named : (d : Decl) (lists : List (List (List ℕ))) (rows : List CodedRow) → NumbersHaveNoNames d lists
+    → All (HasCoords d) rows → All (λ row. HaveNames d lists row.coords) rows → AllStandForValues d lists rows
+all_named d lists [] numbers coords names = tt
+all_named d lists (row ∷ rows) numbers coords names = (
+  record {
+    of_cube = coords 0 row (omega arith);
+    each = λ k e l.
+        let same =
+        ap (λ (dim : DimDecl). dim.text)
+        (get_or_default d.dims k (record { name = []; text = false; cardinality = 0; range = 0 }) e l)
+        in
+        record {
+          number = λ is. numbers k l (same ∙ is);
+          text = λ is. names 0 row (omega arith) k (same ∙ is);
+        };
+  },
+  all_named d lists rows numbers (λ k x l. coords (suc k) x (omega (arith, l)))
+      (λ k x l. names (suc k) x (omega (arith, l))),
+)
 
 -- Rows of an INSERT come to a cube for those that it puts, in each run that ends with names that may come.
 come_for : (d : Decl) (dictionaries : List (List Dictionary)) (place : ℕ) (given : List (List Value)) (batch : Batch)

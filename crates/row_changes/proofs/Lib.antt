@@ -3,7 +3,6 @@ pub mod HeldChanges
 pub mod Encoding
 pub mod ApartNames
 pub mod InRuns
-pub mod NamedRows
 pub mod Inserting
 pub mod Answering
 pub mod AnsweringInserts
