@@ -1,25 +1,24 @@
 -- What calls make of what a brick has, there or not.
 use Rattle.std.proofs.Common.{◌≡◌, ℕ, ◌+◌, ◌≤◌, ◌==◌, ◌||◌, nat_le, nat_eq, not, Bool, true, false, cond, List, [], ◌∷◌, ◌++◌, map, filter, All, Option, Some, None, option_map, unwrap_or, refl, sym, ap, ◌∙◌, arith}
-use Rattle.std.specs.List.{AllByRecursion, AllZip, IsDistinct, items_where_true}
+use Rattle.std.specs.List.{AllByRecursion, AllZip, IsDistinct, flat_map, items_where_true}
 use Rattle.std.specs.Option.{option_map_or}
 use Rattle.std.proofs.lemmas.Bool.Decides.{nat_tests}
 use Rattle.std.proofs.lemmas.List.{append-nil}
 use Rattle.std.proofs.lemmas.List.Elements.{All-filter, All-head, All-tail, All-weaker, filter-append}
+use Rattle.cube_values.specs.declared.entry.Entry.{Entry}
 use Rattle.cube_values.specs.declared.row.CodedRow.{CodedRow}
 use Rattle.cube_values.specs.declared.shape.CubeShape.{CubeShape}
 use Rattle.cube_values.specs.declared.shape.Size.{Size}
-use Rattle.cube_values.specs.declared.snapshot.Snapshot.{Snapshot}
 use Rattle.cube_values.specs.declared.span.Span.{Span}
 use Rattle.brick_address.specs.Addresses.{brick_of}
 use Rattle.brick_columns.proofs.KeptItems.{kept_all}
 use Rattle.brick_store.specs.Bricks.{Home, BrickState, IsRowOf}
-use Rattle.brick_store.specs.Rows.{rows_shown, span_has_row}
-use Rattle.epochs_vector.specs.Seen.{seen_rows}
+use Rattle.brick_store.specs.Rows.{span_has_row}
 use Rattle.brick_map.specs.declared.deletion.Deletion.{Deletion}
 use Rattle.brick_map.specs.declared.runs.BatchRun.{BatchRun}
 use Rattle.brick_map.specs.Appended.{AreAppended}
 use Rattle.brick_map.specs.Batches.{AreRuns, has_run, runs_for}
-use Rattle.brick_map.specs.Births.{BrickContent, brick_numbered, content_among, content_of, content_purged, content_with_mark, content_with_rows, content_without, has_brick, newborn, rows_found, rows_of_brick}
+use Rattle.brick_map.specs.Births.{BrickContent, brick_numbered, content_among, content_of, content_purged, content_with_mark, content_with_rows, content_without, has_brick, newborn, rows_of_brick}
 use Rattle.brick_map.specs.Lists.{HasSame, IsBrickOf, OwnsRows, brick_after_deletion, brick_purged, brick_with_mark, brick_without, spare_entries_at}
 use Rattle.brick_map.specs.Places.{numbers_of_bricks}
 use Rattle.brick_map.specs.Waiting.{IsReadyFor}
@@ -91,23 +90,23 @@ purged_among sizes recent epoch number bricks =
       by_option (Some b) = refl
 
 -- the rows that a query finds, brick by brick
-module _ (sizes : List Size) (span : Span) (snapshot : Snapshot) where
+module _ (sizes : List Size) (span : Span) (bits : List Entry → List Bool) where
   abbrev shown : BrickState → List CodedRow
-  shown b = rows_shown span snapshot b.entries b.rows
+  shown b = filter (span_has_row span) (items_where_true (bits b.entries) b.rows)
 
   abbrev seen : BrickContent → List CodedRow
-  seen c = rows_shown span snapshot c.entries c.rows
+  seen c = filter (span_has_row span) (items_where_true (bits c.entries) c.rows)
 
   abbrev found : List BrickState → List CodedRow
-  found bricks = rows_found span snapshot bricks
+  found bricks = flat_map shown bricks
 
   shown_of : (shape : CubeShape) (number : ℕ) (b : BrickState) → shape.shape.sizes ≡ sizes → IsBrickOf shape b → OwnsRows b → rows_of_brick sizes number (shown b) ≡ cond (number == b.home.number) (shown b) []
   shown_of shape number b e is own =
       let home : b.home.sizes ≡ sizes = ap (λ (home : Home). home.sizes) is.home ∙ e in
       let P : CodedRow → Type 0 = λ row. brick_of sizes row.coords ≡ b.home.number in
       let all : All P b.rows = All-weaker (IsRowOf b.home) P (λ row i. ap (λ s. brick_of s row.coords) (sym home) ∙ i.coords.of_brick) b.rows own in
-      let bits = seen_rows snapshot b.entries in
-      rows_of_run sizes number b.home.number (shown b) (All-filter (span_has_row span) P (items_where_true bits b.rows) (kept_all P bits b.rows all))
+      let here = bits b.entries in
+      rows_of_run sizes number b.home.number (shown b) (All-filter (span_has_row span) P (items_where_true here b.rows) (kept_all P here b.rows all))
 
   not_other : (a b : ℕ) → (a == b) ≡ false → (b == a) ≡ false
   not_other a b h = grind (arith, nat_tests)
@@ -128,9 +127,9 @@ module _ (sizes : List Size) (span : Span) (snapshot : Snapshot) where
       let first : (a == n) ≡ false = h.0 in
       (grind (arith, nat_tests), others_apart a number numbers e h.1)
 
-  pub found_in : (shape : CubeShape) (recent : List Deletion) (number : ℕ) (bricks : List BrickState) → shape.shape.sizes ≡ sizes → All (IsBrickOf shape) bricks → All OwnsRows bricks → IsDistinct nat_eq (numbers_of_bricks bricks) → rows_of_brick sizes number (found bricks) ≡ (let c = content_among sizes recent bricks number in rows_shown span snapshot c.entries c.rows)
+  pub found_in : (shape : CubeShape) (recent : List Deletion) (number : ℕ) (bricks : List BrickState) → shape.shape.sizes ≡ sizes → All (IsBrickOf shape) bricks → All OwnsRows bricks → IsDistinct nat_eq (numbers_of_bricks bricks) → rows_of_brick sizes number (found bricks) ≡ seen (content_among sizes recent bricks number)
   unfolding IsDistinct
-  found_in shape recent number [] e all own apart = sym (ap (filter (span_has_row span)) (none_kept (seen_rows snapshot (newborn sizes recent number).entries))) where
+  found_in shape recent number [] e all own apart = sym (ap (filter (span_has_row span)) (none_kept (bits (newborn sizes recent number).entries))) where
     none_kept : (bits : List Bool) → let none : List CodedRow = [] in items_where_true bits none ≡ none
     none_kept [] = refl
     none_kept (b ∷ bits) = refl

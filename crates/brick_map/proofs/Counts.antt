@@ -3,7 +3,7 @@ use Rattle.std.proofs.Common.{◌≡◌, ℕ, ◌+◌, ◌<◌, ◌≤◌, ◌==
 use Rattle.std.specs.List.{AllZip}
 use Rattle.std.specs.Option.{option_map_or}
 use Rattle.std.proofs.lemmas.Bool.Decides.{nat_tests}
-use Rattle.std.proofs.lemmas.List.Elements.{All-cons, All-head, All-tail}
+use Rattle.std.proofs.lemmas.List.Elements.{All-nil, All-cons, All-head, All-tail}
 use Rattle.std.proofs.lemmas.List.Sums.{sum_by-cons}
 use Rattle.cube_values.specs.declared.shape.CubeShape.{CubeShape}
 use Rattle.cube_values.specs.declared.shape.Size.{Size}
@@ -77,6 +77,13 @@ numbered_holds P number (x ∷ bricks) b all e = by_test (λ e. numbered_holds P
       let is : x.home.number ≡ number = grind (arith, nat_tests) in
       (subst P same (All-head P x bricks all), ap (λ (b : BrickState). b.home.number) (sym same) ∙ is)
   by_test again false h e = again e
+
+-- the brick of a number has it
+pub numbered_at : (number : ℕ) (bricks : List BrickState) (b : BrickState) → brick_numbered number bricks ≡ Some b → b.home.number ≡ number
+numbered_at number bricks b e = (numbered_holds (λ b. Unit {0}) number bricks b (each_trivial bricks) e).1 where
+  each_trivial : (bricks : List BrickState) → All (λ (b : BrickState). Unit {0}) bricks
+  each_trivial [] = All-nil (λ (b : BrickState). Unit {0})
+  each_trivial (x ∷ bricks) = All-cons (λ (b : BrickState). Unit {0}) x bricks tt (each_trivial bricks)
 
 -- bricks that have what others have
 pub same_count : (old new : List BrickState) → AllZip HasSame old new → rows_count new ≡ rows_count old

@@ -10,4 +10,5 @@ pub mod Coverage
 pub mod Scans
 pub mod Newborn
 pub mod Readied
+pub mod Rising
 pub mod Cubes

@@ -1,20 +1,20 @@
 -- The rows of bricks that a query finds, and how many they are.
-use Rattle.std.proofs.Common.{◌≡◌, ℕ, ◌+◌, ◌<◌, ◌≤◌, Bool, true, false, cond, List, [], ◌∷◌, ◌++◌, length, take, drop, get_or, refl, sym, ap, ◌∙◌, arith}
-use Rattle.std.specs.List.{items_where_true}
+use Rattle.std.proofs.Common.{◌≡◌, ℕ, ◌+◌, ◌<◌, ◌≤◌, Bool, true, false, cond, List, [], ◌∷◌, ◌++◌, length, take, drop, filter, get_or, refl, sym, ap, ◌∙◌, arith}
+use Rattle.std.specs.List.{flat_map, items_where_true}
 use Rattle.std.proofs.lemmas.List.{length-append, take_more, take-append-drop}
 use Rattle.std.proofs.lemmas.List.Concat.{flat_map-append}
 use Rattle.std.proofs.lemmas.List.{append-nil}
+use Rattle.cube_values.specs.declared.entry.Entry.{Entry}
+use Rattle.cube_values.specs.declared.row.CodedRow.{CodedRow}
 use Rattle.cube_values.specs.declared.query.BoundQuery.{BoundQuery}
 use Rattle.cube_values.specs.declared.shape.Size.{Size}
-use Rattle.cube_values.specs.declared.snapshot.Snapshot.{Snapshot}
 use Rattle.cube_values.specs.declared.span.Span.{Span}
 use Rattle.agg_fold.specs.declared.groups.Groups.{Groups}
 use Rattle.agg_fold.specs.Standing.{Gains, HasRoom}
 use Rattle.brick_store.specs.Bricks.{BrickState}
-use Rattle.brick_store.specs.Rows.{rows_shown, span_has_row}
+use Rattle.brick_store.specs.Rows.{span_has_row}
 use Rattle.brick_store.proofs.Folds.{filter_short, gains_more, gains_same, room_after, set_short}
-use Rattle.epochs_vector.specs.Seen.{seen_rows}
-use Rattle.brick_map.specs.Births.{has_brick, rows_count, rows_found}
+use Rattle.brick_map.specs.Births.{has_brick, rows_count}
 use Rattle.brick_map.specs.Lists.{HasSame, MayMark, brick_before_deletion, brick_with_room}
 use Rattle.brick_map.proofs.Counts.{count_cons, count_push}
 
@@ -31,33 +31,39 @@ count_front i bricks =
     let whole = ap rows_count (take-append-drop i bricks) in
     omega (arith, whole, count_append (take i bricks) (drop i bricks))
 
-found_short : (span : Span) (snapshot : Snapshot) (bricks : List BrickState) → length (rows_found span snapshot bricks) ≤ rows_count bricks
-found_short span snapshot [] = omega arith
-found_short span snapshot (b ∷ bricks) =
-    let bits = seen_rows snapshot b.entries in
-    let few = filter_short (span_has_row span) (items_where_true bits b.rows) in
-    omega (arith, length-append (rows_shown span snapshot b.entries b.rows) (rows_found span snapshot bricks), few, set_short bits b.rows, found_short span snapshot bricks, count_cons b bricks)
+module _ (query : BoundQuery) (bits : List Entry → List Bool) where
+  abbrev shown : BrickState → List CodedRow
+  shown b = filter (span_has_row query.span) (items_where_true (bits b.entries) b.rows)
 
--- room for the rows of the next brick
-pub room_for_next : (query : BoundQuery) (snapshot : Snapshot) (bricks : List BrickState) (i : ℕ) (b : BrickState) (g h : Groups) → i < length bricks → b ≡ get_or bricks i b → HasRoom query (rows_count bricks) g → Gains query (rows_found query.span snapshot (take i bricks)) g h → HasRoom query (length b.rows) h
-room_for_next query snapshot bricks i b g h l is room gains =
-    let more = count_more bricks i b l in
-    let most = count_front (i + 1) bricks in
-    let short = found_short query.span snapshot (take i bricks) in
-    let long = ap (λ (b : BrickState). length b.rows) is in
-    room_after query (rows_count bricks) (length b.rows) (rows_found query.span snapshot (take i bricks)) g h (omega (arith, more, most, short, long)) room gains
+  abbrev found : List BrickState → List CodedRow
+  found bricks = flat_map shown bricks
 
--- the next brick is found
-pub found_more : (query : BoundQuery) (snapshot : Snapshot) (bricks : List BrickState) (i : ℕ) (b : BrickState) (g h k : Groups) → i < length bricks → b ≡ get_or bricks i b → Gains query (rows_found query.span snapshot (take i bricks)) g h → Gains query (rows_shown query.span snapshot b.entries b.rows) h k → Gains query (rows_found query.span snapshot (take (i + 1) bricks)) g k
-found_more query snapshot bricks i b g h k l is before now =
-    let span = query.span in
-    let old = rows_found span snapshot (take i bricks) in
-    let one = rows_shown span snapshot b.entries b.rows in
-    let joined : old ++ one ≡ rows_found span snapshot (take (i + 1) bricks) =
-    ap (λ l. old ++ l) (ap (λ (b : BrickState). rows_shown span snapshot b.entries b.rows) is ∙ sym (append-nil (let c = get_or bricks i b in rows_shown span snapshot c.entries c.rows)))
-    ∙ sym (flat_map-append (λ (b : BrickState). rows_shown span snapshot b.entries b.rows) (take i bricks) (get_or bricks i b ∷ []))
-    ∙ ap (rows_found span snapshot) (sym (take_more bricks i b l)) in
-    gains_same query (old ++ one) (rows_found span snapshot (take (i + 1) bricks)) g k joined (gains_more query old one g h k before now)
+  pub found_short : (bricks : List BrickState) → length (found bricks) ≤ rows_count bricks
+  found_short [] = omega arith
+  found_short (b ∷ bricks) =
+      let here = bits b.entries in
+      let few = filter_short (span_has_row query.span) (items_where_true here b.rows) in
+      omega (arith, length-append (shown b) (found bricks), few, set_short here b.rows, found_short bricks, count_cons b bricks)
+
+  -- room for the rows of the next brick
+  pub room_for_next : (bricks : List BrickState) (i : ℕ) (b : BrickState) (g h : Groups) → i < length bricks → b ≡ get_or bricks i b → HasRoom query (rows_count bricks) g → Gains query (found (take i bricks)) g h → HasRoom query (length b.rows) h
+  room_for_next bricks i b g h l is room gains =
+      let more = count_more bricks i b l in
+      let most = count_front (i + 1) bricks in
+      let short = found_short (take i bricks) in
+      let long = ap (λ (b : BrickState). length b.rows) is in
+      room_after query (rows_count bricks) (length b.rows) (found (take i bricks)) g h (omega (arith, more, most, short, long)) room gains
+
+  -- the next brick is found
+  pub found_more : (bricks : List BrickState) (i : ℕ) (b : BrickState) (g h k : Groups) → i < length bricks → b ≡ get_or bricks i b → Gains query (found (take i bricks)) g h → Gains query (shown b) h k → Gains query (found (take (i + 1) bricks)) g k
+  found_more bricks i b g h k l is before now =
+      let old = found (take i bricks) in
+      let one = shown b in
+      let joined : old ++ one ≡ found (take (i + 1) bricks) =
+      ap (λ l. old ++ l) (ap shown is ∙ sym (append-nil (shown (get_or bricks i b))))
+      ∙ sym (flat_map-append shown (take i bricks) (get_or bricks i b ∷ []))
+      ∙ ap found (sym (take_more bricks i b l)) in
+      gains_same query (old ++ one) (found (take (i + 1) bricks)) g k joined (gains_more query old one g h k before now)
 
 -- room for a mark
 pub before_same : (sizes : List Size) (box : Span) (b : BrickState) → HasSame b (brick_before_deletion sizes box b)

@@ -18,6 +18,7 @@ use Rattle.brick_address.specs.Addresses.{brick_of, coords_of}
 use Rattle.epochs_vector.specs.Without.{staying_bits, entries_without}
 use Rattle.purge_plan.specs.Purged.{spared_bits, purged_entries}
 use Rattle.brick_store.specs.Bricks.{BrickState}
+use Rattle.brick_store.specs.Deltas.{rows_apart}
 use Rattle.brick_store.specs.Rows.{rows_shown}
 use Rattle.brick_map.specs.declared.deletion.Deletion.{Deletion}
 
@@ -105,3 +106,7 @@ content_purged epoch c = record {
 -- The rows that a query finds, brick by brick in the order of births.
 abbrev pub rows_found : Span → Snapshot → List BrickState → List CodedRow
 rows_found span snapshot bricks = flat_map (λ b. rows_shown span snapshot b.entries b.rows) bricks
+
+-- The rows that one snapshot finds and another does not, brick by brick in the order of births.
+abbrev pub rows_found_apart : Span → Snapshot → Snapshot → List BrickState → List CodedRow
+rows_found_apart span one other bricks = flat_map (λ b. rows_apart span one other b.entries b.rows) bricks

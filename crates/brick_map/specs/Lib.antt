@@ -5,3 +5,4 @@ pub mod Places
 pub mod Waiting
 pub mod Appended
 pub mod Cubes
+pub mod Copied

@@ -5,10 +5,13 @@ ghost use Rattle.cube_values.specs.Queries.{IsSoundQuery};
 ghost use Rattle.cube_values.specs.Shapes.{IsSoundCube};
 ghost use Rattle.cube_values.specs.Spans.{IsSoundPart};
 ghost use Rattle.agg_fold.specs.Standing.{Gains, HasRoom};
+ghost use Rattle.brick_store.specs.Deltas.{rows_apart};
 ghost use Rattle.brick_store.specs.Rows.{rows_shown};
+ghost use Rattle.cube_rounds.specs.Demands.{AreRising};
 ghost use Rattle.condition_spans.specs.Spans.{CutNoBrick};
 ghost use Rattle.brick_map.specs.Batches.{IsRowOfCube};
-ghost use Rattle.brick_map.specs.Births.{brick_in, content_purged, content_with_mark, content_with_rows, content_without, has_brick, rows_count, rows_found, rows_of_brick, sizes_of};
+ghost use Rattle.brick_map.specs.Births.{brick_in, content_purged, content_with_mark, content_with_rows, content_without, has_brick, rows_count, rows_found, rows_found_apart, rows_of_brick, sizes_of};
+ghost use Rattle.brick_map.specs.Copied.{IsCopied, part_numbered, round_part_with};
 ghost use Rattle.brick_map.specs.Cubes.{HasSameBricks};
 ghost use Rattle.brick_map.specs.Waiting.{is_above, is_of_other};
 
@@ -16,10 +19,11 @@ use crate::append::append_runs;
 use crate::birth::prepare_runs;
 use crate::deletion::Deletion;
 use crate::list::BrickList;
-use crate::passes::{count_rows, scan_each};
+use crate::passes::{compare_each, count_rows, scan_each};
 use crate::recent::{forget_epoch, forget_up_to};
 use crate::runs::runs_of;
 use agg_fold::Partial;
+use cube_rounds::RoundBrickList;
 use cube_values::{BoundQuery, CodedRows, CubeShape, Snapshot, Span};
 use std::alloc::{AllocError, Global};
 use std::marker::Model;
@@ -36,6 +40,7 @@ pub struct CubeBricks {
 
 impl Model for CubeBricks {
     ghost use Rattle.brick_map.specs.Births.{CubeState};
+    ghost use Rattle.brick_map.specs.Copied.{IsCopied, part_numbered, round_part_with};
     ghost use Rattle.brick_map.specs.Cubes.{cube_state, IsCubeWhole};
 
     ghost Value = { CubeState };
@@ -176,5 +181,54 @@ impl CubeBricks {
     {
         scan_each(self.list.as_slice(), query, snapshot, into)?;
         Ok(())
+    }
+
+    /// Adds to two partials what changes from one snapshot to another: the rows of the query's span that came,
+    /// which the second sees and the first does not, and those that went, which the first sees and the second
+    /// does not, brick by brick. After an error, which is want of memory, the partials are to be dropped.
+    pub fn delta(
+        &self,
+        query: &BoundQuery,
+        from: &Snapshot,
+        to: &Snapshot,
+        came: &mut Partial,
+        went: &mut Partial,
+    ) -> Result<(), AllocError>
+        requires sound { IsSoundQuery query.now
+            (length (sizes_of self.now)) self.now.shape.metrics }
+        requires parts { All IsSoundPart query.now.span.parts }
+        requires came_room { HasRoom query.now (rows_count self.now.bricks) came.old.groups }
+        requires went_room { HasRoom query.now (rows_count self.now.bricks) went.old.groups }
+        ensures came { OnOk result (Gains query.now
+            (rows_found_apart query.now.span to.now from.now self.now.bricks)
+            came.old.groups came.new.groups) }
+        ensures went { OnOk result (Gains query.now
+            (rows_found_apart query.now.span from.now to.now self.now.bricks)
+            went.old.groups went.new.groups) }
+        ensures came_by_brick { OnOk result ((number : ℕ)
+            → rows_of_brick (sizes_of self.now) number
+            (rows_found_apart query.now.span to.now from.now self.now.bricks)
+            ≡ rows_apart query.now.span to.now from.now
+            (brick_in self.now number).entries (brick_in self.now number).rows) }
+        ensures went_by_brick { OnOk result ((number : ℕ)
+            → rows_of_brick (sizes_of self.now) number
+            (rows_found_apart query.now.span from.now to.now self.now.bricks)
+            ≡ rows_apart query.now.span from.now to.now
+            (brick_in self.now number).entries (brick_in self.now number).rows) }
+    {
+        compare_each(self.list.as_slice(), query, from, to, came, went)?;
+        Ok(())
+    }
+
+    /// What a round from one epoch up to another has of each brick with entries of it, by rising number. A
+    /// brick that is not there has no rows, and is left out. It is an error where memory is wanted.
+    pub fn copy(&self, from: u64, to: u64) -> Result<RoundBrickList, AllocError>
+        ensures rising { IfOk result (AreRising 0) }
+        ensures parts { IfOk result (λ parts. (number : ℕ)
+            → IsCopied (round_part_with from to number (brick_in self.now number))
+            (brick_in self.now number).rows (part_numbered number parts)) }
+    {
+        let parts = self.list.copy(from, to)?;
+        Ok(RoundBrickList::from_vec(parts))
     }
 }

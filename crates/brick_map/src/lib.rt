@@ -3,6 +3,7 @@
 
 mod append;
 mod birth;
+mod copies;
 mod cube;
 mod deletion;
 mod list;

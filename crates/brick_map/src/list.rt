@@ -1,18 +1,22 @@
 //! Bricks in a list, and a map from their numbers to their places.
 
-ghost use Rattle.std.specs.Prelude.{◌≡◌, ◌++◌, ◌∷◌, [], ◌-◌, ◌+◌, ◌<◌, ◌≤◌, length, map, All, nat_eq, None, OnOk, OnErr, IsSomeAnd};
+ghost use Rattle.std.specs.Prelude.{◌≡◌, ◌++◌, ◌∷◌, [], ◌-◌, ◌+◌, ◌<◌, ◌≤◌, ℕ, length, map, slice_get, All, nat_eq, None, IfOk, OnOk, OnErr, IsSomeAnd};
 ghost use Rattle.std.specs.List.{IsDistinct, AllZip};
 ghost use Rattle.cube_values.specs.Shapes.{IsSoundShape, bricks_of};
 ghost use Rattle.cube_values.specs.Spans.{IsSoundPart};
 ghost use Rattle.condition_spans.specs.Spans.{CutNoBrick};
 ghost use Rattle.brick_columns.specs.Rows.{rows_between};
 ghost use Rattle.brick_store.specs.Bricks.{IsRowOf};
+ghost use Rattle.cube_rounds.specs.Demands.{AreRising};
 ghost use Rattle.brick_map.specs.Births.{brick_numbered};
+ghost use Rattle.brick_map.specs.Copied.{part_numbered, parts_at};
 ghost use Rattle.brick_map.specs.Lists.{HasNumberBelow, HasSame, MayMark, TakesRows, bricks_with, brick_after_deletion, brick_purged, brick_with_room, brick_with_rows, brick_without};
 ghost use Rattle.brick_map.specs.Places.{place_of, numbers_of_bricks};
 
+use crate::copies::copy_by_number;
 use crate::passes::{delete_from_each, prepare_deletions, purge_each, rollback_each};
 use brick_store::Brick;
+use cube_rounds::RoundBrick;
 use cube_values::{CodedRows, Shape, Span};
 use std::alloc::{AllocError, Global};
 use std::collections::BTreeMap;
@@ -149,5 +153,15 @@ impl BrickList {
         ensures { self.new ≡ map (brick_purged epoch) self.old }
     {
         purge_each(self.bricks.as_mut_slice(), epoch);
+    }
+
+    /// What a round from one epoch up to another has of each brick with entries of it, by rising number.
+    pub fn copy(&self, from: u64, to: u64) -> Result<Vec<RoundBrick>, AllocError>
+        ensures rising { IfOk result (λ parts. AreRising 0 parts.items) }
+        ensures parts { IfOk result (λ parts. (number : ℕ)
+            → part_numbered number parts.items ≡ slice_get (parts_at from to self.now number) 0) }
+    {
+        let alloc = *self.bricks.allocator();
+        copy_by_number(alloc, self.bricks.as_slice(), &self.places, from, to)
     }
 }

@@ -7,7 +7,7 @@ ghost use Rattle.cube_values.specs.Shapes.{IsSoundShape, bricks_of};
 ghost use Rattle.cube_values.specs.Spans.{IsSoundPart};
 ghost use Rattle.agg_fold.specs.Standing.{Gains, HasRoom};
 ghost use Rattle.condition_spans.specs.Spans.{CutNoBrick};
-ghost use Rattle.brick_map.specs.Births.{rows_count, rows_found};
+ghost use Rattle.brick_map.specs.Births.{rows_count, rows_found, rows_found_apart};
 ghost use Rattle.brick_map.specs.Lists.{HasNumberBelow, HasSame, MayMark, IsAsked, OwnsRows, brick_after_deletion, brick_purged, brick_without};
 
 use crate::marks::{delete_from, prepare_deletion};
@@ -91,6 +91,34 @@ pub fn scan_each(
     for brick in bricks {
         let _rows = brick.len();
         brick.scan(query, snapshot, into)?;
+    }
+    Ok(())
+}
+
+/// Adds to two partials what changes of each brick from one snapshot to another: the rows of the query's span
+/// that the second alone sees, and those that the first alone sees.
+pub fn compare_each(
+    bricks: &[Brick],
+    query: &BoundQuery,
+    from: &Snapshot,
+    to: &Snapshot,
+    came: &mut Partial,
+    went: &mut Partial,
+) -> Result<(), AllocError>
+    requires sound { All (IsAsked query.now) bricks.now }
+    requires came_room { HasRoom query.now (rows_count bricks.now) came.old.groups }
+    requires went_room { HasRoom query.now (rows_count bricks.now) went.old.groups }
+    ensures came { OnOk result (Gains query.now
+        (rows_found_apart query.now.span to.now from.now bricks.now)
+        came.old.groups came.new.groups) }
+    ensures went { OnOk result (Gains query.now
+        (rows_found_apart query.now.span from.now to.now bricks.now)
+        went.old.groups went.new.groups) }
+    ensures own { OnOk result (All OwnsRows bricks.now) }
+{
+    for brick in bricks {
+        let _rows = brick.len();
+        brick.delta(query, from, to, came, went)?;
     }
     Ok(())
 }

@@ -1,8 +1,9 @@
 -- Rows that a partial gains one after another.
 use Rattle.std.proofs.Common.{◌≡◌, ℕ, ◌+◌, ◌<◌, ◌≤◌, Bool, true, false, List, [], ◌∷◌, ◌++◌, All, length, map, take, filter, get_or, cond, zero, suc, add-one, refl, sym, ap, subst, ◌∙◌, arith}
 use Rattle.std.specs.List.{items_where_true}
+use Rattle.std.proofs.lemmas.Bool.{false≢true}
 use Rattle.std.proofs.lemmas.List.{append-nil, append_assoc, length-append, length-take-le, length-map, get_or-map}
-use Rattle.std.proofs.lemmas.List.Elements.{All-head, All-tail, All-get_or, filter-append}
+use Rattle.std.proofs.lemmas.List.Elements.{All-head, All-tail}
 use Rattle.std.proofs.lemmas.List.Sums.{sum_by-cons}
 use Rattle.cube_values.specs.BitRows.{set_bits}
 use Rattle.cube_values.specs.declared.query.BoundQuery.{BoundQuery}
@@ -10,7 +11,6 @@ use Rattle.cube_values.specs.declared.row.CodedRow.{CodedRow}
 use Rattle.agg_fold.specs.declared.groups.Groups.{Groups}
 use Rattle.agg_fold.specs.Standing.{StandsFor, HasRoom, Gains}
 use Rattle.brick_columns.specs.Rows.{BrickRow, row_at}
-use Rattle.brick_store.specs.Rows.{span_has_row}
 use Rattle.brick_store.specs.Whole.{row_with_coords}
 
 -- no rows, and more rows after others
@@ -34,12 +34,6 @@ module _ {A : Type 0} (test : A → Bool) where
   filter_none [] h = refl
   filter_none (x ∷ xs) h =
       ap (λ b. cond b (x ∷ filter test xs) (filter test xs)) (All-head (λ x. test x ≡ false) x xs h) ∙ filter_none xs (All-tail (λ x. test x ≡ false) x xs h)
-
-  pub filter_yes : (x : A) → test x ≡ true → filter test (x ∷ []) ≡ x ∷ []
-  filter_yes x e = ap (λ b. cond b (x ∷ []) []) e
-
-  pub filter_no : (x : A) → test x ≡ false → filter test (x ∷ []) ≡ []
-  filter_no x e = ap (λ b. cond b (x ∷ []) []) e
 
   pub filter_short : (xs : List A) → length (filter test xs) ≤ length xs
   filter_short [] = omega arith
@@ -65,35 +59,33 @@ set_more {A = A} bits xs i d p q = ap (λ n. items_where_true (take n bits) (tak
   by_place (true ∷ bits) (x ∷ xs) (suc i) p q = ap (λ ys. x ∷ ys) (by_place bits xs i (omega arith) (omega arith))
   by_place (false ∷ bits) (x ∷ xs) (suc i) p q = by_place bits xs i (omega arith) (omega arith)
 
--- what the fold has of the first i rows
-pub filtered_short : {A : Type 0} (test : A → Bool) (bits : List Bool) (xs : List A) (i : ℕ) → i ≤ length xs → length (filter test (items_where_true (take i bits) (take i xs))) ≤ i
-filtered_short test bits xs i h =
-    omega (arith, filter_short test (items_where_true (take i bits) (take i xs)), set_short (take i bits) (take i xs), length-take-le i xs h)
+-- the fold has no more of the first i rows
+pub chosen_short : {A : Type 0} (bits : List Bool) (xs : List A) (i : ℕ) → i ≤ length xs → length (items_where_true (take i bits) (take i xs)) ≤ i
+chosen_short bits xs i h = omega (arith, set_short (take i bits) (take i xs), length-take-le i xs h)
 
-pub folded_more : {A : Type 0} (test : A → Bool) (bits : List Bool) (xs : List A) (i : ℕ) (d : A) → i < length bits → i < length xs → filter test (items_where_true (take (i + 1) bits) (take (i + 1) xs)) ≡ filter test (items_where_true (take i bits) (take i xs)) ++ filter test (cond (get_or bits i false) (get_or xs i d ∷ []) [])
-folded_more test bits xs i d p q =
-    ap (filter test) (set_more bits xs i d p q) ∙ filter-append test (items_where_true (take i bits) (take i xs)) (cond (get_or bits i false) (get_or xs i d ∷ []) [])
+-- what holds of all that are chosen holds of one whose bit is set
+pub chosen_has : {A : Type 0} (P : A → Type 0) (bits : List Bool) (xs : List A) (i : ℕ) (d : A) → get_or bits i false ≡ true → i < length xs → All P (items_where_true bits xs) → P (get_or xs i d)
+chosen_has P [] xs i d e l all = absurd (false≢true e)
+chosen_has P (b ∷ bits) [] i d e l all = absurd (omega arith)
+chosen_has P (true ∷ bits) (x ∷ xs) zero d e l all = All-head P x (items_where_true bits xs) all
+chosen_has P (false ∷ bits) (x ∷ xs) zero d e l all = absurd (false≢true e)
+chosen_has P (true ∷ bits) (x ∷ xs) (suc i) d e l all = chosen_has P bits xs i d e (omega arith) (All-tail P x (items_where_true bits xs) all)
+chosen_has P (false ∷ bits) (x ∷ xs) (suc i) d e l all = chosen_has P bits xs i d e (omega arith) all
 
 -- a row of columns by its coordinates
 pub row_there : (starts : List ℕ) (rows : List BrickRow) (i : ℕ) (d : CodedRow) → i < length rows → get_or (map (row_with_coords starts) rows) i d ≡ row_with_coords starts (row_at rows i)
 row_there starts rows i d l = get_or-map (row_with_coords starts) rows i (record { offsets = []; metrics = [] }) d l
 
-pub of_each : (P : CodedRow → Type 0) (starts : List ℕ) (rows : List BrickRow) (i : ℕ) → i < length rows → All P (map (row_with_coords starts) rows) → P (row_with_coords starts (row_at rows i))
-of_each P starts rows i l all =
-    let d : CodedRow = record { coords = []; metrics = [] } in
-    subst P (row_there starts rows i d l) (All-get_or P (map (row_with_coords starts) rows) i d (omega (arith, length-map rows (row_with_coords starts))) all)
-
 -- one more row of the fold
-pub gains_row : (query : BoundQuery) (starts : List ℕ) (bits : List Bool) (rows : List BrickRow) (i : ℕ) (seen : Bool) (g h k : Groups) → i < length bits → i < length rows → seen ≡ get_or bits i false → Gains query (filter (span_has_row query.span) (items_where_true (take i bits) (take i (map (row_with_coords starts) rows)))) g h → Gains query (filter (span_has_row query.span) (cond seen (row_with_coords starts (row_at rows i) ∷ []) [])) h k → Gains query (filter (span_has_row query.span) (items_where_true (take (i + 1) bits) (take (i + 1) (map (row_with_coords starts) rows)))) g k
+pub gains_row : (query : BoundQuery) (starts : List ℕ) (bits : List Bool) (rows : List BrickRow) (i : ℕ) (seen : Bool) (g h k : Groups) → i < length bits → i < length rows → seen ≡ get_or bits i false → Gains query (items_where_true (take i bits) (take i (map (row_with_coords starts) rows))) g h → Gains query (cond seen (row_with_coords starts (row_at rows i) ∷ []) []) h k → Gains query (items_where_true (take (i + 1) bits) (take (i + 1) (map (row_with_coords starts) rows))) g k
 gains_row query starts bits rows i seen g h k p q e before now =
     let all : List CodedRow = map (row_with_coords starts) rows in
     let d : CodedRow = record { coords = []; metrics = [] } in
-    let test : CodedRow → Bool = span_has_row query.span in
     let same : cond seen (row_with_coords starts (row_at rows i) ∷ []) [] ≡ cond (get_or bits i false) (get_or all i d ∷ []) [] =
     λ t. cond (e t) (sym (row_there starts rows i d q) t ∷ []) [] in
-    let more = folded_more test bits all i d p (omega (arith, length-map rows (row_with_coords starts))) in
-    gains_same query _ _ g k (ap (λ l. filter test (items_where_true (take i bits) (take i all)) ++ filter test l) same ∙ sym more)
-    (gains_more query (filter test (items_where_true (take i bits) (take i all))) (filter test (cond seen (row_with_coords starts (row_at rows i) ∷ []) [])) g h k before now)
+    let more = set_more bits all i d p (omega (arith, length-map rows (row_with_coords starts))) in
+    gains_same query _ _ g k (ap (λ l. items_where_true (take i bits) (take i all) ++ l) same ∙ sym more)
+    (gains_more query (items_where_true (take i bits) (take i all)) (cond seen (row_with_coords starts (row_at rows i) ∷ []) []) g h k before now)
 
 -- where no bit is set, there is nothing
 pub none_set : {A : Type 0} (bits : List Bool) (xs : List A) → set_bits bits ≡ 0 → items_where_true bits xs ≡ []

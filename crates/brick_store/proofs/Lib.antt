@@ -1,3 +1,4 @@
+pub mod Apart
 pub mod CellKeys
 pub mod CellGains
 pub mod CellHolds
@@ -5,6 +6,7 @@ pub mod CellNumbers
 pub mod CellRows
 pub mod CellRuns
 pub mod CellScans
+pub mod ClearedBits
 pub mod Changes
 pub mod Coordinates
 pub mod Covered

@@ -13,9 +13,11 @@ ghost use Rattle.purge_plan.specs.Purged.{spared_bits, purged_entries};
 ghost use Rattle.brick_columns.specs.Rows.{rows_between};
 ghost use Rattle.brick_store.specs.Bricks.{IsRowOf};
 ghost use Rattle.brick_store.specs.Copies.{round_part};
+ghost use Rattle.brick_store.specs.Deltas.{rows_apart};
 ghost use Rattle.brick_store.specs.Rows.{rows_shown, span_has_row};
 
 use crate::copies::copy_entries;
+use crate::delta::apart_bits;
 use crate::parts::{copy_of, leave_rows, purge_entries, starts_of};
 use crate::scan::fold_rows;
 use agg_fold::Partial;
@@ -206,13 +208,95 @@ impl Brick {
             (rows_shown query.now.span snapshot.now self.now.entries self.now.rows)
             into.old.groups into.new.groups) }
     {
-        let bits = self.epochs.visible_bits(snapshot)?;
+        let mut bits = self.epochs.visible_bits(snapshot)?;
         let _rows = self.columns.len();
         fold_rows(
             *self.starts.allocator(),
             &self.columns,
             self.starts.as_slice(),
-            &bits,
+            &mut bits,
+            query,
+            all,
+            into,
+        )
+    }
+
+    /// Adds to two partials what changes from one snapshot to another: the rows of the query's span that came,
+    /// which the second sees and the first does not, and those that went, which the first sees and the second
+    /// does not. Rows that both or none see are not looked at, and neither is a brick outside the span. Where
+    /// memory is wanted, the partials are of no more use.
+    pub fn delta(
+        &self,
+        query: &BoundQuery,
+        from: &Snapshot,
+        to: &Snapshot,
+        came: &mut Partial,
+        went: &mut Partial,
+    ) -> Result<(), AllocError>
+        requires sound { IsSoundQuery query.now
+            (length self.now.home.sizes) self.now.home.metrics }
+        requires parts { All IsSoundPart query.now.span.parts }
+        requires came_room { HasRoom query.now (length self.now.rows) came.old.groups }
+        requires went_room { HasRoom query.now (length self.now.rows) went.old.groups }
+        ensures came { OnOk result (Gains query.now
+            (rows_apart query.now.span to.now from.now self.now.entries self.now.rows)
+            came.old.groups came.new.groups) }
+        ensures went { OnOk result (Gains query.now
+            (rows_apart query.now.span from.now to.now self.now.entries self.now.rows)
+            went.old.groups went.new.groups) }
+    {
+        self.add_apart(query, to, from, came)?;
+        self.add_apart(query, from, to, went)
+    }
+
+    // Adds the rows of the query's span that one snapshot sees and another does not.
+    fn add_apart(
+        &self,
+        query: &BoundQuery,
+        one: &Snapshot,
+        other: &Snapshot,
+        into: &mut Partial,
+    ) -> Result<(), AllocError>
+        requires sound { IsSoundQuery query.now
+            (length self.now.home.sizes) self.now.home.metrics }
+        requires parts { All IsSoundPart query.now.span.parts }
+        requires room { HasRoom query.now (length self.now.rows) into.old.groups }
+        ensures { OnOk result (Gains query.now
+            (rows_apart query.now.span one.now other.now self.now.entries self.now.rows)
+            into.old.groups into.new.groups) }
+    {
+        match covers(&self.shape, &query.span, self.number) {
+            Cover::Outside => Ok(()),
+            Cover::Inside => self.fold_apart(query, one, other, true, into),
+            Cover::Cut { .. } => self.fold_apart(query, one, other, false, into),
+        }
+    }
+
+    // Adds the rows that one snapshot sees, another does not, and the span has, which may have all.
+    fn fold_apart(
+        &self,
+        query: &BoundQuery,
+        one: &Snapshot,
+        other: &Snapshot,
+        all: bool,
+        into: &mut Partial,
+    ) -> Result<(), AllocError>
+        requires sound { IsSoundQuery query.now
+            (length self.now.home.sizes) self.now.home.metrics }
+        requires all { IsTrue all
+            → All (λ row. IsTrue (span_has_row query.now.span row)) self.now.rows }
+        requires room { HasRoom query.now (length self.now.rows) into.old.groups }
+        ensures { OnOk result (Gains query.now
+            (rows_apart query.now.span one.now other.now self.now.entries self.now.rows)
+            into.old.groups into.new.groups) }
+    {
+        let mut bits = apart_bits(&self.epochs, one, other)?;
+        let _rows = self.columns.len();
+        fold_rows(
+            *self.starts.allocator(),
+            &self.columns,
+            self.starts.as_slice(),
+            &mut bits,
             query,
             all,
             into,

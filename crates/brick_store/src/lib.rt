@@ -5,6 +5,8 @@ mod brick;
 mod cell_tallies;
 mod cells;
 mod copies;
+mod cuts;
+mod delta;
 mod dense;
 mod parts;
 mod rows;

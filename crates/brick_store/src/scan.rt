@@ -13,6 +13,7 @@ ghost use Rattle.brick_store.specs.Rows.{span_has_row};
 ghost use Rattle.brick_store.specs.Whole.{HaveCoordsFrom, row_with_coords};
 
 use crate::cells::cell_count;
+use crate::cuts::clear_outside;
 use crate::dense::Dense;
 use crate::rows::read_row;
 use agg_fold::Partial;
@@ -26,21 +27,21 @@ const MOST_CELLS: u64 = 4_096;
 
 const CELLS_A_ROW: u64 = 4;
 
-/// So many rows are numbered by cells at once.
-const ROWS_AT_ONCE: u64 = 1_024;
+/// So many rows are read from the columns at once.
+pub const ROWS_AT_ONCE: u64 = 1_024;
 
-/// Adds the rows whose bit is set and that the query's span has. It is asked of each row, unless the span
-/// has all. Where no bit is set, no row is looked at.
+/// Adds the rows whose bit is set and that the query's span has. Where the span has not all rows, the bits of
+/// those outside are cleared first.
 pub fn fold_rows(
     alloc: Global,
     columns: &Columns,
     starts: &[u32],
-    bits: &Bits,
+    bits: &mut Bits,
     query: &BoundQuery,
     all: bool,
     into: &mut Partial,
 ) -> Result<(), AllocError>
-    requires bits { length bits.now.bits ≡ length columns.now.rows }
+    requires bits { length bits.old.bits ≡ length columns.now.rows }
     requires readable { HaveCoordsFrom starts.now columns.now }
     requires sound { IsSoundQuery query.now (length starts.now) columns.now.layout.metrics }
     requires all { IsTrue all → All (λ row. IsTrue (span_has_row query.now.span row))
@@ -48,19 +49,88 @@ pub fn fold_rows(
     requires room { HasRoom query.now (length columns.now.rows) into.old.groups }
     ensures { OnOk result (Gains query.now
         (filter (span_has_row query.now.span)
+        (items_where_true bits.old.bits (map (row_with_coords starts.now) columns.now.rows)))
+        into.old.groups into.new.groups) }
+{
+    if all {
+        fold_whole(alloc, columns, starts, bits, query, into)
+    } else {
+        fold_cut(alloc, columns, starts, bits, query, into)
+    }
+}
+
+// Adds the rows whose bit is set, where the query's span has all rows.
+fn fold_whole(
+    alloc: Global,
+    columns: &Columns,
+    starts: &[u32],
+    bits: &Bits,
+    query: &BoundQuery,
+    into: &mut Partial,
+) -> Result<(), AllocError>
+    requires bits { length bits.now.bits ≡ length columns.now.rows }
+    requires readable { HaveCoordsFrom starts.now columns.now }
+    requires sound { IsSoundQuery query.now (length starts.now) columns.now.layout.metrics }
+    requires all { All (λ row. IsTrue (span_has_row query.now.span row))
+        (map (row_with_coords starts.now) columns.now.rows) }
+    requires room { HasRoom query.now (length columns.now.rows) into.old.groups }
+    ensures { OnOk result (Gains query.now
+        (filter (span_has_row query.now.span)
         (items_where_true bits.now.bits (map (row_with_coords starts.now) columns.now.rows)))
+        into.old.groups into.new.groups) }
+{
+    fold_chosen(alloc, columns, starts, bits, query, into)
+}
+
+// Adds the rows whose bit is set and that the query's span has, and clears the bits of the others.
+fn fold_cut(
+    alloc: Global,
+    columns: &Columns,
+    starts: &[u32],
+    bits: &mut Bits,
+    query: &BoundQuery,
+    into: &mut Partial,
+) -> Result<(), AllocError>
+    requires bits { length bits.old.bits ≡ length columns.now.rows }
+    requires readable { HaveCoordsFrom starts.now columns.now }
+    requires sound { IsSoundQuery query.now (length starts.now) columns.now.layout.metrics }
+    requires room { HasRoom query.now (length columns.now.rows) into.old.groups }
+    ensures { OnOk result (Gains query.now
+        (filter (span_has_row query.now.span)
+        (items_where_true bits.old.bits (map (row_with_coords starts.now) columns.now.rows)))
+        into.old.groups into.new.groups) }
+{
+    clear_outside(alloc, columns, starts, &query.span, bits)?;
+    fold_chosen(alloc, columns, starts, bits, query, into)
+}
+
+// Adds the rows whose bit is set, all of which the query's span has. Where no bit is set, no row is looked at.
+fn fold_chosen(
+    alloc: Global,
+    columns: &Columns,
+    starts: &[u32],
+    bits: &Bits,
+    query: &BoundQuery,
+    into: &mut Partial,
+) -> Result<(), AllocError>
+    requires bits { length bits.now.bits ≡ length columns.now.rows }
+    requires readable { HaveCoordsFrom starts.now columns.now }
+    requires sound { IsSoundQuery query.now (length starts.now) columns.now.layout.metrics }
+    requires inside { All (λ row. IsTrue (span_has_row query.now.span row))
+        (items_where_true bits.now.bits (map (row_with_coords starts.now) columns.now.rows)) }
+    requires room { HasRoom query.now (length columns.now.rows) into.old.groups }
+    ensures { OnOk result (Gains query.now
+        (items_where_true bits.now.bits (map (row_with_coords starts.now) columns.now.rows))
         into.old.groups into.new.groups) }
 {
     if bits.ones() == 0 {
         return Ok(());
     }
-    if all {
-        let most = most_cells(columns.len());
-        if let Some(cells) = cell_count(columns, query.group.as_slice(), most) {
-            return fold_cells(alloc, columns, starts, bits, query, cells, into);
-        }
+    let most = most_cells(columns.len());
+    if let Some(cells) = cell_count(columns, query.group.as_slice(), most) {
+        return fold_cells(alloc, columns, starts, bits, query, cells, into);
     }
-    fold_each(alloc, columns, starts, bits, query, all, into)
+    fold_each(alloc, columns, starts, bits, query, into)
 }
 
 // So many cells are worth a fold into arrays for so many rows.
@@ -73,7 +143,7 @@ fn most_cells(rows: u64) -> u64
     rows.max(few).min(u64::from(u32::MAX))
 }
 
-// Adds the rows whose bit is set, all of which the query's span has, by the cells of its group.
+// Adds the rows whose bit is set, by the cells of the query's group.
 fn fold_cells(
     alloc: Global,
     columns: &Columns,
@@ -87,14 +157,14 @@ fn fold_cells(
     requires some { 0 < length columns.now.rows }
     requires readable { HaveCoordsFrom starts.now columns.now }
     requires sound { IsSoundQuery query.now (length starts.now) columns.now.layout.metrics }
-    requires all { All (λ row. IsTrue (span_has_row query.now.span row))
-        (map (row_with_coords starts.now) columns.now.rows) }
+    requires inside { All (λ row. IsTrue (span_has_row query.now.span row))
+        (items_where_true bits.now.bits (map (row_with_coords starts.now) columns.now.rows)) }
     requires cells { cells ≡ cell_count columns.now.layout.ranges query.now.group }
     requires few { cells < 2 ^ 32 }
     requires ranges { All (λ dim. 0 < slice_index columns.now.layout.ranges dim) query.now.group }
     requires room { HasRoom query.now (length columns.now.rows) into.old.groups }
     ensures { OnOk result (Gains query.now
-        (map (row_with_coords starts.now) (items_where_true bits.now.bits columns.now.rows))
+        (items_where_true bits.now.bits (map (row_with_coords starts.now) columns.now.rows))
         into.old.groups into.new.groups) }
 {
     numbers_fit(columns, query.group.as_slice(), query.items.as_slice());
@@ -186,26 +256,23 @@ fn all_fit(numbers: &[i64])
     }
 }
 
-// Adds the rows whose bit is set and that the query's span has, one after another. It is asked of each
-// row, unless the span has all.
+// Adds the rows whose bit is set, one after another.
 fn fold_each(
     alloc: Global,
     columns: &Columns,
     starts: &[u32],
     bits: &Bits,
     query: &BoundQuery,
-    all: bool,
     into: &mut Partial,
 ) -> Result<(), AllocError>
     requires bits { length bits.now.bits ≡ length columns.now.rows }
     requires readable { HaveCoordsFrom starts.now columns.now }
     requires sound { IsSoundQuery query.now (length starts.now) columns.now.layout.metrics }
-    requires all { IsTrue all → All (λ row. IsTrue (span_has_row query.now.span row))
-        (map (row_with_coords starts.now) columns.now.rows) }
+    requires inside { All (λ row. IsTrue (span_has_row query.now.span row))
+        (items_where_true bits.now.bits (map (row_with_coords starts.now) columns.now.rows)) }
     requires room { HasRoom query.now (length columns.now.rows) into.old.groups }
     ensures { OnOk result (Gains query.now
-        (filter (span_has_row query.now.span)
-        (items_where_true bits.now.bits (map (row_with_coords starts.now) columns.now.rows)))
+        (items_where_true bits.now.bits (map (row_with_coords starts.now) columns.now.rows))
         into.old.groups into.new.groups) }
 {
     let mut coords = vec![in alloc; 0; starts.len()]?;
@@ -217,7 +284,6 @@ fn fold_each(
             row,
             bits.get(row),
             query,
-            all,
             coords.as_mut_slice(),
             metrics.as_mut_slice(),
             into,
@@ -226,15 +292,13 @@ fn fold_each(
     Ok(())
 }
 
-// Adds a row that is seen and that the query's span has. The lists are lent for its coordinates
-// and metrics.
+// Adds a row that is seen, which the query's span has. The lists are lent for its coordinates and metrics.
 fn fold_row(
     columns: &Columns,
     starts: &[u32],
     row: u64,
     seen: bool,
     query: &BoundQuery,
-    all: bool,
     coords: &mut [u32],
     metrics: &mut [i64],
     into: &mut Partial,
@@ -244,52 +308,18 @@ fn fold_row(
     requires coords_long { length coords.old ≡ length starts.now }
     requires metrics_long { length metrics.old ≡ columns.now.layout.metrics }
     requires sound { IsSoundQuery query.now (length starts.now) columns.now.layout.metrics }
-    requires all { IsTrue all → IsTrue (span_has_row query.now.span
+    requires inside { IsTrue seen → IsTrue (span_has_row query.now.span
         (row_with_coords starts.now (row_at columns.now.rows row))) }
     requires room { HasRoom query.now 1 into.old.groups }
     ensures coords { length coords.new ≡ length coords.old }
     ensures metrics { length metrics.new ≡ length metrics.old }
     ensures gains { OnOk result (Gains query.now
-        (filter (span_has_row query.now.span)
-        (if seen then row_with_coords starts.now (row_at columns.now.rows row) ∷ [] else []))
+        (if seen then row_with_coords starts.now (row_at columns.now.rows row) ∷ [] else [])
         into.old.groups into.new.groups) }
 {
     if seen {
         read_row(columns, starts, row, coords, metrics);
-        add_row(query, all, coords, metrics, into)?;
-    }
-    Ok(())
-}
-
-// Adds a row that the query's span has.
-fn add_row(
-    query: &BoundQuery,
-    all: bool,
-    coords: &[u32],
-    metrics: &[i64],
-    into: &mut Partial,
-) -> Result<(), AllocError>
-    requires sound { IsSoundQuery query.now (length coords.now) (length metrics.now) }
-    requires all { IsTrue all → IsTrue (span_has query.now.span coords.now) }
-    requires room { HasRoom query.now 1 into.old.groups }
-    ensures { OnOk result (Gains query.now
-        (filter (span_has_row query.now.span)
-        (record { coords = coords.now; metrics = metrics.now } ∷ []))
-        into.old.groups into.new.groups) }
-{
-    if takes(query, all, coords) {
         into.add_row(query, coords, metrics)?;
     }
     Ok(())
-}
-
-// Whether the query's span has the coordinates, which is known where it has all.
-fn takes(query: &BoundQuery, all: bool, coords: &[u32]) -> bool
-    requires { IsTrue all → IsTrue (span_has query.now.span coords.now) }
-    ensures { result ≡ span_has query.now.span coords.now }
-{
-    if all {
-        return true;
-    }
-    query.span.has(coords)
 }

@@ -11,6 +11,8 @@ use cube_values::{Bits, CodedRows};
 use std::alloc::{AllocError, Global};
 use std::process::Abort;
 
+const MOST: u32 = u32::MAX;
+
 // Columns of regions in ranges of two and genders in ranges of one, with likes and comments.
 fn visits(rt: &impl Abort, alloc: Global) -> Result<Columns, AllocError>
     ensures { IfOk result
@@ -75,14 +77,47 @@ fn rows_of_a_brick_come_and_go(rt: HostRuntime) -> Result<(), AllocError> {
     Ok(())
 }
 
+// Puts rows of offsets, and looks at the words.
+fn check_words(
+    rt: &impl Abort,
+    alloc: Global,
+    ranges: &[u32],
+    rows: &[&[u32]],
+    words: &[u64],
+) -> Result<(), AllocError> {
+    let mut columns = columns_for(rt, alloc, ranges, 1)?;
+    'rows: for (at, offsets) in rows.iter().enumerate() {
+        put(rt, &mut columns, ranges, 1, (offsets, &[at as i64]))?;
+    }
+    assert_eq!(rt; columns.len(), rows.len() as u64);
+    assert_eq!(rt; columns.words(), words);
+    Ok(())
+}
+
 #[test]
 fn words_have_the_bits_of_the_rows(rt: HostRuntime) -> Result<(), AllocError> {
+    let alloc = rt.alloc();
     // The rows (1, 2) and (0, 1) in one bit and two: 1, 0 1, 0, 1 0.
-    let mut columns = columns_for(&rt, rt.alloc(), &[2, 3], 0)?;
-    put(&rt, &mut columns, &[2, 3], 0, (&[1, 2], &[]))?;
-    put(&rt, &mut columns, &[2, 3], 0, (&[0, 1], &[]))?;
-    assert_eq!(rt; columns.words(), [21].as_slice());
-    Ok(())
+    check_words(&rt, alloc, &[2, 3], &[&[1, 2], &[0, 1]], &[21])?;
+    // The greatest range takes 32 bits.
+    check_words(
+        &rt,
+        alloc,
+        &[MOST],
+        &[&[0], &[MOST - 1], &[1]],
+        &[0xffff_fffe_0000_0000, 1],
+    )?;
+    // Sixteen dimensions take a bit each, or 32.
+    check_words(
+        &rt,
+        alloc,
+        &[2; 16],
+        &[&[1, 0, 0, 0, 0, 0, 0, 0, 0, 0, 0, 0, 0, 0, 0, 1], &[1; 16]],
+        &[0xffff_8001],
+    )?;
+    check_words(&rt, alloc, &[MOST; 16], &[&[1; 16]], &[0x1_0000_0001; 8])?;
+    // No dimension takes no bit.
+    check_words(&rt, alloc, &[], &[&[], &[]], &[])
 }
 
 // Whether the coordinates are not below the starts, and by less than the ranges above them.

@@ -1,26 +1,20 @@
 -- A history of calls on linked cells, entry by entry.
-use Rattle.std.proofs.Common.{◌≡◌, ◌∙◌, ℕ, eqb, Bool, true, false, cond, List, [], ◌∷◌, ◌++◌, append_assoc, append-nil, refl, sym, ap, subst, eqb-true, eq-eqb}
+use Rattle.std.proofs.Common.{◌≡◌, ℕ, eqb, Bool, true, false, cond, List, [], ◌∷◌, ◌++◌, append_assoc, append-nil, refl, sym, ap, subst, eqb-true, eq-eqb}
 use Rattle.std.proofs.lemmas.Bool.{eqb-false}
 use lib.ListN.{get_elem?}
-use mathlib.Core.Option.{Option, some, none}
+use mathlib.Core.Option.{some}
 use Rattle.turn_board.specs.declared.history.Event.{Event}
 use Rattle.turn_board.specs.History.{CellStep, CallFit, of_cell, of_caller, LeadsTo, AllFitAfter, IsHistory}
 use Rattle.core_events.specs.Events.{Opening, CoreEvent}
 use Rattle.core_events.specs.Runs.{IsCoreRun}
-use Rattle.core_board.specs.Links.{events_after, events_of, IsLinked}
+use Rattle.core_board.specs.Links.{EventOf, AreEventsAfter, AreEventsOf, IsCallLinked, IsLinked, HasRun, HasRunTo}
 
-module _ {Q A : Type 0} (event : List (Event Q A) → Event Q A → CoreEvent) where
+module _ {Q A : Type 0} (event : EventOf Q A) where
   -- The events of entries and of one more.
-  after-more : (earlier : List (Event Q A)) (es : List CoreEvent) (log : List (Event Q A)) (e : Event Q A)
-      → events_after event earlier es (log ++ e ∷ []) ≡ event (of_caller e.caller (earlier ++ log)) e ∷ events_after event earlier es log
-  after-more earlier es [] e = ap (λ (l : List (Event Q A)). event (of_caller e.caller l) e ∷ es) (sym (append-nil earlier))
-  after-more earlier es (x ∷ log) e =
-      after-more (earlier ++ x ∷ []) (event (of_caller x.caller earlier) x ∷ es) log e
-      ∙ ap (λ (l : List (Event Q A)). event (of_caller e.caller l) e
-      ∷ events_after event (earlier ++ x ∷ []) (event (of_caller x.caller earlier) x ∷ es) log) (append_assoc earlier (x ∷ []) log)
-
-  pub events-more : (log : List (Event Q A)) (e : Event Q A) → events_of event (log ++ e ∷ []) ≡ event (of_caller e.caller log) e ∷ events_of event log
-  events-more log e = after-more [] [] log e
+  after-more : (earlier : List CoreEvent) (log : List (Event Q A)) (es : List CoreEvent) (e : Event Q A) (x : CoreEvent)
+      → AreEventsAfter event earlier log es → event es e x → AreEventsAfter event earlier (log ++ e ∷ []) (x ∷ es)
+  after-more earlier [] es e x are is = (x, subst (λ (l : List CoreEvent). event l e x) (sym are) is, ap (λ (l : List CoreEvent). x ∷ l) are)
+  after-more earlier (f ∷ log) es e x are is = (are.0, are.1, after-more (are.0 ∷ earlier) log es e x are.2 is)
 
 module _ {T Q A : Type 0} (step : CellStep T Q A) where
   -- A cell, with the calls on it that are still to come and the value to which they lead.
@@ -40,50 +34,43 @@ module _ {Q A : Type 0} where
   take-entry : (e : Event Q A) (rest : List (Event Q A)) → of_cell e.cell (e ∷ rest) ≡ e ∷ of_cell e.cell rest
   take-entry e rest = ap (λ (b : Bool). cond b (e ∷ of_cell e.cell rest) (of_cell e.cell rest)) (eq-eqb e.cell e.cell refl)
 
-module _ {T Q A : Type 0} (step : CellStep T Q A) (fits : CallFit T Q A) (opens : Opening → List T → Type 0)
-    (event : Opening → List (Event Q A) → Event Q A → CoreEvent) (stands : Opening → ℕ → T → List CoreEvent → Type 0)
-    (link : IsLinked step fits opens event stands) (o : Opening) (opening : List T) (opened : opens o opening) (ends : ℕ → T → Type 0) where
+module _ {T Q A : Type 0} (step : CellStep T Q A) (fits : CallFit T Q A) (opens : Opening → List T → List (Event Q A) → Type 0)
+    (event : Opening → EventOf Q A) (stands : Opening → ℕ → T → List CoreEvent → Type 0)
+    (link : IsLinked step fits opens event stands) (o : Opening) (opening : List T) (ends : ℕ → T → Type 0) where
   -- The run after some entries, and every cell that there is.
   record RunNow (log rest : List (Event Q A)) : Type 0 where
-    run : IsCoreRun o (events_of (event o) log)
-    cells : (k : ℕ) (x : T) → get_elem? opening k ≡ some x → CellNow step (stands o) ends k (events_of (event o) log) rest
-
-  one-more : (log rest : List (Event Q A)) (e : Event Q A) → fits opening e.caller (of_caller e.caller log) e.cell e.call
-      → RunNow log (e ∷ rest) → RunNow (log ++ e ∷ []) rest
-  one-more log rest e f now = record {
-    run = subst (IsCoreRun o) (sym more) next;
-    cells = λ k x at. subst (λ (l : List CoreEvent). CellNow step (stands o) ends k l rest) (sym more) (cell (eqb e.cell k) k x at refl);
-  } where
-    own : List (Event Q A)
-    own = of_caller e.caller log
-
     es : List CoreEvent
-    es = events_of (event o) log
+    events : AreEventsOf (event o) log es
+    run : IsCoreRun o es
+    cells : (k : ℕ) (x : T) → get_elem? opening k ≡ some x → CellNow step (stands o) ends k es rest
 
-    more : events_of (event o) (log ++ e ∷ []) ≡ event o own e ∷ es
-    more = events-more (event o) log e
-
+  one-more : (log rest : List (Event Q A)) (e : Event Q A) → opens o opening (log ++ e ∷ [])
+      → fits opening e.caller (of_caller e.caller log) e.cell e.call → RunNow log (e ∷ rest) → RunNow (log ++ e ∷ []) rest
+  one-more log rest e opened f now = record {
+    es = called.next ∷ now.es;
+    events = after-more (event o) [] log now.es e called.next now.events called.is;
+    run = called.run;
+    cells = λ k x at. cell (eqb e.cell k) k x at refl;
+  } where
     there : (x : T) × (get_elem? opening e.cell ≡ some x)
-    there = link.there o opening e.caller e.cell own e.call opened f
+    there = link.there o opening (log ++ e ∷ []) e.caller e.cell (of_caller e.caller log) e.call opened f
 
-    here : CellNow step (stands o) ends e.cell es (e ∷ rest)
+    here : CellNow step (stands o) ends e.cell now.es (e ∷ rest)
     here = now.cells e.cell there.0 there.1
 
     leads : LeadsTo step here.value (e ∷ of_cell e.cell rest) here.end
     leads = subst (λ (l : List (Event Q A)). LeadsTo step here.value l here.end) (take-entry e rest) here.leads
 
-    called : IsCoreRun o (event o own e ∷ es) × stands o e.cell leads.0 (event o own e ∷ es)
-    called = link.calls o opening log e here.value leads.0 opened now.run f here.is leads.1
+    called : IsCallLinked (event o) (stands o) o now.es e leads.0
+    called = link.calls o opening log now.es e here.value leads.0 opened now.events now.run f here.is leads.1
 
-    next : IsCoreRun o (event o own e ∷ es)
-    next = called.0
-
-    cell : (b : Bool) (k : ℕ) (x : T) → get_elem? opening k ≡ some x → (eqb e.cell k) ≡ b → CellNow step (stands o) ends k (event o own e ∷ es) rest
+    cell : (b : Bool) (k : ℕ) (x : T) → get_elem? opening k ≡ some x → (eqb e.cell k) ≡ b
+        → CellNow step (stands o) ends k (called.next ∷ now.es) rest
     cell true k x at is =
-        subst (λ (j : ℕ). CellNow step (stands o) ends j (event o own e ∷ es) rest) (eqb-true e.cell k is)
+        subst (λ (j : ℕ). CellNow step (stands o) ends j (called.next ∷ now.es) rest) (eqb-true e.cell k is)
         (record {
           value = leads.0;
-          is = called.1;
+          is = called.own;
           end = here.end;
           ended = here.ended;
           leads = leads.2;
@@ -92,72 +79,70 @@ module _ {T Q A : Type 0} (step : CellStep T Q A) (fits : CallFit T Q A) (opens 
         let was = now.cells k x at in
         record {
           value = was.value;
-          is = link.leaves o opening log e k was.value opened f (eqb-false e.cell k is) was.is;
+          is = called.others k was.value (eqb-false e.cell k is) was.is;
           end = was.end;
           ended = was.ended;
           leads = subst (λ (l : List (Event Q A)). LeadsTo step was.value l was.end) (skip-entry e k rest is) was.leads;
         }
 
-  all-more : (log rest : List (Event Q A)) → AllFitAfter fits opening log rest → RunNow log rest → RunNow (log ++ rest) []
-  all-more log [] f now = subst (λ (l : List (Event Q A)). RunNow l []) (sym (append-nil log)) now
-  all-more log (e ∷ rest) f now =
+  all-more : (log rest : List (Event Q A)) → opens o opening (log ++ rest) → AllFitAfter fits opening log rest → RunNow log rest
+      → RunNow (log ++ rest) []
+  all-more log [] opened f now = subst (λ (l : List (Event Q A)). RunNow l []) (sym (append-nil log)) now
+  all-more log (e ∷ rest) opened f now =
+      let whole : opens o opening ((log ++ e ∷ []) ++ rest) =
+      subst (λ (l : List (Event Q A)). opens o opening l) (sym (append_assoc log (e ∷ []) rest)) opened
+      in
       subst (λ (l : List (Event Q A)). RunNow l []) (append_assoc log (e ∷ []) rest)
-      (all-more (log ++ e ∷ []) rest f.1 (one-more log rest e f.0 now))
+      (all-more (log ++ e ∷ []) rest whole f.1 (one-more log rest e (link.earlier o opening (log ++ e ∷ []) rest whole) f.0 now))
 
   -- The calls on each cell that there is lead to a value.
   abbrev pub AllLead : List (Event Q A) → Type 0
   AllLead log = (k : ℕ) (x : T) → get_elem? opening k ≡ some x → (y : T) × ends k y × LeadsTo step x (of_cell k log) y
 
-  whole-run : (log : List (Event Q A)) → AllFitAfter fits opening [] log → AllLead log → RunNow log []
-  whole-run log f leads = all-more [] log f (record {
-    run = link.begins o opening opened;
+  whole-run : (log : List (Event Q A)) → opens o opening log → AllFitAfter fits opening [] log → AllLead log → RunNow log []
+  whole-run log opened f leads = all-more [] log opened f (record {
+    es = [];
+    events = refl;
+    run = link.begins o opening log opened;
     cells = λ k x at.
         let to = leads k x at in
-        record { value = x; is = link.stand o opening k x opened at; end = to.0; ended = to.1; leads = to.2 };
+        record { value = x; is = link.stand o opening log k x opened at; end = to.0; ended = to.1; leads = to.2 };
   })
 
-  pub run-of : (log : List (Event Q A)) → AllFitAfter fits opening [] log → AllLead log → IsCoreRun o (events_of (event o) log)
-  run-of log f leads = (whole-run log f leads).run
+  -- The run, and each cell at its end.
+  pub record RunEnd (log : List (Event Q A)) : Type 0 where
+    pub of : HasRun o (event o) log
+    pub cells : (k : ℕ) (x : T) → get_elem? opening k ≡ some x → (y : T) × ends k y × stands o k y of.es
 
-  pub cell-of : (log : List (Event Q A)) → AllFitAfter fits opening [] log → AllLead log → (k : ℕ) (x : T) → get_elem? opening k ≡ some x
-      → (y : T) × ends k y × stands o k y (events_of (event o) log)
-  cell-of log f leads k x at =
-      let now = (whole-run log f leads).cells k x at in
-      (now.end, now.ended, subst (λ (y : T). stands o k y (events_of (event o) log)) now.leads now.is)
+  pub run-end : (log : List (Event Q A)) → opens o opening log → AllFitAfter fits opening [] log → AllLead log → RunEnd log
+  run-end log opened f leads =
+      let now = whole-run log opened f leads in record {
+        of = record { es = now.es; events = now.events; run = now.run };
+        cells = λ k x at.
+            let c = now.cells k x at in
+            (c.end, c.ended, subst (λ (y : T). stands o k y now.es) c.leads c.is);
+      }
 
-module _ {T Q A : Type 0} (step : CellStep T Q A) (fits : CallFit T Q A) (opens : Opening → List T → Type 0)
-    (event : Opening → List (Event Q A) → Event Q A → CoreEvent) (stands : Opening → ℕ → T → List CoreEvent → Type 0)
+module _ {T Q A : Type 0} (step : CellStep T Q A) (fits : CallFit T Q A) (opens : Opening → List T → List (Event Q A) → Type 0)
+    (event : Opening → EventOf Q A) (stands : Opening → ℕ → T → List CoreEvent → Type 0)
     (link : IsLinked step fits opens event stands) where
-  pub history-run : (o : Opening) (opening : List T) (log : List (Event Q A)) → opens o opening → IsHistory step fits opening log
-      → IsCoreRun o (events_of (event o) log)
+  pub history-run : (o : Opening) (opening : List T) (log : List (Event Q A)) → opens o opening log → IsHistory step fits opening log
+      → HasRun o (event o) log
   history-run o opening log opened h =
-      run-of step fits opens event stands link o opening opened (λ k y. Unit {0}) log h.fitting
-      (λ k x at. let to = h.leads k x at in (to.0, tt, to.1))
+      (run-end step fits opens event stands link o opening (λ k y. Unit {0}) log opened h.fitting
+      (λ k x at. let to = h.leads k x at in (to.0, tt, to.1))).of
 
-  -- One cell's value is given.
-  lead-one : (opening : List T) (log : List (Event Q A)) (k j : ℕ) (x y z : T) (b : Bool) → (eqb j k) ≡ b → IsHistory step fits opening log
-      → get_elem? opening k ≡ some x → LeadsTo step x (of_cell k log) y → get_elem? opening j ≡ some z
-      → (v : T) × (j ≡ k → v ≡ y) × LeadsTo step z (of_cell j log) v
-  lead-one opening log k j x y z true is h at leads there =
-      let same = eqb-true j k is in
-      let value : x ≡ z = some-same x z (sym at ∙ ap (get_elem? opening) (sym same) ∙ there) in
-      (y, (λ e. refl), coe 0 1 (i. LeadsTo step (value i) (of_cell (sym same i) log) y) leads)
-    where
-      some-same : (u v : T) → some u ≡ some v → u ≡ v
-      some-same u v e = ap (out u) e
-        where
-          out : T → Option T → T
-          out default (some w) = w
-          out default none = default
-  lead-one opening log k j x y z false is h at leads there =
-      let to = h.leads j z there in (to.0, (λ e. absurd (eqb-false j k is e)), to.1)
-
-  pub history-cells : (o : Opening) (opening : List T) (log : List (Event Q A)) (k : ℕ) (x y : T) → opens o opening
-      → IsHistory step fits opening log → get_elem? opening k ≡ some x → LeadsTo step x (of_cell k log) y
-      → stands o k y (events_of (event o) log)
-  history-cells o opening log k x y opened h at leads =
+  pub history-cells : (o : Opening) (opening : List T) (log : List (Event Q A)) (values : ℕ → T) → opens o opening log
+      → IsHistory step fits opening log
+      → ((k : ℕ) (x : T) → get_elem? opening k ≡ some x → LeadsTo step x (of_cell k log) (values k))
+      → HasRunTo o (event o) (stands o) opening log values
+  history-cells o opening log values opened h leads =
       let found =
-      cell-of step fits opens event stands link o opening opened (λ j v. j ≡ k → v ≡ y) log h.fitting
-      (λ j z there. lead-one opening log k j x y z (eqb j k) refl h at leads there) k x at
+      run-end step fits opens event stands link o opening (λ k y. y ≡ values k) log opened h.fitting
+      (λ k x at. (values k, refl, leads k x at))
       in
-      subst (λ (v : T). stands o k v (events_of (event o) log)) (found.1 refl) found.2
+      record {
+        of = found.of;
+        cells = λ k x at.
+            let c = found.cells k x at in subst (λ (y : T). stands o k y found.of.es) c.1 c.2;
+      }

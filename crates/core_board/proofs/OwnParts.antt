@@ -1,60 +1,40 @@
 -- What hangs on one caller's entries alone is the same over these entries.
-use Rattle.std.proofs.Common.{◌≡◌, ◌≢◌, ◌∙◌, ℕ, ◌==◌, eqb, Bool, true, false, true≢false, ◌&&◌, cond, List, [], ◌∷◌, ◌++◌, append-nil, refl, sym, ap, eqb-true, if◌then◌else◌}
+use Rattle.std.proofs.Common.{◌≡◌, ◌∙◌, ℕ, ◌==◌, eqb, Bool, true, false, true≢false, ◌&&◌, cond, List, [], ◌∷◌, refl, sym, ap, eqb-true, if◌then◌else◌}
 use Rattle.std.proofs.lemmas.Bool.{eqb-false}
-use Rattle.std.proofs.lemmas.List.Elements.{filter-append}
 use Rattle.turn_board.specs.declared.history.Event.{Event}
-use Rattle.turn_board.specs.History.{of_caller, is_by_caller}
+use Rattle.turn_board.specs.History.{of_caller}
 use Rattle.core_events.specs.Cells.{worker_after, worker_of}
 use Rattle.core_events.specs.Clients.{calls_of}
 use Rattle.core_events.specs.Events.{Opening, flush_mail, OpenWrite, OpenRead, Commit, AbortEnd, CloseRead, TakeNote, CreateCube, FindCube, CubesFrom, CountersNow, RoundOpen, RoundClose, StoreFailed, ClientCall, OnDesk, OnNames, Post, Fetch, CloseMail, NoChange, WorkerMove, Take, NoJob, Work, Reply, CoreEvent, By, At}
 use Rattle.core_events.specs.Fitting.{RoundProgress, progress_after_call, progress_after_move, round_progress}
-use Rattle.core_board.specs.Links.{EventOf, events_after, events_of, is_call_of, is_move_at, is_of_rounds, MakesCalls, MakesMoves, MakesRounds}
+use Rattle.core_board.specs.Links.{EventOf, AreEventsAfter, AreEventsOf, is_call_of, is_move_at, is_of_rounds, MakesCalls, MakesMoves, MakesRounds, IsToldByCaller, HangsOn, HasOwnEvents}
 
-module _ {Q A X : Type 0} (event : EventOf Q A) (caller : ℕ) (part : List CoreEvent → X)
-    (same : (x : CoreEvent) (es fs : List CoreEvent) → part es ≡ part fs → part (x ∷ es) ≡ part (x ∷ fs))
-    (skip : (own : List (Event Q A)) (e : Event Q A) (es : List CoreEvent) → e.caller ≢ caller → part (event own e ∷ es) ≡ part es) where
-  twice : (log : List (Event Q A)) → of_caller caller (of_caller caller log) ≡ of_caller caller log
-  twice [] = refl
-  twice (e ∷ log) = at (eqb e.caller caller) refl (twice log)
-    where
-      at : (b : Bool) → eqb e.caller caller ≡ b → of_caller caller (of_caller caller log) ≡ of_caller caller log
-          → of_caller caller (cond b (e ∷ of_caller caller log) (of_caller caller log)) ≡ cond b (e ∷ of_caller caller log) (of_caller caller log)
-      at true is rest = λ i. cond (is i) (e ∷ rest i) (rest i)
-      at false is rest = rest
+module _ {Q A X : Type 0} (event : EventOf Q A) (caller : ℕ) (told : List CoreEvent → X) (by : IsToldByCaller event caller told)
+    (hangs : HangsOn event caller told) where
+  -- The events of the caller's own entries, behind events of which the same is told.
+  record OwnAfter (earlier : List CoreEvent) (log : List (Event Q A)) (es : List CoreEvent) : Type 0 where
+    own : List CoreEvent
+    events : AreEventsAfter event earlier log own
+    same : told es ≡ told own
 
-  own-entry : (earlier : List (Event Q A)) (e : Event Q A) (b : Bool) → eqb e.caller caller ≡ b
-      → of_caller caller (earlier ++ e ∷ []) ≡ of_caller caller earlier ++ cond b (e ∷ []) []
-  own-entry earlier e b is =
-      filter-append (is_by_caller caller) earlier (e ∷ []) ∙ ap (λ (c : Bool). of_caller caller earlier ++ cond c (e ∷ []) []) is
+  one-entry : (b : Bool) (e : Event Q A) (x : CoreEvent) (log : List (Event Q A)) (earlier fs es : List CoreEvent) → eqb e.caller caller ≡ b
+      → told earlier ≡ told fs → event earlier e x
+      → ((gs : List CoreEvent) → told (x ∷ earlier) ≡ told gs → OwnAfter gs (of_caller caller log) es)
+      → OwnAfter fs (cond b (e ∷ of_caller caller log) (of_caller caller log)) es
+  one-entry true e x log earlier fs es mine p is rest =
+      let after = rest (x ∷ fs) (by.next x earlier fs p) in
+      record { own = after.own; events = (x, hangs earlier fs e x (eqb-true e.caller caller mine) p is, after.events); same = after.same }
+  one-entry false e x log earlier fs es other p is rest = rest fs (by.others earlier e x (eqb-false e.caller caller other) is ∙ p)
 
-  parts-alike : (earlier : List (Event Q A)) (own : List (Event Q A)) (es fs : List CoreEvent) (log : List (Event Q A))
-      → of_caller caller earlier ≡ own → part es ≡ part fs
-      → part (events_after event earlier es log) ≡ part (events_after event own fs (of_caller caller log))
-  parts-alike earlier own es fs [] is p = p
-  parts-alike earlier own es fs (e ∷ log) is p =
-      at (eqb e.caller caller) refl
-      (λ now x y q r. parts-alike (earlier ++ e ∷ []) now x y log q r)
-    where
-      at : (b : Bool) → eqb e.caller caller ≡ b
-          → ((now : List (Event Q A)) (x y : List CoreEvent) → of_caller caller (earlier ++ e ∷ []) ≡ now → part x ≡ part y
-          → part (events_after event (earlier ++ e ∷ []) x log) ≡ part (events_after event now y (of_caller caller log)))
-          → part (events_after event (earlier ++ e ∷ []) (event (of_caller e.caller earlier) e ∷ es) log)
-          ≡ part (events_after event own fs (cond b (e ∷ of_caller caller log) (of_caller caller log)))
-      at true by rest =
-          let mine : e.caller ≡ caller = eqb-true e.caller caller by in
-          let known : of_caller e.caller earlier ≡ of_caller e.caller own =
-          ap (λ (c : ℕ). of_caller c earlier) mine ∙ sym (twice earlier) ∙ ap (of_caller caller) is ∙ ap (λ (c : ℕ). of_caller c own) (sym mine)
-          in
-          rest (own ++ e ∷ []) (event (of_caller e.caller earlier) e ∷ es) (event (of_caller e.caller own) e ∷ fs)
-          (own-entry earlier e true by ∙ ap (λ (l : List (Event Q A)). l ++ e ∷ []) is)
-          (same (event (of_caller e.caller earlier) e) es fs p ∙ ap (λ (l : List (Event Q A)). part (event l e ∷ fs)) known)
-      at false by rest =
-          rest own (event (of_caller e.caller earlier) e ∷ es) fs
-          (own-entry earlier e false by ∙ append-nil (of_caller caller earlier) ∙ is)
-          (skip (of_caller e.caller earlier) e es (eqb-false e.caller caller by) ∙ p)
+  own-after : (log : List (Event Q A)) (earlier fs es : List CoreEvent) → told earlier ≡ told fs → AreEventsAfter event earlier log es
+      → OwnAfter fs (of_caller caller log) es
+  own-after [] earlier fs es p is = record { own = fs; events = refl; same = ap told (sym is) ∙ p }
+  own-after (e ∷ log) earlier fs es p is =
+      one-entry (eqb e.caller caller) e is.0 log earlier fs es refl p is.1 (λ gs q. own-after log (is.0 ∷ earlier) gs es q is.2)
 
-  pub own-part : (log : List (Event Q A)) → part (events_of event log) ≡ part (events_of event (of_caller caller log))
-  own-part log = parts-alike [] [] [] [] log refl refl
+  pub own-part : (log : List (Event Q A)) (es : List CoreEvent) → AreEventsOf event log es → HasOwnEvents event caller told log es
+  own-part log es is =
+      let after = own-after log [] [] es refl is in record { own = after.own; events = after.events; same = after.same }
 
 -- The calls of a client.
 
@@ -67,10 +47,9 @@ calls-skip client (By b call) es other = ap (λ (c : Bool). if c then call ∷ c
 calls-skip client (At mail move) es other = refl
 
 module _ {Q A : Type 0} where
-  pub own-calls : (event : EventOf Q A) (caller client : ℕ) (log : List (Event Q A)) → MakesCalls event caller client
-      → calls_of client (events_of event log) ≡ calls_of client (events_of event (of_caller caller log))
-  own-calls event caller client log makes =
-      own-part event caller (calls_of client) (calls-same client) (λ own e es other. calls-skip client (event own e) es (makes own e other)) log
+  pub told-calls : (event : EventOf Q A) (caller client : ℕ) → MakesCalls event caller client → IsToldByCaller event caller (calls_of client)
+  told-calls event caller client makes =
+      record { next = calls-same client; others = λ es e x other is. calls-skip client x es (makes es e x other is) }
 
 -- What a worker does.
 
@@ -83,10 +62,9 @@ moves-skip mail (By b call) es other = refl
 moves-skip mail (At m move) es other = ap (λ (c : Bool). worker_after c move (worker_of mail es)) other
 
 module _ {Q A : Type 0} where
-  pub own-moves : (event : EventOf Q A) (caller mail : ℕ) (log : List (Event Q A)) → MakesMoves event caller mail
-      → worker_of mail (events_of event log) ≡ worker_of mail (events_of event (of_caller caller log))
-  own-moves event caller mail log makes =
-      own-part event caller (worker_of mail) (moves-same mail) (λ own e es other. moves-skip mail (event own e) es (makes own e other)) log
+  pub told-moves : (event : EventOf Q A) (caller mail : ℕ) → MakesMoves event caller mail → IsToldByCaller event caller (worker_of mail)
+  told-moves event caller mail makes =
+      record { next = moves-same mail; others = λ es e x other is. moves-skip mail x es (makes es e x other is) }
 
 -- How far the flusher's rounds have come.
 
@@ -135,7 +113,6 @@ rounds-skip o (At mail (Work job answer)) es other = move-skip (mail == flush_ma
 rounds-skip o (At mail (Reply client answer)) es other = move-skip (mail == flush_mail o) (Reply client answer) (round_progress o es) refl
 
 module _ {Q A : Type 0} where
-  pub own-rounds : (o : Opening) (event : EventOf Q A) (caller : ℕ) (log : List (Event Q A)) → MakesRounds o event caller
-      → round_progress o (events_of event log) ≡ round_progress o (events_of event (of_caller caller log))
-  own-rounds o event caller log makes =
-      own-part event caller (round_progress o) (rounds-same o) (λ own e es other. rounds-skip o (event own e) es (makes own e other)) log
+  pub told-rounds : (o : Opening) (event : EventOf Q A) (caller : ℕ) → MakesRounds o event caller → IsToldByCaller event caller (round_progress o)
+  told-rounds o event caller makes =
+      record { next = rounds-same o; others = λ es e x other is. rounds-skip o x es (makes es e x other is) }

@@ -1,13 +1,12 @@
 //! The law of the board, for all cells that are linked to the core.
 ghost use Rattle.std.specs.Prelude.{◌≡◌, ℕ, List};
 ghost use Rattle.turn_board.specs.declared.history.Event.{Event};
-ghost use Rattle.turn_board.specs.History.{IsHistory, LeadsTo, of_caller, of_cell};
-ghost use Rattle.core_board.specs.Links.{EventOf, events_of, MakesCalls, MakesMoves, MakesRounds};
+ghost use Rattle.turn_board.specs.History.{IsHistory, LeadsTo, of_cell};
+ghost use Rattle.core_board.specs.Links.{AreEventsOf, HangsOn, HasOwnEvents, HasRun, HasRunTo, IsToldByCaller, MakesCalls, MakesMoves, MakesRounds};
 ghost use Rattle.core_events.specs.Cells.{worker_of};
 ghost use Rattle.core_events.specs.Clients.{calls_of};
-ghost use Rattle.core_events.specs.Events.{Opening};
+ghost use Rattle.core_events.specs.Events.{Opening, CoreEvent};
 ghost use Rattle.core_events.specs.Fitting.{round_progress};
-ghost use Rattle.core_events.specs.Runs.{IsCoreRun};
 ghost use lib.ListN.{get_elem?};
 ghost use mathlib.Core.Option.{some};
 
@@ -17,24 +16,25 @@ use crate::link::CoreBoard;
 /// event in its order, and each cell is what the events have made of it.
 pub fn histories_are_core_runs<C: CoreBoard>()
     ensures run { (o : Opening) (opening : List C.Cell) (log : List (Event C.Call C.Answer))
-        → C.opens o opening → IsHistory C.step C.fits opening log
-        → IsCoreRun o (events_of (C.event o) log) }
+        → C.opens o opening log → IsHistory C.step C.fits opening log → HasRun o (C.event o) log }
     ensures cells { (o : Opening) (opening : List C.Cell) (log : List (Event C.Call C.Answer))
-        (k : ℕ) (x y : C.Cell) → C.opens o opening → IsHistory C.step C.fits opening log
-        → get_elem? opening k ≡ some x → LeadsTo C.step x (of_cell k log) y
-        → C.stands o k y (events_of (C.event o) log) }
+        (values : ℕ → C.Cell) → C.opens o opening log → IsHistory C.step C.fits opening log
+        → ((k : ℕ) (x : C.Cell) → get_elem? opening k ≡ some x
+        → LeadsTo C.step x (of_cell k log) (values k))
+        → HasRunTo o (C.event o) (C.stands o) opening log values }
 {}
 
-/// What a client and a worker know is read off the own entries of the caller that acts as it: the
-/// client's calls, what the worker does, and how far the flusher's rounds have come.
-pub fn callers_know_their_part<Q, A>()
-    ensures calls { (event : EventOf Q A) (caller client : ℕ) (log : List (Event Q A))
-        → MakesCalls event caller client → calls_of client (events_of event log)
-        ≡ calls_of client (events_of event (of_caller caller log)) }
-    ensures moves { (event : EventOf Q A) (caller mail : ℕ) (log : List (Event Q A))
-        → MakesMoves event caller mail → worker_of mail (events_of event log)
-        ≡ worker_of mail (events_of event (of_caller caller log)) }
-    ensures rounds { (o : Opening) (event : EventOf Q A) (caller : ℕ) (log : List (Event Q A))
-        → MakesRounds o event caller → round_progress o (events_of event log)
-        ≡ round_progress o (events_of event (of_caller caller log)) }
+/// What is told of one caller's entries alone is told of these entries: the calls of the client that
+/// it acts as, what its worker does, and how far its rounds have come.
+pub fn callers_know_their_part<C: CoreBoard, X>()
+    ensures calls { (o : Opening) (caller client : ℕ) → MakesCalls (C.event o) caller client
+        → IsToldByCaller (C.event o) caller (calls_of client) }
+    ensures moves { (o : Opening) (caller mail : ℕ) → MakesMoves (C.event o) caller mail
+        → IsToldByCaller (C.event o) caller (worker_of mail) }
+    ensures rounds { (o : Opening) (caller : ℕ) → MakesRounds o (C.event o) caller
+        → IsToldByCaller (C.event o) caller (round_progress o) }
+    ensures own { (o : Opening) (caller : ℕ) (told : List CoreEvent → X)
+        (log : List (Event C.Call C.Answer)) (es : List CoreEvent)
+        → IsToldByCaller (C.event o) caller told → HangsOn (C.event o) caller told
+        → AreEventsOf (C.event o) log es → HasOwnEvents (C.event o) caller told log es }
 {}

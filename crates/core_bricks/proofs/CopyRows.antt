@@ -5,7 +5,7 @@ use Rattle.std.proofs.lemmas.Bool.{false≢true, lt-leb}
 use Rattle.cube_values.specs.declared.row.CodedRow.{CodedRow}
 use Rattle.cube_values.specs.Sees.{sees}
 use Rattle.core_events.specs.Clients.{reader_up_to}
-use Rattle.core_events.specs.ShardView.{BrickEntry, RowRun, RowMark, Epochs, is_below_mark, epochs_above, epochs_before_mark, every_epoch, rows_shown_to, brick_rows_seen, is_within_round, entries_of_round}
+use Rattle.core_events.specs.ShardView.{BrickEntry, RowRun, RowMark, EpochSet, is_below_mark, epochs_above, epochs_before_mark, every_epoch, rows_shown_to, brick_rows_seen, is_within_round, entries_of_round}
 use Rattle.core_bricks.specs.BrickTransactions.{rows_over_kept}
 use Rattle.core_bricks.proofs.Counts.{number_where, count-run, where-sum, where-zero, in-order}
 use Rattle.core_bricks.proofs.SerialRows.{or-assoc, or-true, and-assoc, and-true, and-false, low-run, none-run, mark-none}
@@ -125,13 +125,13 @@ below-copied p t e (RowMark d ∷ older) l = at-mark (era p t d) (below-copied p
         ∙ ap (is_below_mark every_epoch e) (sym (round-mark p t d older false (within-high p t d k)))
 
 -- Rows are looked for: kept ones where u, by one set, and those of the round, by another.
-record CopyParts (p t : ℕ) (u : Bool) (all new old : Epochs) : Type 0 where
+record CopyParts (p t : ℕ) (u : Bool) (all new old : EpochSet) : Type 0 where
   low : (e : ℕ) → e ≤ p → all e ≡ (u && old e)
   high : (e : ℕ) → p < e → e ≤ t → all e ≡ new e
   past : (e : ℕ) → t < e → all e ≡ false
   none : (e : ℕ) → p < e → old e ≡ false
 
-copy-kept-mark : (p t d : ℕ) (u : Bool) (all new old : Epochs) → d ≤ p → CopyParts p t u all new old
+copy-kept-mark : (p t d : ℕ) (u : Bool) (all new old : EpochSet) → d ≤ p → CopyParts p t u all new old
     → CopyParts p t u (epochs_above d all) new (epochs_above d old)
 copy-kept-mark p t d u all new old l c = record {
   low = λ e k. ap (λ (b : Bool). b && nat_lt d e) (c.low e k) ∙ and-assoc u (old e) (nat_lt d e);
@@ -140,7 +140,7 @@ copy-kept-mark p t d u all new old l c = record {
   none = λ e k. ap (λ (b : Bool). b && nat_lt d e) (c.none e k);
 }
 
-copy-round-mark : (p t d : ℕ) (u : Bool) (all new old : Epochs) → p < d → CopyParts p t u all new old
+copy-round-mark : (p t d : ℕ) (u : Bool) (all new old : EpochSet) → p < d → CopyParts p t u all new old
     → CopyParts p t false (epochs_above d all) (epochs_above d new) old
 copy-round-mark p t d u all new old l c = record {
   low = λ e k. ap (λ (b : Bool). all e && b) (le-ltb d e (omega (arith, l, k))) ∙ and-false (all e);
@@ -149,7 +149,7 @@ copy-round-mark p t d u all new old l c = record {
   none = c.none;
 }
 
-copy-run-at : (c : CodedRow → Bool) (p t e : ℕ) (u : Bool) (all new old : Epochs) (rows : List CodedRow) (older : List BrickEntry)
+copy-run-at : (c : CodedRow → Bool) (p t e : ℕ) (u : Bool) (all new old : EpochSet) (rows : List CodedRow) (older : List BrickEntry)
     → p ≤ t → CopyParts p t u all new old → Era p t e
     → count_by c (rows_shown_to all (sees (reader_up_to t)) older)
     ≡ number_where (u && not (covers_kept p t older)) (count_by c (rows_shown_to old (sees (reader_up_to p)) older))
@@ -208,7 +208,7 @@ copy-run-at c p t e u all new old rows older le parts (Later k) rest =
     let skip = ap (λ (es : List BrickEntry). count_by c (rows_shown_to new every_epoch es)) (round-run p t e rows older false (within-high p t e k)) in
     omega (arith, rest, left, right, gone, add, skip)
 
-copy-counts : (c : CodedRow → Bool) (p t : ℕ) (u : Bool) (all new old : Epochs) (xs : List BrickEntry) → p ≤ t
+copy-counts : (c : CodedRow → Bool) (p t : ℕ) (u : Bool) (all new old : EpochSet) (xs : List BrickEntry) → p ≤ t
     → CopyParts p t u all new old
     → count_by c (rows_shown_to all (sees (reader_up_to t)) xs)
     ≡ number_where (u && not (covers_kept p t xs)) (count_by c (rows_shown_to old (sees (reader_up_to p)) xs))
@@ -222,7 +222,7 @@ copy-counts c p t u all new old (RowMark d ∷ older) le parts = at-mark (era p 
     (λ v l k o q. copy-counts c p t v l k o older le q)
   where
     at-mark : Era p t d
-        → ((v : Bool) (l k o : Epochs) → CopyParts p t v l k o
+        → ((v : Bool) (l k o : EpochSet) → CopyParts p t v l k o
         → count_by c (rows_shown_to l (sees (reader_up_to t)) older)
         ≡ number_where (v && not (covers_kept p t older)) (count_by c (rows_shown_to o (sees (reader_up_to p)) older))
         + count_by c (rows_shown_to k every_epoch (entries_of_round p t older)))
@@ -290,7 +290,7 @@ round-above p t (RowMark d ∷ older) = at-mark (is_within_round p t d) refl (ro
     at-mark true is rest = (ltb-true p d (left-of (nat_lt p d) (nat_le d t) is), rest)
     at-mark false is rest = rest
 
-over-counts : (c : CodedRow → Bool) (p : ℕ) (set : Epochs) (old : List CodedRow) (ys : List BrickEntry) → MarksAbove p ys
+over-counts : (c : CodedRow → Bool) (p : ℕ) (set : EpochSet) (old : List CodedRow) (ys : List BrickEntry) → MarksAbove p ys
     → count_by c (rows_shown_to set every_epoch (ys ++ RowRun p old ∷ []))
     ≡ count_by c (rows_shown_to set every_epoch ys) + number_where (set p && not (is_below_mark every_epoch p ys)) (count_by c old)
 over-counts c p set old [] m = count-run c [] (set p && not false) old

@@ -5,7 +5,7 @@ use Rattle.std.proofs.lemmas.Bool.{lt-leb}
 use Rattle.cube_values.specs.declared.row.CodedRow.{CodedRow}
 use Rattle.cube_values.specs.declared.snapshot.Snapshot.{Snapshot}
 use Rattle.cube_values.specs.Sees.{sees}
-use Rattle.core_events.specs.ShardView.{BrickEntry, RowRun, RowMark, Epochs, is_below_mark, epochs_above, epochs_before_mark, rows_where, rows_shown_to, brick_rows_seen}
+use Rattle.core_events.specs.ShardView.{BrickEntry, RowRun, RowMark, EpochSet, is_below_mark, epochs_above, epochs_before_mark, rows_where, rows_shown_to, brick_rows_seen}
 use Rattle.core_bricks.specs.BrickTransactions.{entries_of_epoch, rows_after_entries, brick_rows_left}
 use Rattle.core_bricks.proofs.Counts.{number_where, count-append, count-run, where-sum, where-zero, in-order}
 
@@ -20,14 +20,14 @@ abbrev pub own_rows : ℕ → List BrickEntry → List CodedRow
 own_rows m xs = rows_after_entries (entries_of_epoch m xs) []
 
 -- Rows are looked for: those of epochs below m where u, by another set, those of m where v, and none above.
-pub record Parts (m : ℕ) (u v : Bool) (all below : Epochs) : Type 0 where
+pub record Parts (m : ℕ) (u v : Bool) (all below : EpochSet) : Type 0 where
   pub low : (e : ℕ) → e < m → all e ≡ (u && below e)
   pub here : all m ≡ v
   pub high : (e : ℕ) → m < e → all e ≡ false
   pub none : (e : ℕ) → m ≤ e → below e ≡ false
 
 -- Marks count: those of epochs below m by another set, and those of m.
-pub record MarkParts (m : ℕ) (all below : Epochs) : Type 0 where
+pub record MarkParts (m : ℕ) (all below : EpochSet) : Type 0 where
   pub low : (e : ℕ) → e < m → all e ≡ below e
   pub here : all m ≡ true
   pub high : (e : ℕ) → m < e → all e ≡ false
@@ -53,7 +53,7 @@ pub and-false : (b : Bool) → (b && false) ≡ false
 and-false true = refl
 and-false false = refl
 
-below-parts : (m e : ℕ) (all below : Epochs) (xs : List BrickEntry) → e < m → MarkParts m all below
+below-parts : (m e : ℕ) (all below : EpochSet) (xs : List BrickEntry) → e < m → MarkParts m all below
     → is_below_mark all e xs ≡ (is_below_mark below e xs || has_mark m xs)
 below-parts m e all below [] l p = refl
 below-parts m e all below (RowRun j rows ∷ older) l p = below-parts m e all below older l p
@@ -80,7 +80,7 @@ below-parts m e all below (RowMark d ∷ older) l p =
     ]
 
 -- No mark hides the rows of m.
-below-none : (m : ℕ) (all : Epochs) (xs : List BrickEntry) → ((e : ℕ) → m < e → all e ≡ false) → is_below_mark all m xs ≡ false
+below-none : (m : ℕ) (all : EpochSet) (xs : List BrickEntry) → ((e : ℕ) → m < e → all e ≡ false) → is_below_mark all m xs ≡ false
 below-none m all [] high = refl
 below-none m all (RowRun j rows ∷ older) high = below-none m all older high
 below-none m all (RowMark d ∷ older) high =
@@ -92,7 +92,7 @@ below-none m all (RowMark d ∷ older) high =
     ]
 
 -- A mark below m, in both sets.
-parts-above : (m d : ℕ) (u v : Bool) (all below : Epochs) → d < m → Parts m u v all below
+parts-above : (m d : ℕ) (u v : Bool) (all below : EpochSet) → d < m → Parts m u v all below
     → Parts m u v (epochs_above d all) (epochs_above d below)
 parts-above m d u v all below l p = record {
   low = λ e le. ap (λ (b : Bool). b && nat_lt d e) (p.low e le) ∙ and-assoc u (below e) (nat_lt d e);
@@ -101,13 +101,13 @@ parts-above m d u v all below l p = record {
   none = λ e le. ap (λ (b : Bool). b && nat_lt d e) (p.none e le);
 }
 
-parts-before : (counts : Bool) (m d : ℕ) (u v : Bool) (all below : Epochs) → d < m → Parts m u v all below
+parts-before : (counts : Bool) (m d : ℕ) (u v : Bool) (all below : EpochSet) → d < m → Parts m u v all below
     → Parts m u v (epochs_before_mark counts d all) (epochs_before_mark counts d below)
 parts-before true m d u v all below l p = parts-above m d u v all below l p
 parts-before false m d u v all below l p = p
 
 -- A mark of m leaves nothing of the epochs up to m.
-parts-none : (m : ℕ) (u v : Bool) (all below : Epochs) → Parts m u v all below → Parts m false false (epochs_above m all) below
+parts-none : (m : ℕ) (u v : Bool) (all below : EpochSet) → Parts m u v all below → Parts m false false (epochs_above m all) below
 parts-none m u v all below p = record {
   low = λ e le. ap (λ (b : Bool). all e && b) (le-ltb m e (omega (arith, le))) ∙ and-false (all e);
   here = ap (λ (b : Bool). all m && b) (le-ltb m m (omega arith)) ∙ and-false (all m);
@@ -154,13 +154,13 @@ take-mark : (m e : ℕ) (older : List BrickEntry) → e ≡ m → own_rows m (Ro
 take-mark m e older same =
     ap (λ (b : Bool). rows_after_entries (if b then RowMark e ∷ entries_of_epoch m older else entries_of_epoch m older) []) (eq-eqb e m same)
 
-pub mark-none : (counts : Bool) (d : ℕ) (set : Epochs) (marks : Epochs) (older : List BrickEntry) → counts ≡ false
+pub mark-none : (counts : Bool) (d : ℕ) (set : EpochSet) (marks : EpochSet) (older : List BrickEntry) → counts ≡ false
     → rows_shown_to (epochs_before_mark counts d set) marks older ≡ rows_shown_to set marks older
 mark-none true d set marks older e = absurd (true≢false e)
 mark-none false d set marks older e = refl
 
 -- The count of what is shown, by epochs below m and m itself.
-pub shown-parts : (c : CodedRow → Bool) (m : ℕ) (u v : Bool) (all below allm belowm : Epochs) (xs : List BrickEntry)
+pub shown-parts : (c : CodedRow → Bool) (m : ℕ) (u v : Bool) (all below allm belowm : EpochSet) (xs : List BrickEntry)
     → Parts m u v all below → MarkParts m allm belowm
     → count_by c (rows_shown_to all allm xs)
     ≡ number_where (u && not (has_mark m xs)) (count_by c (rows_shown_to below belowm xs)) + number_where v (count_by c (own_rows m xs))
@@ -255,21 +255,21 @@ after-count c m base (RowMark e ∷ older) =
     after-mark (e == m) c e (count_by c base) (has_mark m older) base (entries_of_epoch m older) (after-count c m base older)
 
 -- The epochs of a set below a limit.
-abbrev pub epochs_below : ℕ → Epochs → Epochs
+abbrev pub epochs_below : ℕ → EpochSet → EpochSet
 epochs_below limit set e = set e && nat_lt e limit
 
-shown-none : (all marks : Epochs) (xs : List BrickEntry) → ((e : ℕ) → all e ≡ false) → rows_shown_to all marks xs ≡ []
+shown-none : (all marks : EpochSet) (xs : List BrickEntry) → ((e : ℕ) → all e ≡ false) → rows_shown_to all marks xs ≡ []
 shown-none all marks [] none = refl
 shown-none all marks (RowRun e rows ∷ older) none =
     λ i. shown-none all marks older none i ++ rows_where (none e i && not (is_below_mark marks e older)) rows
 shown-none all marks (RowMark d ∷ older) none = shown-none (epochs_before_mark (marks d) d all) marks older (none-before (marks d) d all none)
   where
-    none-before : (here : Bool) (d : ℕ) (set : Epochs) → ((e : ℕ) → set e ≡ false) → (e : ℕ) → epochs_before_mark here d set e ≡ false
+    none-before : (here : Bool) (d : ℕ) (set : EpochSet) → ((e : ℕ) → set e ≡ false) → (e : ℕ) → epochs_before_mark here d set e ≡ false
     none-before true d set n e = ap (λ (b : Bool). b && nat_lt d e) (n e)
     none-before false d set n e = n e
 
 -- One limit more.
-same-limit : (set : Epochs) (m e : ℕ) → set m ≡ false → (set e && nat_lt e m) ≡ (set e && nat_lt e (suc m))
+same-limit : (set : EpochSet) (m e : ℕ) → set m ≡ false → (set e && nat_lt e m) ≡ (set e && nat_lt e (suc m))
 same-limit set m e out = elim (in-order e m) [
   | inl lower ↦ (λ i. set e && lt-ltb e m lower i) ∙ (λ i. set e && sym (lt-ltb e (suc m) (omega (arith, lower))) i)
   | inr (inl same) ↦ (λ i. (ap set same ∙ out) i && nat_lt e m) ∙ (λ i. sym (ap set same ∙ out) i && nat_lt e (suc m))
@@ -277,7 +277,7 @@ same-limit set m e out = elim (in-order e m) [
       (λ i. set e && le-ltb e m (omega (arith, higher)) i) ∙ (λ i. set e && sym (le-ltb e (suc m) (omega (arith, higher))) i)
 ]
 
-limit-parts : (set : Epochs) (m : ℕ) → set m ≡ true → Parts m true true (epochs_below (suc m) set) (epochs_below m set)
+limit-parts : (set : EpochSet) (m : ℕ) → set m ≡ true → Parts m true true (epochs_below (suc m) set) (epochs_below m set)
 limit-parts set m has = record {
   low = λ e l. λ i. set e && (lt-ltb e (suc m) (omega (arith, l)) ∙ sym (lt-ltb e m l)) i;
   here = λ i. has i && lt-ltb m (suc m) (omega arith) i;
@@ -285,10 +285,10 @@ limit-parts set m has = record {
   none = λ e l. (λ i. set e && le-ltb e m l i) ∙ and-false (set e);
 }
 
-limit-marks : (set : Epochs) (m : ℕ) → set m ≡ true → MarkParts m (epochs_below (suc m) set) (epochs_below m set)
+limit-marks : (set : EpochSet) (m : ℕ) → set m ≡ true → MarkParts m (epochs_below (suc m) set) (epochs_below m set)
 limit-marks set m has = let p = limit-parts set m has in record { low = p.low; here = p.here; high = p.high; none = p.none }
 
-serial-at : (counts : Bool) (c : CodedRow → Bool) (m : ℕ) (set : Epochs) (xs : List BrickEntry) → set m ≡ counts
+serial-at : (counts : Bool) (c : CodedRow → Bool) (m : ℕ) (set : EpochSet) (xs : List BrickEntry) → set m ≡ counts
     → count_by c (brick_rows_left m set xs) ≡ count_by c (rows_shown_to (epochs_below m set) (epochs_below m set) xs)
     → count_by c (if counts then rows_after_entries (entries_of_epoch m xs) (brick_rows_left m set xs) else brick_rows_left m set xs)
     ≡ count_by c (rows_shown_to (epochs_below (suc m) set) (epochs_below (suc m) set) xs)
@@ -298,9 +298,9 @@ serial-at true c m set xs has before =
     ∙ sym (shown-parts c m true true (epochs_below (suc m) set) (epochs_below m set) (epochs_below (suc m) set) (epochs_below m set) xs
     (limit-parts set m has) (limit-marks set m has))
 serial-at false c m set xs out before =
-    before ∙ ap (λ (s : Epochs). count_by c (rows_shown_to s s xs)) (λ i e. same-limit set m e out i)
+    before ∙ ap (λ (s : EpochSet). count_by c (rows_shown_to s s xs)) (λ i e. same-limit set m e out i)
 
-pub serial-counts : (c : CodedRow → Bool) (limit : ℕ) (set : Epochs) (xs : List BrickEntry)
+pub serial-counts : (c : CodedRow → Bool) (limit : ℕ) (set : EpochSet) (xs : List BrickEntry)
     → count_by c (brick_rows_left limit set xs) ≡ count_by c (rows_shown_to (epochs_below limit set) (epochs_below limit set) xs)
 serial-counts c zero set xs =
     sym (ap (count_by c) (shown-none (epochs_below zero set) (epochs_below zero set) xs
@@ -323,4 +323,4 @@ pub snapshot-serial : (c : CodedRow → Bool) (s : Snapshot) (xs : List BrickEnt
     → count_by c (brick_rows_seen s xs) ≡ count_by c (brick_rows_left (s.epoch + 1) (sees s) xs)
 snapshot-serial c s xs =
     sym (serial-counts c (s.epoch + 1) (sees s) xs
-    ∙ ap (λ (set : Epochs). count_by c (rows_shown_to set set xs)) (λ i e. sees-below s e i))
+    ∙ ap (λ (set : EpochSet). count_by c (rows_shown_to set set xs)) (λ i e. sees-below s e i))

@@ -2,7 +2,7 @@
 -- Source: AOSI (ICDE 2018), serial execution in the order of epochs.
 use Rattle.std.specs.Prelude.{ℕ, zero, suc, ◌==◌, List, [], ◌∷◌, ◌++◌, if◌then◌else◌}
 use Rattle.cube_values.specs.declared.row.CodedRow.{CodedRow}
-use Rattle.core_events.specs.ShardView.{BrickEntry, RowRun, RowMark, Epochs, every_epoch, rows_shown_to}
+use Rattle.core_events.specs.ShardView.{BrickEntry, RowRun, RowMark, EpochSet, every_epoch, rows_shown_to}
 
 -- The runs and marks of an epoch, the newest first.
 abbrev pub entries_of_epoch : ℕ → List BrickEntry → List BrickEntry
@@ -19,7 +19,7 @@ rows_after_entries (RowRun epoch more ∷ older) rows = rows_after_entries older
 rows_after_entries (RowMark epoch ∷ older) rows = []
 
 -- The rows that the transactions of some epochs below a limit leave, run in the order of their epochs.
-abbrev pub brick_rows_left : ℕ → Epochs → List BrickEntry → List CodedRow
+abbrev pub brick_rows_left : ℕ → EpochSet → List BrickEntry → List CodedRow
 brick_rows_left zero epochs entries = []
 brick_rows_left (suc m) epochs entries =
     if epochs m then rows_after_entries (entries_of_epoch m entries) (brick_rows_left m epochs entries)

@@ -16,11 +16,11 @@ use Rattle.core_runs.specs.Queries.{HasAnswered, rows_asked, rows_fetched}
 use Rattle.brick_address.specs.Addresses.{AreCoords}
 use Rattle.core_cases.specs.SmallRun.{small_shape, small_opening, small_row, small_query, small_reader, small_put, small_scan, small_write, small_events}
 
-abbrev flushes : CoreJob → Bool
+abbrev pub flushes : CoreJob → Bool
 flushes Flush = true
 flushes job = false
 
-no-texts : (dim : ℕ) → slice_get (false ∷ []) dim ≡ Some true → ⊥
+pub no-texts : (dim : ℕ) → slice_get (false ∷ []) dim ≡ Some true → ⊥
 no-texts zero e = false≢true (same_Some false true e)
 no-texts (suc dim) e = none-some true e
 
@@ -85,7 +85,7 @@ written = (
 )
 
 -- Each brick is of the one shard.
-one-shard : (brick : ℕ) → brick % 1 ≡ 0
+pub one-shard : (brick : ℕ) → brick % 1 ≡ 0
 one-shard brick = omega arith
 
 -- What was there before the scan.

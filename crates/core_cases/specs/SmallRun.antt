@@ -1,5 +1,5 @@
--- A small run: a session puts a row and commits, and then reads it. One shard, one session, one cube with a dimension of
--- numbers and a metric.
+-- A small run: a session puts a row and commits, and then reads it. One shard, one session, one cube with a dimension
+-- of numbers and a metric.
 use Rattle.std.specs.Prelude.{List, [], ◌∷◌, false, pos}
 use Rattle.cube_values.specs.declared.query.BoundItem.TheVariants.{Count}
 use Rattle.cube_values.specs.declared.query.BoundQuery.{BoundQuery}
@@ -18,8 +18,8 @@ small_shape = record {
   metrics = 1;
 }
 
-abbrev pub small_cube : Decl
-small_cube = record {
+abbrev pub small_decl : Decl
+small_decl = record {
   name = [];
   dims = record { name = []; text = false; cardinality = 4; range = 2 } ∷ [];
   metrics = [] ∷ [];
@@ -30,7 +30,7 @@ small_opening = record {
   shards = 1;
   sessions = 1;
   safe = 0;
-  cubes = small_cube ∷ [];
+  cubes = small_decl ∷ [];
   shapes = λ cube. small_shape;
   names = λ cube dim. record { cardinality = 0; names = [] };
   rows = λ cube. [];

@@ -5,12 +5,12 @@ use Rattle.std.proofs.lemmas.Bool.{false≢true, leb-true, or_parts}
 use Rattle.cube_values.specs.declared.row.CodedRow.{CodedRow}
 use Rattle.cube_values.specs.Sees.{sees}
 use Rattle.cube_journal.specs.Counters.{JournalState, lce}
-use Rattle.core_events.specs.ShardView.{BrickEntry, RowRun, RowMark, ShardView, Epochs, is_below_mark, epochs_above, epochs_before_mark, every_epoch, rows_where, rows_shown_to, brick_rows_seen, entries_without_epoch, is_up_to, entries_after_purge, entries_of_round}
-use Rattle.core_events.specs.Jobs.{CoreJob, Append, DropBox, Scan, Delta, Rollback, Purge, CopyRound, Flush, JobAnswer, Done, ShardFull, Found, Compared, Copied, StoreLost, OutOfMemory, is_refusal}
+use Rattle.core_events.specs.ShardView.{BrickEntry, RowRun, RowMark, ShardView, EpochSet, is_below_mark, epochs_above, epochs_before_mark, every_epoch, rows_where, rows_shown_to, brick_rows_seen, entries_without_epoch, is_up_to, entries_after_purge, entries_of_round}
+use Rattle.core_events.specs.Jobs.{CoreJob, Append, DropBox, Scan, Delta, Rollback, Purge, CopyRound, Flush, JobOutcome, Done, ShardFull, Found, Compared, Copied, StoreLost, OutOfMemory, is_refusal}
 use Rattle.core_events.specs.Events.{Opening, IsSession, flusher, ClientCall, WorkerMove, Take, NoJob, Work, Reply, CoreEvent, By, At}
 use Rattle.core_events.specs.Groups.{GroupKind, Copies, kind_of, Received, has_number, mails_of, has_refusal}
 use Rattle.core_events.specs.Clients.{client_state, ends_group, reader_up_to}
-use Rattle.core_events.specs.Cells.{counters_of_run, view_of, rows_of_brick, box_has_brick, brick_after_job, brick_after_move, Took, worker_of}
+use Rattle.core_events.specs.Cells.{counters_of_run, shard_view_of, rows_of_brick, box_has_brick, brick_after_job, brick_after_move, Took, worker_of}
 use Rattle.core_events.specs.Fitting.{OwnsWriter, FlushSays, round_progress}
 use Rattle.core_events.specs.Runs.{IsCoreRun, ShardSays}
 use Rattle.core_bricks.specs.BrickTransactions.{rows_over_kept}
@@ -54,28 +54,28 @@ job-unseen o es a x Flush run settled f = tt
 
 epoch-stays : (o : Opening) (es : List CoreEvent) (other x cube brick : ℕ) (move : WorkerMove) → IsCoreRun o (At other move ∷ es)
     → IsSettledEpoch (counters_of_run o es) x
-    → brick_rows_seen (reader_up_to x) (view_of o (At other move ∷ es) cube brick) ≡ brick_rows_seen (reader_up_to x) (view_of o es cube brick)
+    → brick_rows_seen (reader_up_to x) (shard_view_of o (At other move ∷ es) cube brick) ≡ brick_rows_seen (reader_up_to x) (shard_view_of o es cube brick)
 epoch-stays o es other x cube brick (Work job answer) run settled =
     let made = made-asked o es other job answer run in
-    move-keeps o (other == brick % o.shards) cube brick job answer (reader_up_to x) (view_of o es cube brick)
-    (job-keeps o cube brick job (reader_up_to x) (view_of o es cube brick)
+    move-keeps o (other == brick % o.shards) cube brick job answer (reader_up_to x) (shard_view_of o es cube brick)
+    (job-keeps o cube brick job (reader_up_to x) (shard_view_of o es cube brick)
     (job-unseen o es made.0 x job run.0 settled (asked-fits o es other made.0 job run.0 made.1)))
 epoch-stays o es other x cube brick (Take client job) run settled = by (other == brick % o.shards)
   where
-    by : (h : Bool) → brick_rows_seen (reader_up_to x) (brick_after_move o h cube brick (Take client job) (view_of o es cube brick))
-        ≡ brick_rows_seen (reader_up_to x) (view_of o es cube brick)
+    by : (h : Bool) → brick_rows_seen (reader_up_to x) (brick_after_move o h cube brick (Take client job) (shard_view_of o es cube brick))
+        ≡ brick_rows_seen (reader_up_to x) (shard_view_of o es cube brick)
     by true = refl
     by false = refl
 epoch-stays o es other x cube brick (NoJob closed) run settled = by (other == brick % o.shards)
   where
-    by : (h : Bool) → brick_rows_seen (reader_up_to x) (brick_after_move o h cube brick (NoJob closed) (view_of o es cube brick))
-        ≡ brick_rows_seen (reader_up_to x) (view_of o es cube brick)
+    by : (h : Bool) → brick_rows_seen (reader_up_to x) (brick_after_move o h cube brick (NoJob closed) (shard_view_of o es cube brick))
+        ≡ brick_rows_seen (reader_up_to x) (shard_view_of o es cube brick)
     by true = refl
     by false = refl
 epoch-stays o es other x cube brick (Reply client answer) run settled = by (other == brick % o.shards)
   where
-    by : (h : Bool) → brick_rows_seen (reader_up_to x) (brick_after_move o h cube brick (Reply client answer) (view_of o es cube brick))
-        ≡ brick_rows_seen (reader_up_to x) (view_of o es cube brick)
+    by : (h : Bool) → brick_rows_seen (reader_up_to x) (brick_after_move o h cube brick (Reply client answer) (shard_view_of o es cube brick))
+        ≡ brick_rows_seen (reader_up_to x) (shard_view_of o es cube brick)
     by true = refl
     by false = refl
 
@@ -114,7 +114,7 @@ where-none : (b : Bool) (rows : List CodedRow) → rows ≡ [] → rows_where b 
 where-none true rows e = e
 where-none false rows e = refl
 
-purge-free : (left : Epochs) (at : ℕ) (xs : List BrickEntry) → ZeroFree xs → ZeroFree (entries_after_purge left at xs)
+purge-free : (left : EpochSet) (at : ℕ) (xs : List BrickEntry) → ZeroFree xs → ZeroFree (entries_after_purge left at xs)
 purge-free left at [] f = tt
 purge-free left at (RowRun e rows ∷ xs) f =
     ((λ zero. where-none (left e && not (is_below_mark (is_up_to at) e xs)) rows (f.0 zero)), purge-free left at xs f.1)
@@ -154,7 +154,7 @@ job-free o cube brick (CopyRound from to) xs later f = f
 job-free o cube brick Flush xs later f = f
 
 move-free : (here : Bool) (o : Opening) (cube brick : ℕ) (move : WorkerMove) (xs : List BrickEntry)
-    → ((job : CoreJob) (answer : JobAnswer) → move ≡ Work job answer → IsLater job) → ZeroFree xs
+    → ((job : CoreJob) (answer : JobOutcome) → move ≡ Work job answer → IsLater job) → ZeroFree xs
     → ZeroFree (brick_after_move o here cube brick move xs)
 move-free true o cube brick (Work job Done) xs later f = job-free o cube brick job xs (later job Done refl) f
 move-free true o cube brick (Work job (ShardFull rows)) xs later f = f
@@ -168,17 +168,17 @@ move-free true o cube brick (NoJob closed) xs later f = f
 move-free true o cube brick (Reply client answer) xs later f = f
 move-free false o cube brick move xs later f = f
 
-run-free : (o : Opening) (es : List CoreEvent) (cube brick : ℕ) → IsCoreRun o es → ZeroFree (view_of o es cube brick)
+run-free : (o : Opening) (es : List CoreEvent) (cube brick : ℕ) → IsCoreRun o es → ZeroFree (shard_view_of o es cube brick)
 run-free o [] cube brick run = ((λ zero. ap (rows_of_brick o cube brick) (run.none zero cube)), tt)
 run-free o (By b call ∷ es) cube brick run = run-free o es cube brick run.0
 run-free o (At other move ∷ es) cube brick run =
-    move-free (other == brick % o.shards) o cube brick move (view_of o es cube brick)
+    move-free (other == brick % o.shards) o cube brick move (shard_view_of o es cube brick)
     (λ job answer is.
     let made = made-asked o es other job answer (coe 0 1 (i. IsCoreRun o (At other (is i) ∷ es)) run) in
     job-later o es made.0 job run.0 (asked-fits o es other made.0 job run.0 made.1))
     (run-free o es cube brick run.0)
 
-before-zero : (here : Bool) (d : ℕ) (epochs : Epochs) → ((e : ℕ) → epochs e ≡ true → e ≡ 0) → (e : ℕ) → epochs_before_mark here d epochs e ≡ true → e ≡ 0
+before-zero : (here : Bool) (d : ℕ) (epochs : EpochSet) → ((e : ℕ) → epochs e ≡ true → e ≡ 0) → (e : ℕ) → epochs_before_mark here d epochs e ≡ true → e ≡ 0
 before-zero true d epochs only e is = only e (left-and (epochs e) (nat_lt d e) is)
   where
     left-and : (a b : Bool) → (a && b) ≡ true → a ≡ true
@@ -191,7 +191,7 @@ zero-rows : (looked hidden : Bool) (e : ℕ) (rows : List CodedRow) → (looked 
 zero-rows true hidden e rows only none = where-none (not hidden) rows (none (only refl))
 zero-rows false hidden e rows only none = refl
 
-none-at-zero : (epochs marks : Epochs) (xs : List BrickEntry) → ((e : ℕ) → epochs e ≡ true → e ≡ 0) → ZeroFree xs → rows_shown_to epochs marks xs ≡ []
+none-at-zero : (epochs marks : EpochSet) (xs : List BrickEntry) → ((e : ℕ) → epochs e ≡ true → e ≡ 0) → ZeroFree xs → rows_shown_to epochs marks xs ≡ []
 none-at-zero epochs marks [] only f = refl
 none-at-zero epochs marks (RowRun e rows ∷ xs) only f =
     λ i. none-at-zero epochs marks xs only f.1 i ++ zero-rows (epochs e) (is_below_mark marks e xs) e rows (only e) f.0 i
@@ -217,29 +217,29 @@ kept-none (suc g) xs = λ zero. absurd (omega (arith, zero))
 
 abbrev CopyShows : Opening → List CoreEvent → ℕ → ℕ → ℕ → ShardView → Type 0
 CopyShows o es mail from to copy = (cube brick : ℕ) (c : CodedRow → Bool) → (r : brick % o.shards ≡ mail)
-    → count_by c (rows_over_kept from (rows_kept from (view_of o es cube brick)) (copy cube brick))
-    ≡ count_by c (brick_rows_seen (reader_up_to to) (view_of o es cube brick))
+    → count_by c (rows_over_kept from (rows_kept from (shard_view_of o es cube brick)) (copy cube brick))
+    ≡ count_by c (brick_rows_seen (reader_up_to to) (shard_view_of o es cube brick))
 
-abbrev CopyAnswer : Opening → List CoreEvent → ℕ → ℕ → ℕ → JobAnswer → Type 0
+abbrev CopyAnswer : Opening → List CoreEvent → ℕ → ℕ → ℕ → JobOutcome → Type 0
 CopyAnswer o es mail from to (Copied copy) = from ≤ to → CopyShows o es mail from to copy
 CopyAnswer o es mail from to answer = is_refusal answer ≡ true
 
-abbrev CopyClaim : Opening → List CoreEvent → ℕ → ℕ → CoreJob → JobAnswer → Type 0
+abbrev CopyClaim : Opening → List CoreEvent → ℕ → ℕ → CoreJob → JobOutcome → Type 0
 CopyClaim o es a mail (CopyRound from to) answer = CopyAnswer o es mail from to answer
 CopyClaim o es a mail job answer = Unit {0}
 
 kept-shows : (o : Opening) (es : List CoreEvent) (from to cube brick : ℕ) (c : CodedRow → Bool) → IsCoreRun o es → from ≤ to
-    → count_by c (rows_over_kept from (rows_kept from (view_of o es cube brick)) (entries_of_round from to (view_of o es cube brick)))
-    ≡ count_by c (brick_rows_seen (reader_up_to to) (view_of o es cube brick))
+    → count_by c (rows_over_kept from (rows_kept from (shard_view_of o es cube brick)) (entries_of_round from to (shard_view_of o es cube brick)))
+    ≡ count_by c (brick_rows_seen (reader_up_to to) (shard_view_of o es cube brick))
 kept-shows o es zero to cube brick c run le =
-    let xs = view_of o es cube brick in
+    let xs = shard_view_of o es cube brick in
     ap (λ (rows : List CodedRow). count_by c (rows_over_kept zero rows (entries_of_round zero to xs)))
     (sym (none-at-zero (sees (reader_up_to 0)) (sees (reader_up_to 0)) xs sees-zero (run-free o es cube brick run)))
     ∙ copies-restore c zero to xs le
-kept-shows o es (suc g) to cube brick c run le = copies-restore c (suc g) to (view_of o es cube brick) le
+kept-shows o es (suc g) to cube brick c run le = copies-restore c (suc g) to (shard_view_of o es cube brick) le
 
-copy-given : (o : Opening) (es : List CoreEvent) (a mail : ℕ) (job : CoreJob) (answer : JobAnswer) → IsCoreRun o es
-    → ShardSays o mail (view_of o es) job answer → CopyClaim o es a mail job answer
+copy-given : (o : Opening) (es : List CoreEvent) (a mail : ℕ) (job : CoreJob) (answer : JobOutcome) → IsCoreRun o es
+    → ShardSays o mail (shard_view_of o es) job answer → CopyClaim o es a mail job answer
 copy-given o es a mail (Append cube epoch rows) answer run says = tt
 copy-given o es a mail (DropBox cube epoch box) answer run says = tt
 copy-given o es a mail (Scan query snapshot) answer run says = tt
@@ -251,18 +251,18 @@ copy-given o es a mail (CopyRound from to) (ShardFull rows) run says = absurd sa
 copy-given o es a mail (CopyRound from to) (Found rows) run says = absurd says
 copy-given o es a mail (CopyRound from to) (Compared came went) run says = absurd says
 copy-given o es a mail (CopyRound from to) (Copied copy) run says = λ le cube brick c here.
-    let xs = view_of o es cube brick in
+    let xs = shard_view_of o es cube brick in
     ap (count_by c) (over-alike from (rows_kept from xs) (copy cube brick) (entries_of_round from to xs) (kept-none from xs) (says cube brick here))
     ∙ kept-shows o es from to cube brick c run le
 copy-given o es a mail (CopyRound from to) StoreLost run says = absurd says
 copy-given o es a mail (CopyRound from to) OutOfMemory run says = refl
 copy-given o es a mail Flush answer run says = tt
 
-copy-flushed : (o : Opening) (es : List CoreEvent) (a mail : ℕ) (said : JobAnswer) → IsCoreRun o es → worker_of mail es ≡ Took a Flush
+copy-flushed : (o : Opening) (es : List CoreEvent) (a mail : ℕ) (said : JobOutcome) → IsCoreRun o es → worker_of mail es ≡ Took a Flush
     → FlushSays (round_progress o es) (client_state o (flusher o) es).store_lost said → CopyClaim o es a mail Flush said
 copy-flushed o es a mail said run took says = tt
 
-copy-call : (o : Opening) (es : List CoreEvent) (a b mail : ℕ) (call : ClientCall) (job : CoreJob) (answer : JobAnswer)
+copy-call : (o : Opening) (es : List CoreEvent) (a b mail : ℕ) (call : ClientCall) (job : CoreJob) (answer : JobOutcome)
     → IsCoreRun o (By b call ∷ es) → kind_of job ≡ (client_state o a es).group.kind → (b ≡ a → ends_group call ≡ false)
     → CopyClaim o es a mail job answer → CopyClaim o (By b call ∷ es) a mail job answer
 copy-call o es a b mail call (Append cube epoch rows) answer run kind goes f = f
@@ -283,7 +283,7 @@ copy-call o es a b mail call Flush answer run kind goes f = f
 -- What was kept stays.
 kept-stays : (o : Opening) (es : List CoreEvent) (other from to cube brick : ℕ) (move : WorkerMove) → IsCoreRun o (At other move ∷ es)
     → IsOfOpenRound from to (counters_of_run o es)
-    → rows_kept from (view_of o (At other move ∷ es) cube brick) ≡ rows_kept from (view_of o es cube brick)
+    → rows_kept from (shard_view_of o (At other move ∷ es) cube brick) ≡ rows_kept from (shard_view_of o es cube brick)
 kept-stays o es other zero to cube brick move run opened = refl
 kept-stays o es other (suc g) to cube brick move run opened =
     epoch-stays o es other (suc g) cube brick move run (elim opened.begins [
@@ -294,7 +294,7 @@ kept-stays o es other (suc g) to cube brick move run opened =
       | inr none ↦ absurd (omega (arith, none))
     ])
 
-copy-moves : (o : Opening) (es : List CoreEvent) (a other mail : ℕ) (move : WorkerMove) (from to : ℕ) (answer : JobAnswer)
+copy-moves : (o : Opening) (es : List CoreEvent) (a other mail : ℕ) (move : WorkerMove) (from to : ℕ) (answer : JobOutcome)
     → IsCoreRun o (At other move ∷ es) → IsOfOpenRound from to (counters_of_run o es)
     → CopyAnswer o es mail from to answer → CopyAnswer o (At other move ∷ es) mail from to answer
 copy-moves o es a other mail move from to Done run opened f = f
@@ -309,7 +309,7 @@ copy-moves o es a other mail move from to (Copied copy) run opened f = λ le cub
 copy-moves o es a other mail move from to StoreLost run opened f = f
 copy-moves o es a other mail move from to OutOfMemory run opened f = f
 
-copy-move : (o : Opening) (es : List CoreEvent) (a other mail : ℕ) (move : WorkerMove) (job : CoreJob) (answer : JobAnswer)
+copy-move : (o : Opening) (es : List CoreEvent) (a other mail : ℕ) (move : WorkerMove) (job : CoreJob) (answer : JobOutcome)
     → IsCoreRun o (At other move ∷ es) → kind_of job ≡ (client_state o a es).group.kind
     → CopyClaim o es a mail job answer → CopyClaim o (At other move ∷ es) a mail job answer
 copy-move o es a other mail move (Append cube epoch rows) answer run kind f = f
@@ -324,7 +324,7 @@ copy-move o es a other mail move Flush answer run kind f = f
 
 -- The answers of all shards.
 
-copy-answer : (o : Opening) (es : List CoreEvent) (a mail : ℕ) (job : CoreJob) (answer : JobAnswer) (from to : ℕ)
+copy-answer : (o : Opening) (es : List CoreEvent) (a mail : ℕ) (job : CoreJob) (answer : JobOutcome) (from to : ℕ)
     → kind_of job ≡ Copies from to → CopyClaim o es a mail job answer → CopyAnswer o es mail from to answer
 copy-answer o es a mail (CopyRound x y) answer from to e f =
     coe 0 1 (i. CopyAnswer o es mail (ap (first_in x) e i) (ap (second_in y) e i) answer) f
@@ -344,7 +344,7 @@ copy-answer o es a mail (Rollback epoch) answer from to e f = absurd (false≢tr
 copy-answer o es a mail (Purge epoch) answer from to e f = absurd (false≢true (ap is_copying e))
 copy-answer o es a mail Flush answer from to e f = absurd (false≢true (ap is_copying e))
 
-copy-shows : (o : Opening) (es : List CoreEvent) (mail from to : ℕ) (answer : JobAnswer) → is_refusal answer ≡ false → from ≤ to
+copy-shows : (o : Opening) (es : List CoreEvent) (mail from to : ℕ) (answer : JobOutcome) → is_refusal answer ≡ false → from ≤ to
     → CopyAnswer o es mail from to answer → CopyShows o es mail from to (copy_in answer)
 copy-shows o es mail from to (Copied copy) is le f = f le
 copy-shows o es mail from to Done is le f = absurd (false≢true (sym is ∙ f))
@@ -358,19 +358,19 @@ copied-by : (here : Bool) (o : Opening) (es : List CoreEvent) (from to cube bric
     → (r.mail == brick % o.shards) ≡ here → (here || has_number (mails_of older) (brick % o.shards)) ≡ true
     → CopyShows o es r.mail from to (copy_in r.answer)
     → (has_number (mails_of older) (brick % o.shards) ≡ true
-    → count_by c (rows_over_kept from (rows_kept from (view_of o es cube brick)) (copies_by o older cube brick))
-    ≡ count_by c (brick_rows_seen (reader_up_to to) (view_of o es cube brick)))
-    → count_by c (rows_over_kept from (rows_kept from (view_of o es cube brick))
+    → count_by c (rows_over_kept from (rows_kept from (shard_view_of o es cube brick)) (copies_by o older cube brick))
+    ≡ count_by c (brick_rows_seen (reader_up_to to) (shard_view_of o es cube brick)))
+    → count_by c (rows_over_kept from (rows_kept from (shard_view_of o es cube brick))
     (if here then copy_in r.answer cube brick else copies_by o older cube brick))
-    ≡ count_by c (brick_rows_seen (reader_up_to to) (view_of o es cube brick))
+    ≡ count_by c (brick_rows_seen (reader_up_to to) (shard_view_of o es cube brick))
 copied-by true o es from to cube brick c r older is all shows before = shows cube brick c (sym (eqb-true r.mail (brick % o.shards) is))
 copied-by false o es from to cube brick c r older is all shows before = before all
 
 answers-copies : (o : Opening) (es : List CoreEvent) (a from to cube brick : ℕ) (c : CodedRow → Bool) (answers : List Received) → from ≤ to
     → has_refusal answers ≡ false → has_number (mails_of answers) (brick % o.shards) ≡ true
     → AnswersFit CopyClaim copy-given copy-flushed copy-call copy-move o es a (Copies from to) answers
-    → count_by c (rows_over_kept from (rows_kept from (view_of o es cube brick)) (copies_by o answers cube brick))
-    ≡ count_by c (brick_rows_seen (reader_up_to to) (view_of o es cube brick))
+    → count_by c (rows_over_kept from (rows_kept from (shard_view_of o es cube brick)) (copies_by o answers cube brick))
+    ≡ count_by c (brick_rows_seen (reader_up_to to) (shard_view_of o es cube brick))
 answers-copies o es a from to cube brick c [] le none all f = absurd (false≢true all)
 answers-copies o es a from to cube brick c (r ∷ older) le none all f =
     let parts = or_parts (is_refusal r.answer) (has_refusal older) none in
@@ -385,8 +385,8 @@ from-below from to s opened =
 
 pub copied-shows : (o : Opening) (es : List CoreEvent) (a from to cube brick : ℕ) (c : CodedRow → Bool) → IsCoreRun o es
     → HasCopied o.shards from to (client_state o a es).group
-    → count_by c (rows_over_kept from (rows_kept from (view_of o es cube brick)) (copies_by o (client_state o a es).group.answers cube brick))
-    ≡ count_by c (brick_rows_seen (reader_up_to to) (view_of o es cube brick))
+    → count_by c (rows_over_kept from (rows_kept from (shard_view_of o es cube brick)) (copies_by o (client_state o a es).group.answers cube brick))
+    ≡ count_by c (brick_rows_seen (reader_up_to to) (shard_view_of o es cube brick))
 copied-shows o es a from to cube brick c run h =
     let g = (client_state o a es).group in
     let some = (opening-of o es run).some in

@@ -10,7 +10,7 @@ use Rattle.aosi_register.specs.declared.answer.RoundAnswer.{RoundAnswer}
 use Rattle.aosi_register.specs.declared.answer.RoundAnswer.TheVariants.{Target, Nothing}
 use Rattle.aosi_register.specs.State.{round_answer}
 use Rattle.core_events.specs.Jobs.{CoreJob, Append, DropBox, Scan, Delta, Rollback, Purge, CopyRound, Flush}
-use Rattle.core_events.specs.Events.{Opening, flusher, DeskCall, OpenWrite, OpenRead, Commit, AbortEnd, CloseRead, TakeNote, CreateCube, FindCube, CubesFrom, CountersNow, RoundOpen, RoundClose, StoreFailed, ClientCall, OnDesk, OnNames, Post, Fetch, CloseMail, NoChange, CoreEvent, By, At}
+use Rattle.core_events.specs.Events.{Opening, flusher, DeskEvent, OpenWrite, OpenRead, Commit, AbortEnd, CloseRead, TakeNote, CreateCube, FindCube, CubesFrom, CountersNow, RoundOpen, RoundClose, StoreFailed, ClientCall, OnDesk, OnNames, Post, Fetch, CloseMail, NoChange, CoreEvent, By, At}
 use Rattle.core_events.specs.Groups.{GroupKind, Copies, kind_of, no_group, has_ended}
 use Rattle.core_events.specs.Clients.{OwnRound, ClientState, client_state, client_after_call, ends_group, own_round_after, round_in, round_with_cubes}
 use Rattle.core_events.specs.Cells.{counters_of_run}
@@ -187,7 +187,7 @@ with-cubes o a from to (Some round) f =
     }
 
 -- A call that ends no group leaves the round, but for its cubes.
-desk-copies : (o : Opening) (a from to : ℕ) (call : DeskCall) (round : Option OwnRound) → ends_group (OnDesk call) ≡ false
+desk-copies : (o : Opening) (a from to : ℕ) (call : DeskEvent) (round : Option OwnRound) → ends_group (OnDesk call) ≡ false
     → IsOfRound o a from to round → IsOfRound o a from to (own_round_after (OnDesk call) round)
 desk-copies o a from to (CubesFrom place cubes) round e f = with-cubes o a from to round f
 desk-copies o a from to (RoundOpen answer) round e f = absurd (true≢false e)
@@ -203,7 +203,7 @@ desk-copies o a from to (FindCube statement name answer) round e f = f
 desk-copies o a from to (CountersNow counters) round e f = f
 desk-copies o a from to (StoreFailed failed) round e f = f
 
-ends-copies : (ends : Bool) (o : Opening) (a from to : ℕ) (call : DeskCall) (k : ClientState) → ends_group (OnDesk call) ≡ ends → CopiesOf o a k
+ends-copies : (ends : Bool) (o : Opening) (a from to : ℕ) (call : DeskEvent) (k : ClientState) → ends_group (OnDesk call) ≡ ends → CopiesOf o a k
     → (if ends then no_group else k.group).kind ≡ Copies from to → IsOfRound o a from to (own_round_after (OnDesk call) k.round)
 ends-copies true o a from to call k is before e = absurd (false≢true (ap is_copying e))
 ends-copies false o a from to call k is before e = desk-copies o a from to call k.round is (before from to e)

@@ -2,11 +2,11 @@
 use Rattle.std.proofs.Common.{◌≡◌, ◌∙◌, ℕ, zero, suc, ◌+◌, Bool, true, false, not, ◌&&◌, ◌||◌, nat_lt, List, [], ◌∷◌, ◌++◌, append_assoc, append-nil, inl, inr, refl, sym, ap, arith, lt-ltb, le-ltb}
 use Rattle.std.specs.List.{count_by}
 use Rattle.cube_values.specs.declared.row.CodedRow.{CodedRow}
-use Rattle.core_events.specs.ShardView.{BrickEntry, RowRun, RowMark, Epochs, is_below_mark, epochs_before_mark, every_epoch, rows_where, rows_shown_to, ShowAlike}
+use Rattle.core_events.specs.ShardView.{BrickEntry, RowRun, RowMark, EpochSet, is_below_mark, epochs_before_mark, every_epoch, rows_where, rows_shown_to, ShowAlike}
 use Rattle.core_bricks.specs.BrickTransactions.{rows_over_kept}
 use Rattle.core_bricks.proofs.Counts.{number_where, count-append, count-where, in-order}
 
-below-over : (marks : Epochs) (e at : ℕ) (kept : List CodedRow) (xs : List BrickEntry)
+below-over : (marks : EpochSet) (e at : ℕ) (kept : List CodedRow) (xs : List BrickEntry)
     → is_below_mark marks e (xs ++ RowRun at kept ∷ []) ≡ is_below_mark marks e xs
 below-over marks e at kept [] = refl
 below-over marks e at kept (RowRun j rows ∷ xs) = below-over marks e at kept xs
@@ -24,13 +24,13 @@ hidden-twice true true c = refl
 hidden-twice true false c = refl
 hidden-twice false b c = refl
 
-hidden-before : (here : Bool) (g d : ℕ) (epochs : Epochs) (b : Bool)
+hidden-before : (here : Bool) (g d : ℕ) (epochs : EpochSet) (b : Bool)
     → (epochs_before_mark here d epochs (suc g) && not b) ≡ (epochs (suc g) && not ((here && nat_lt g d) || b))
 hidden-before true g d epochs b =
     (λ i. (epochs (suc g) && not-below g d i) && not b) ∙ hidden-twice (epochs (suc g)) (nat_lt g d) b
 hidden-before false g d epochs b = refl
 
-over-run : (g : ℕ) (kept : List CodedRow) (epochs marks : Epochs) (xs : List BrickEntry)
+over-run : (g : ℕ) (kept : List CodedRow) (epochs marks : EpochSet) (xs : List BrickEntry)
     → rows_shown_to epochs marks (xs ++ RowRun (suc g) kept ∷ [])
     ≡ rows_where (epochs (suc g) && not (is_below_mark marks g xs)) kept ++ rows_shown_to epochs marks xs
 over-run g kept epochs marks [] = sym (append-nil (rows_where (epochs (suc g) && true) kept))
@@ -47,7 +47,7 @@ where-none : (b : Bool) → rows_where b [] ≡ []
 where-none true = refl
 where-none false = refl
 
-over-none : (at : ℕ) (epochs marks : Epochs) (xs : List BrickEntry)
+over-none : (at : ℕ) (epochs marks : EpochSet) (xs : List BrickEntry)
     → rows_shown_to epochs marks (xs ++ RowRun at [] ∷ []) ≡ rows_shown_to epochs marks xs
 over-none at epochs marks [] = where-none (epochs at && true)
 over-none at epochs marks (RowRun j rows ∷ xs) =

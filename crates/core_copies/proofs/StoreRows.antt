@@ -12,7 +12,7 @@ use Rattle.core_events.specs.Jobs.{CoreJob, Append, DropBox, Scan, Delta, Rollba
 use Rattle.core_events.specs.Events.{Opening, OnDesk, OnNames, Post, Fetch, CloseMail, NoChange, CoreEvent, By, At}
 use Rattle.core_events.specs.Groups.{has_ended}
 use Rattle.core_events.specs.Clients.{client_state, reader_up_to}
-use Rattle.core_events.specs.Cells.{counters_of_run, view_of, rows_of_brick, sizes_of_cube}
+use Rattle.core_events.specs.Cells.{counters_of_run, shard_view_of, rows_of_brick, sizes_of_cube}
 use Rattle.core_events.specs.Fitting.{FitsCall}
 use Rattle.core_events.specs.Runs.{IsCoreRun}
 use Rattle.core_events.specs.Serial.{CubeOperation, PutRows, counts_for, operations_of, rows_after_transaction}
@@ -48,7 +48,7 @@ settled-reader o es x run settled = record {
 
 epoch-serial : (o : Opening) (es : List CoreEvent) (x cube brick : ℕ) (c : CodedRow → Bool) → IsCoreRun o es
     → IsSettledEpoch (counters_of_run o es) x
-    → count_by c (brick_rows_seen (reader_up_to x) (view_of o es cube brick)) ≡ count_by c (rows_of_brick o cube brick (rows_committed_up_to o es cube x))
+    → count_by c (brick_rows_seen (reader_up_to x) (shard_view_of o es cube brick)) ≡ count_by c (rows_of_brick o cube brick (rows_committed_up_to o es cube x))
 epoch-serial o es x cube brick c run settled =
     seen-serial o es cube brick (reader_up_to x) c run (settled-reader o es x run settled) (λ e own. absurd (false≢true own))
     ((run-keeps o es cube brick run).shows (sees (reader_up_to x)) (sees (reader_up_to x))
@@ -101,7 +101,7 @@ committed-none o es (suc g) cube run = λ z. absurd (omega (arith, z))
 -- What was kept is what committed transactions up to the first epoch leave.
 kept-serial : (o : Opening) (es : List CoreEvent) (from to cube brick : ℕ) (c : CodedRow → Bool) → IsCoreRun o es
     → IsOfOpenRound from to (counters_of_run o es)
-    → count_by c (rows_kept from (view_of o es cube brick)) ≡ count_by c (rows_of_brick o cube brick (rows_committed_up_to o es cube from))
+    → count_by c (rows_kept from (shard_view_of o es cube brick)) ≡ count_by c (rows_of_brick o cube brick (rows_committed_up_to o es cube from))
 kept-serial o es zero to cube brick c run opened =
     ap (λ (rows : List CodedRow). count_by c (rows_of_brick o cube brick rows)) (sym (none-committed o es cube run))
 kept-serial o es (suc g) to cube brick c run opened =
@@ -125,7 +125,7 @@ pub copies-of-bricks : (o : Opening) (es : List CoreEvent) (a from to cube brick
 copies-of-bricks o es a from to cube brick c run h =
     let open-round = round-of o es a from to run h in
     let rises = open-round.rises in
-    let view = view_of o es cube brick in
+    let view = shard_view_of o es cube brick in
     over-counts c from (rows_of_brick o cube brick (rows_committed_up_to o es cube from)) (rows_kept from view)
     (copies_by o (client_state o a es).group.answers cube brick)
     (λ z. ap (rows_of_brick o cube brick) (committed-none o es from cube run z)) (kept-none from view)

@@ -6,7 +6,7 @@ use Rattle.std.specs.List.Sorted.{IsPermutation}
 use Rattle.cube_values.specs.declared.row.CodedRow.{CodedRow}
 use Rattle.cube_journal.specs.Counters.{JournalState, lce}
 use Rattle.core_events.specs.ShardView.{BrickEntry, ShardView}
-use Rattle.core_events.specs.Jobs.{JobAnswer, Copied}
+use Rattle.core_events.specs.Jobs.{JobOutcome, Copied}
 use Rattle.core_events.specs.Events.{Opening, CoreEvent}
 use Rattle.core_events.specs.Groups.{Copies, Received, JobGroup}
 use Rattle.core_events.specs.Clients.{reader_up_to}
@@ -16,7 +16,7 @@ use Rattle.core_bricks.specs.BrickTransactions.{rows_over_kept}
 use Rattle.core_serial.specs.CubeRows.{rows_of_serial_run}
 
 -- The copy in an answer.
-abbrev pub copy_in : JobAnswer → ℕ → ℕ → List BrickEntry
+abbrev pub copy_in : JobOutcome → ℕ → ℕ → List BrickEntry
 copy_in (Copied view) cube brick = view cube brick
 copy_in answer cube brick = []
 

@@ -7,7 +7,7 @@ use Rattle.cube_values.specs.Spans.{span_has}
 use Rattle.core_events.specs.ShardView.{BrickEntry, RowRun, RowMark, rows_where, rows_shown_to, brick_rows_seen}
 use Rattle.core_events.specs.Events.{Opening, CoreEvent}
 use Rattle.core_events.specs.Clients.{reader_up_to}
-use Rattle.core_events.specs.Cells.{view_of, rows_of_brick}
+use Rattle.core_events.specs.Cells.{shard_view_of, rows_of_brick}
 use Rattle.core_events.specs.Runs.{Sight, sight_before_mark, shows_run, rows_shown_besides, sight_of_reader, rows_in_span, IsDeltaOf}
 use Rattle.core_bricks.proofs.Counts.{number_where, count-run, count-filter}
 use Rattle.core_bricks.proofs.DeltaRows.{delta-counts}
@@ -49,10 +49,10 @@ pub record IsShardDelta (o : Opening) (es : List CoreEvent) (mail : ℕ) (q : Bo
   pub went_elsewhere : (brick : ℕ) → (brick % o.shards == mail) ≡ false → rows_of_brick o q.cube brick went ≡ []
 
 pub delta-of-shard : (o : Opening) (es : List CoreEvent) (mail : ℕ) (q : BoundQuery) (from to : ℕ) (came went : List CodedRow)
-    → IsDeltaOf o mail (view_of o es) q from to came went → IsShardDelta o es mail q from to came went
+    → IsDeltaOf o mail (shard_view_of o es) q from to came went → IsShardDelta o es mail q from to came went
 delta-of-shard o es mail q from to came went d = record {
   here = λ brick is.
-      let xs = view_of o es q.cube brick in
+      let xs = shard_view_of o es q.cube brick in
       let within = λ (row : CodedRow). span_has q.span row.coords in
       let first = sight_of_reader from in
       let second = sight_of_reader to in
@@ -79,9 +79,9 @@ delta-of-shard o es mail q from to came went d = record {
             omega (arith, le, a, y);
       };
   came_elsewhere = λ brick is. d.comes brick ∙ ap (λ (b : Bool).
-      rows_where b (rows_in_span q.span (rows_shown_besides (sight_of_reader to) (sight_of_reader from) (view_of o es q.cube brick)))) is;
+      rows_where b (rows_in_span q.span (rows_shown_besides (sight_of_reader to) (sight_of_reader from) (shard_view_of o es q.cube brick)))) is;
   went_elsewhere = λ brick is. d.goes brick ∙ ap (λ (b : Bool).
-      rows_where b (rows_in_span q.span (rows_shown_besides (sight_of_reader from) (sight_of_reader to) (view_of o es q.cube brick)))) is;
+      rows_where b (rows_in_span q.span (rows_shown_besides (sight_of_reader from) (sight_of_reader to) (shard_view_of o es q.cube brick)))) is;
 }
 
 -- It is the same delta where the readers see the same.

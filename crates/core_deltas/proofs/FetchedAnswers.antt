@@ -3,11 +3,11 @@
 use Rattle.std.proofs.Common.{◌≡◌, ◌∙◌, ℕ, ◌==◌, Bool, true, false, List, [], ◌∷◌, Option, Some, None, refl, sym, ap, eqb-true, eq-eqb, if◌then◌else◌}
 use Rattle.std.proofs.lemmas.Bool.{false≢true}
 use Rattle.std.proofs.lemmas.Option.{none-some, same_Some}
-use Rattle.core_events.specs.Jobs.{CoreJob, Append, DropBox, Scan, Delta, Rollback, Purge, CopyRound, Flush, JobAnswer}
+use Rattle.core_events.specs.Jobs.{CoreJob, Append, DropBox, Scan, Delta, Rollback, Purge, CopyRound, Flush, JobOutcome}
 use Rattle.core_events.specs.Events.{Opening, flusher, ClientCall, OnDesk, OnNames, Post, Fetch, CloseMail, NoChange, WorkerMove, Take, NoJob, Work, Reply, CoreEvent, By, At}
 use Rattle.core_events.specs.Groups.{GroupKind, kind_of, Received, JobGroup, no_group, has_number, has_ended, mails_of, numbers_without}
 use Rattle.core_events.specs.Clients.{ClientState, client_state, client_after_call, ends_group}
-use Rattle.core_events.specs.Cells.{view_of, WorkerState, Free, Took, Worked, worker_of}
+use Rattle.core_events.specs.Cells.{shard_view_of, WorkerState, Free, Took, Worked, worker_of}
 use Rattle.core_events.specs.Fitting.{FitsCall, FitsWork, FitsReply, FlushSays, round_progress}
 use Rattle.core_events.specs.Runs.{IsCoreRun, MoveSays, ShardSays}
 use Rattle.core_mails.specs.Histories.{DoneJob, job_done}
@@ -16,15 +16,15 @@ use Rattle.core_mails.proofs.Posted.{run-posted}
 use Rattle.core_runs.proofs.Asking.{SuitsAt, run-suits}
 use Rattle.core_runs.proofs.Isolation.{out-goes-on}
 
-module _ (Claim : Opening → List CoreEvent → ℕ → ℕ → CoreJob → JobAnswer → Type 0)
-    (given : (o : Opening) (es : List CoreEvent) (a mail : ℕ) (job : CoreJob) (answer : JobAnswer) → IsCoreRun o es
-    → ShardSays o mail (view_of o es) job answer → Claim o es a mail job answer)
-    (flushed : (o : Opening) (es : List CoreEvent) (a mail : ℕ) (said : JobAnswer) → IsCoreRun o es → worker_of mail es ≡ Took a Flush
+module _ (Claim : Opening → List CoreEvent → ℕ → ℕ → CoreJob → JobOutcome → Type 0)
+    (given : (o : Opening) (es : List CoreEvent) (a mail : ℕ) (job : CoreJob) (answer : JobOutcome) → IsCoreRun o es
+    → ShardSays o mail (shard_view_of o es) job answer → Claim o es a mail job answer)
+    (flushed : (o : Opening) (es : List CoreEvent) (a mail : ℕ) (said : JobOutcome) → IsCoreRun o es → worker_of mail es ≡ Took a Flush
     → FlushSays (round_progress o es) (client_state o (flusher o) es).store_lost said → Claim o es a mail Flush said)
-    (stays-call : (o : Opening) (es : List CoreEvent) (a b mail : ℕ) (call : ClientCall) (job : CoreJob) (answer : JobAnswer)
+    (stays-call : (o : Opening) (es : List CoreEvent) (a b mail : ℕ) (call : ClientCall) (job : CoreJob) (answer : JobOutcome)
     → IsCoreRun o (By b call ∷ es) → kind_of job ≡ (client_state o a es).group.kind → (b ≡ a → ends_group call ≡ false)
     → Claim o es a mail job answer → Claim o (By b call ∷ es) a mail job answer)
-    (stays-move : (o : Opening) (es : List CoreEvent) (a other mail : ℕ) (move : WorkerMove) (job : CoreJob) (answer : JobAnswer)
+    (stays-move : (o : Opening) (es : List CoreEvent) (a other mail : ℕ) (move : WorkerMove) (job : CoreJob) (answer : JobOutcome)
     → IsCoreRun o (At other move ∷ es) → kind_of job ≡ (client_state o a es).group.kind
     → Claim o es a mail job answer → Claim o (At other move ∷ es) a mail job answer) where
   abbrev pub PlaceClaims : Opening → List CoreEvent → ℕ → ℕ → JobPlace → Type 0
@@ -33,7 +33,7 @@ module _ (Claim : Opening → List CoreEvent → ℕ → ℕ → CoreJob → Job
 
   -- A move.
 
-  flush-claims : (o : Opening) (es : List CoreEvent) (a mail : ℕ) (job : CoreJob) (said : JobAnswer) → IsCoreRun o es → worker_of mail es ≡ Took a job
+  flush-claims : (o : Opening) (es : List CoreEvent) (a mail : ℕ) (job : CoreJob) (said : JobOutcome) → IsCoreRun o es → worker_of mail es ≡ Took a job
       → FitsReply (round_progress o es) (client_state o (flusher o) es).store_lost job said → Claim o es a mail job said
   flush-claims o es a mail Flush said run took f = flushed o es a mail said run took f
   flush-claims o es a mail (Append cube epoch rows) said run took f = absurd f
@@ -73,7 +73,7 @@ module _ (Claim : Opening → List CoreEvent → ℕ → ℕ → CoreJob → Job
       worked-none (Work job answer) e = none-some d e
       worked-none (Reply client answer) e = none-some d e
 
-  where-claims : (own : Bool) (o : Opening) (es : List CoreEvent) (a mail : ℕ) (job : CoreJob) (answer : JobAnswer) (p : JobPlace)
+  where-claims : (own : Bool) (o : Opening) (es : List CoreEvent) (a mail : ℕ) (job : CoreJob) (answer : JobOutcome) (p : JobPlace)
       → (own ≡ true → Claim o es a mail job answer) → PlaceClaims o es a mail p → PlaceClaims o es a mail (place_where own (Answered job answer) p)
   where-claims true o es a mail job answer p new f = new refl
   where-claims false o es a mail job answer p new f = f
@@ -207,7 +207,7 @@ module _ (Claim : Opening → List CoreEvent → ℕ → ℕ → CoreJob → Job
   ends-group-fits false o es a g f = f
 
   -- An answer that is fetched.
-  fetch-group : (o : Opening) (es : List CoreEvent) (a mail : ℕ) (answer : JobAnswer) → IsCoreRun o (By a (Fetch mail answer) ∷ es)
+  fetch-group : (o : Opening) (es : List CoreEvent) (a mail : ℕ) (answer : JobOutcome) → IsCoreRun o (By a (Fetch mail answer) ∷ es)
       → GroupFits o (By a (Fetch mail answer) ∷ es) a (client_state o a es).group
       → GroupFits o (By a (Fetch mail answer) ∷ es) a (record {
         kind = (client_state o a es).group.kind;

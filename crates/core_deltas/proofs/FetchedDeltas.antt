@@ -9,11 +9,11 @@ use Rattle.cube_values.specs.declared.snapshot.Snapshot.{Snapshot}
 use Rattle.cube_journal.specs.Counters.{held_by}
 use Rattle.brick_address.specs.Addresses.{brick_of}
 use Rattle.core_events.specs.ShardView.{brick_rows_seen}
-use Rattle.core_events.specs.Jobs.{CoreJob, Append, DropBox, Scan, Delta, Rollback, Purge, CopyRound, Flush, JobAnswer, Done, ShardFull, Found, Compared, Copied, StoreLost, OutOfMemory, is_refusal}
+use Rattle.core_events.specs.Jobs.{CoreJob, Append, DropBox, Scan, Delta, Rollback, Purge, CopyRound, Flush, JobOutcome, Done, ShardFull, Found, Compared, Copied, StoreLost, OutOfMemory, is_refusal}
 use Rattle.core_events.specs.Events.{Opening, flusher, ClientCall, WorkerMove, Take, NoJob, Work, Reply, CoreEvent, By, At}
 use Rattle.core_events.specs.Groups.{GroupKind, Compares, kind_of, Received, has_number, mails_of, has_refusal}
 use Rattle.core_events.specs.Clients.{client_state, ends_group, reader_up_to}
-use Rattle.core_events.specs.Cells.{counters_of_run, view_of, rows_of_brick, brick_after_move, sizes_of_cube, Took, worker_of}
+use Rattle.core_events.specs.Cells.{counters_of_run, shard_view_of, rows_of_brick, brick_after_move, sizes_of_cube, Took, worker_of}
 use Rattle.core_events.specs.Fitting.{FlushSays, round_progress}
 use Rattle.core_events.specs.Runs.{IsCoreRun, ShardSays, rows_in_span}
 use Rattle.core_desk.proofs.Agreement.{agree, opening-of}
@@ -46,8 +46,8 @@ reader-other epoch (CopyRound from to) = tt
 reader-other epoch Flush = tt
 
 move-nothing : (here : Bool) (o : Opening) (s : Snapshot) (q : BoundQuery) (brick : ℕ) (es : List CoreEvent) (move : WorkerMove)
-    → ((h : Bool) → brick_after_move o h q.cube brick move (view_of o es q.cube brick) ≡ view_of o es q.cube brick)
-    → rows_in_span q.span (brick_rows_seen s (brick_after_move o here q.cube brick move (view_of o es q.cube brick))) ≡ rows_asked o es q s brick
+    → ((h : Bool) → brick_after_move o h q.cube brick move (shard_view_of o es q.cube brick) ≡ shard_view_of o es q.cube brick)
+    → rows_in_span q.span (brick_rows_seen s (brick_after_move o here q.cube brick move (shard_view_of o es q.cube brick))) ≡ rows_asked o es q s brick
 move-nothing here o s q brick es move same = ap (λ xs. rows_in_span q.span (brick_rows_seen s xs)) (same here)
 
 reader-stays : (o : Opening) (es : List CoreEvent) (a other epoch : ℕ) (move : WorkerMove) (q : BoundQuery) → IsCoreRun o (At other move ∷ es)
@@ -62,34 +62,34 @@ reader-stays o es a other epoch (Work job answer) q run asks brick =
 reader-stays o es a other epoch (Take client job) q run asks brick =
     move-nothing (other == brick % o.shards) o (reader_up_to epoch) q brick es (Take client job) (λ h. by h)
   where
-    by : (h : Bool) → brick_after_move o h q.cube brick (Take client job) (view_of o es q.cube brick) ≡ view_of o es q.cube brick
+    by : (h : Bool) → brick_after_move o h q.cube brick (Take client job) (shard_view_of o es q.cube brick) ≡ shard_view_of o es q.cube brick
     by true = refl
     by false = refl
 reader-stays o es a other epoch (NoJob closed) q run asks brick =
     move-nothing (other == brick % o.shards) o (reader_up_to epoch) q brick es (NoJob closed) (λ h. by h)
   where
-    by : (h : Bool) → brick_after_move o h q.cube brick (NoJob closed) (view_of o es q.cube brick) ≡ view_of o es q.cube brick
+    by : (h : Bool) → brick_after_move o h q.cube brick (NoJob closed) (shard_view_of o es q.cube brick) ≡ shard_view_of o es q.cube brick
     by true = refl
     by false = refl
 reader-stays o es a other epoch (Reply client answer) q run asks brick =
     move-nothing (other == brick % o.shards) o (reader_up_to epoch) q brick es (Reply client answer) (λ h. by h)
   where
-    by : (h : Bool) → brick_after_move o h q.cube brick (Reply client answer) (view_of o es q.cube brick) ≡ view_of o es q.cube brick
+    by : (h : Bool) → brick_after_move o h q.cube brick (Reply client answer) (shard_view_of o es q.cube brick) ≡ shard_view_of o es q.cube brick
     by true = refl
     by false = refl
 
 -- What is claimed of the answer to a job.
 
-abbrev DeltaAnswer : Opening → List CoreEvent → ℕ → BoundQuery → ℕ → ℕ → JobAnswer → Type 0
+abbrev DeltaAnswer : Opening → List CoreEvent → ℕ → BoundQuery → ℕ → ℕ → JobOutcome → Type 0
 DeltaAnswer o es mail q from to (Compared came went) = IsShardDelta o es mail q from to came went
 DeltaAnswer o es mail q from to answer = is_refusal answer ≡ true
 
-abbrev DeltaClaim : Opening → List CoreEvent → ℕ → ℕ → CoreJob → JobAnswer → Type 0
+abbrev DeltaClaim : Opening → List CoreEvent → ℕ → ℕ → CoreJob → JobOutcome → Type 0
 DeltaClaim o es a mail (Delta q from to) answer = DeltaAnswer o es mail q from to answer
 DeltaClaim o es a mail job answer = Unit {0}
 
-delta-given : (o : Opening) (es : List CoreEvent) (a mail : ℕ) (job : CoreJob) (answer : JobAnswer) → IsCoreRun o es
-    → ShardSays o mail (view_of o es) job answer → DeltaClaim o es a mail job answer
+delta-given : (o : Opening) (es : List CoreEvent) (a mail : ℕ) (job : CoreJob) (answer : JobOutcome) → IsCoreRun o es
+    → ShardSays o mail (shard_view_of o es) job answer → DeltaClaim o es a mail job answer
 delta-given o es a mail (Append cube epoch rows) answer run says = tt
 delta-given o es a mail (DropBox cube epoch box) answer run says = tt
 delta-given o es a mail (Scan query snapshot) answer run says = tt
@@ -105,11 +105,11 @@ delta-given o es a mail (Purge epoch) answer run says = tt
 delta-given o es a mail (CopyRound from to) answer run says = tt
 delta-given o es a mail Flush answer run says = tt
 
-delta-flushed : (o : Opening) (es : List CoreEvent) (a mail : ℕ) (said : JobAnswer) → IsCoreRun o es → worker_of mail es ≡ Took a Flush
+delta-flushed : (o : Opening) (es : List CoreEvent) (a mail : ℕ) (said : JobOutcome) → IsCoreRun o es → worker_of mail es ≡ Took a Flush
     → FlushSays (round_progress o es) (client_state o (flusher o) es).store_lost said → DeltaClaim o es a mail Flush said
 delta-flushed o es a mail said run took says = tt
 
-answer-as : (o : Opening) (es later : List CoreEvent) (mail : ℕ) (q : BoundQuery) (from to : ℕ) (answer : JobAnswer)
+answer-as : (o : Opening) (es later : List CoreEvent) (mail : ℕ) (q : BoundQuery) (from to : ℕ) (answer : JobOutcome)
     → ((brick : ℕ) → rows_asked o later q (reader_up_to from) brick ≡ rows_asked o es q (reader_up_to from) brick)
     → ((brick : ℕ) → rows_asked o later q (reader_up_to to) brick ≡ rows_asked o es q (reader_up_to to) brick)
     → DeltaAnswer o es mail q from to answer → DeltaAnswer o later mail q from to answer
@@ -121,7 +121,7 @@ answer-as o es later mail q from to (Copied view) first second f = f
 answer-as o es later mail q from to StoreLost first second f = f
 answer-as o es later mail q from to OutOfMemory first second f = f
 
-delta-call : (o : Opening) (es : List CoreEvent) (a b mail : ℕ) (call : ClientCall) (job : CoreJob) (answer : JobAnswer)
+delta-call : (o : Opening) (es : List CoreEvent) (a b mail : ℕ) (call : ClientCall) (job : CoreJob) (answer : JobOutcome)
     → IsCoreRun o (By b call ∷ es) → kind_of job ≡ (client_state o a es).group.kind → (b ≡ a → ends_group call ≡ false)
     → DeltaClaim o es a mail job answer → DeltaClaim o (By b call ∷ es) a mail job answer
 delta-call o es a b mail call (Append cube epoch rows) answer run kind goes f = f
@@ -134,7 +134,7 @@ delta-call o es a b mail call (Purge epoch) answer run kind goes f = f
 delta-call o es a b mail call (CopyRound from to) answer run kind goes f = f
 delta-call o es a b mail call Flush answer run kind goes f = f
 
-delta-move : (o : Opening) (es : List CoreEvent) (a other mail : ℕ) (move : WorkerMove) (job : CoreJob) (answer : JobAnswer)
+delta-move : (o : Opening) (es : List CoreEvent) (a other mail : ℕ) (move : WorkerMove) (job : CoreJob) (answer : JobOutcome)
     → IsCoreRun o (At other move ∷ es) → kind_of job ≡ (client_state o a es).group.kind
     → DeltaClaim o es a mail job answer → DeltaClaim o (At other move ∷ es) a mail job answer
 delta-move o es a other mail move (Append cube epoch rows) answer run kind f = f
@@ -150,7 +150,7 @@ delta-move o es a other mail move (CopyRound from to) answer run kind f = f
 delta-move o es a other mail move Flush answer run kind f = f
 
 -- A job of the kind of a delta is that delta.
-delta-answer : (o : Opening) (es : List CoreEvent) (a mail : ℕ) (job : CoreJob) (answer : JobAnswer) (q : BoundQuery) (from to : ℕ)
+delta-answer : (o : Opening) (es : List CoreEvent) (a mail : ℕ) (job : CoreJob) (answer : JobOutcome) (q : BoundQuery) (from to : ℕ)
     → kind_of job ≡ Compares q from to → DeltaClaim o es a mail job answer → DeltaAnswer o es mail q from to answer
 delta-answer o es a mail (Append cube epoch rows) answer q from to e f = absurd (false≢true (ap is_comparing e))
 delta-answer o es a mail (DropBox cube epoch box) answer q from to e f = absurd (false≢true (ap is_comparing e))
@@ -175,7 +175,7 @@ delta-answer o es a mail (CopyRound x y) answer q from to e f = absurd (false≢
 delta-answer o es a mail Flush answer q from to e f = absurd (false≢true (ap is_comparing e))
 
 -- The same with the rows of an answer that is no refusal.
-delta-rows : (o : Opening) (es : List CoreEvent) (mail : ℕ) (q : BoundQuery) (from to : ℕ) (answer : JobAnswer) → is_refusal answer ≡ false
+delta-rows : (o : Opening) (es : List CoreEvent) (mail : ℕ) (q : BoundQuery) (from to : ℕ) (answer : JobOutcome) → is_refusal answer ≡ false
     → DeltaAnswer o es mail q from to answer → IsShardDelta o es mail q from to (rows_that_came answer) (rows_that_went answer)
 delta-rows o es mail q from to (Compared came went) is f = f
 delta-rows o es mail q from to Done is f = absurd (false≢true (sym is ∙ f))

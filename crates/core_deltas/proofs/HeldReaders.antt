@@ -6,7 +6,7 @@ use Rattle.std.proofs.lemmas.Option.{none-some}
 use Rattle.cube_values.specs.declared.query.BoundQuery.{BoundQuery}
 use Rattle.cube_values.specs.declared.snapshot.Snapshot.{Snapshot}
 use Rattle.core_events.specs.Jobs.{CoreJob, Append, DropBox, Scan, Delta, Rollback, Purge, CopyRound, Flush}
-use Rattle.core_events.specs.Events.{Opening, IsSession, DeskCall, OpenWrite, OpenRead, Commit, AbortEnd, CloseRead, TakeNote, CreateCube, FindCube, CubesFrom, CountersNow, RoundOpen, RoundClose, StoreFailed, ClientCall, OnDesk, OnNames, Post, Fetch, CloseMail, NoChange, CoreEvent, By, At}
+use Rattle.core_events.specs.Events.{Opening, IsSession, DeskEvent, OpenWrite, OpenRead, Commit, AbortEnd, CloseRead, TakeNote, CreateCube, FindCube, CubesFrom, CountersNow, RoundOpen, RoundClose, StoreFailed, ClientCall, OnDesk, OnNames, Post, Fetch, CloseMail, NoChange, CoreEvent, By, At}
 use Rattle.core_events.specs.Groups.{GroupKind, Compares, kind_of, no_group, has_ended}
 use Rattle.core_events.specs.Clients.{Holding, ClientState, client_state, client_after_call, held_under, holds_without, holds_after, writer_at, reader_up_to, ends_group}
 use Rattle.core_events.specs.Fitting.{FitsCall, IsNumberOf, holder_epochs}
@@ -202,7 +202,7 @@ post-compares : (ended : Bool) (o : Opening) (a mail : ℕ) (job : CoreJob) (k :
 post-compares true o a mail job k q from to f h before e = job-compares o a mail job k q from to f h e
 post-compares false o a mail job k q from to f h before e = before q from to e
 
-ends-compares : (ends : Bool) (o : Opening) (a : ℕ) (call : DeskCall) (k : ClientState) (q : BoundQuery) (from to : ℕ)
+ends-compares : (ends : Bool) (o : Opening) (a : ℕ) (call : DeskEvent) (k : ClientState) (q : BoundQuery) (from to : ℕ)
     → ends_group (OnDesk call) ≡ ends → CompareHeld o a k → (if ends then no_group else k.group).kind ≡ Compares q from to
     → ComparesBy o a (client_after_call o true a (OnDesk call) k).holds from to
 ends-compares true o a call k q from to is before e = absurd (false≢true (ap is_comparing e))

@@ -4,16 +4,16 @@ use Rattle.std.specs.Prelude.{◌≡◌, ℕ, List, [], ◌∷◌, ◌++◌}
 use Rattle.cube_values.specs.declared.query.BoundQuery.{BoundQuery}
 use Rattle.cube_values.specs.declared.row.CodedRow.{CodedRow}
 use Rattle.agg_fold.specs.Standing.{IsMade}
-use Rattle.core_events.specs.Jobs.{JobAnswer, Compared}
+use Rattle.core_events.specs.Jobs.{JobOutcome, Compared}
 use Rattle.core_events.specs.Groups.{Compares, Received, JobGroup}
 use Rattle.core_events.specs.Fitting.{HasAllDone}
 
 -- The rows that came by an answer, and those that went.
-abbrev pub rows_that_came : JobAnswer → List CodedRow
+abbrev pub rows_that_came : JobOutcome → List CodedRow
 rows_that_came (Compared came went) = came
 rows_that_came answer = []
 
-abbrev pub rows_that_went : JobAnswer → List CodedRow
+abbrev pub rows_that_went : JobOutcome → List CodedRow
 rows_that_went (Compared came went) = went
 rows_that_went answer = []
 

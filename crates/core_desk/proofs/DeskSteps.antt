@@ -16,7 +16,7 @@ use Rattle.aosi_desk.specs.declared.cube.CubeAnswer.TheVariants.{Created, Exists
 use Rattle.aosi_desk.specs.declared.cube.CubeFound.{CubeFound}
 use Rattle.aosi_desk.specs.declared.cube.CubeFound.TheVariants.{Found, Unknown}
 use Rattle.aosi_desk.specs.Desks.{DeskState, refusal_entry}
-use Rattle.core_events.specs.Events.{Opening, DeskCall, OpenWrite, OpenRead, Commit, AbortEnd, CloseRead, TakeNote, CreateCube, FindCube, CubesFrom, CountersNow, RoundOpen, RoundClose, StoreFailed, ClientCall, OnDesk, OnNames, Post, Fetch, CloseMail, NoChange, CoreEvent, By}
+use Rattle.core_events.specs.Events.{Opening, DeskEvent, OpenWrite, OpenRead, Commit, AbortEnd, CloseRead, TakeNote, CreateCube, FindCube, CubesFrom, CountersNow, RoundOpen, RoundClose, StoreFailed, ClientCall, OnDesk, OnNames, Post, Fetch, CloseMail, NoChange, CoreEvent, By}
 use Rattle.core_events.specs.Clients.{Holding, writer_at, reader_up_to, held_under, holds_after}
 use Rattle.core_events.specs.Cells.{desk_after_call, counters_of_run, desk_of}
 use Rattle.core_desk.proofs.Lookups.{with_one, without_one, held-by-append, held-by-without, held-under-append, held-under-without}
@@ -31,7 +31,7 @@ abbrev pub search_entry : ℕ → ℕ → List ℕ → CubeFound → Option Jour
 search_entry a statement name (Found place decl) = None
 search_entry a statement name Unknown = Some (refusal_entry a statement (UnknownCube name))
 
-abbrev pub desk_entry : ℕ → DeskCall → Option JournalEntry
+abbrev pub desk_entry : ℕ → DeskEvent → Option JournalEntry
 desk_entry a (OpenWrite statement epoch deps) = Some (entry.Begin a statement epoch deps)
 desk_entry a (OpenRead number statement epoch) = Some (entry.Read number statement epoch)
 desk_entry a (Commit statement epoch) = Some (entry.Committed a statement epoch)
@@ -58,7 +58,7 @@ abbrev pub register_with : Option JournalEntry → RegisterState → RegisterSta
 register_with None r = r
 register_with (Some e) r = with_entry r e
 
-pub register-step : (a : ℕ) (call : DeskCall) (desk : DeskState)
+pub register-step : (a : ℕ) (call : DeskEvent) (desk : DeskState)
     → (desk_after_call a call desk).register ≡ register_with (desk_entry a call) desk.register
 register-step a (OpenWrite statement epoch deps) desk = refl
 register-step a (OpenRead number statement epoch) desk = refl

@@ -9,7 +9,7 @@ use Rattle.aosi_desk.specs.declared.cube.CubeAnswer.TheVariants.{Created, Exists
 use Rattle.aosi_desk.specs.declared.cube.CubeFound.TheVariants.{Found, Unknown}
 use Rattle.aosi_desk.specs.Desks.{DeskState, cube_answer, decl_names}
 use Rattle.core_events.specs.Cells.{desk_of, desk_after}
-use Rattle.core_events.specs.Clients.{ClientState, client_state, client_after_call, cubes_in, greater_of}
+use Rattle.core_events.specs.Clients.{ClientState, client_state, client_after_call, cubes_at_least, greater_of}
 use Rattle.core_events.specs.Events.{Opening, CreateCube, FindCube, CubesFrom, ClientCall, OnDesk, CoreEvent, By, At}
 use Rattle.core_events.specs.Fitting.{FitsCall}
 use Rattle.core_events.specs.Runs.{IsCoreRun, CallSays}
@@ -44,7 +44,7 @@ place-is-last desk name epoch place is =
 
 -- What an answer tells of is there.
 answer-there : (o : Opening) (a : ℕ) (call : ClientCall) (k : ClientState) (es : List CoreEvent) (n : ℕ) → FitsCall o a call k
-    → CallSays o es a call → k.cubes ≤ length (desk_of o es).cubes → cubes_in call ≡ Some n
+    → CallSays o es a call → k.cubes ≤ length (desk_of o es).cubes → cubes_at_least call ≡ Some n
     → n ≤ length (desk_after a call (desk_of o es)).cubes
 answer-there o a (OnDesk (CreateCube statement decl (Created epoch place))) k es n f says known is =
     let desk = desk_of o es in
@@ -77,7 +77,7 @@ call-there : (own : Bool) (o : Opening) (a b : ℕ) (call : ClientCall) (k : Cli
 call-there true o a b call k es f says known =
     let grows = cubes-grow b call (desk_of o es) in
     let own = f refl in
-    greater-there (cubes_in call) k.cubes (length (desk_after b call (desk_of o es)).cubes) (omega (arith, grows, known))
+    greater-there (cubes_at_least call) k.cubes (length (desk_after b call (desk_of o es)).cubes) (omega (arith, grows, known))
     (λ m is. coe 1 0 (i. m ≤ length (desk_after (own.1 i) call (desk_of o es)).cubes)
     (answer-there o a call k es m own.0 (coe 0 1 (i. CallSays o es (own.1 i) call) says) known is))
 call-there false o a b call k es f says known =

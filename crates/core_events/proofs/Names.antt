@@ -9,8 +9,8 @@ use Rattle.std.proofs.lemmas.Slice.Eq.{bytes_eq-Decides}
 use Rattle.names_dict.specs.declared.code.Code.{Code}
 use Rattle.names_dict.specs.declared.code.Code.TheVariants.{Known, Added, Full}
 use Rattle.names_dict.specs.Dictionaries.{Dictionary, number_of, code_of, with_code}
-use Rattle.core_events.specs.Events.{Opening, NamesCall, Encode, FindName, CopyFrom, ClientCall, OnNames, CoreEvent, By, At}
-use Rattle.core_events.specs.Clients.{ClientState, client_state, client_after_call, after_client_call, number_in, names_by_number, greater_of, greater_where}
+use Rattle.core_events.specs.Events.{Opening, NamesEvent, Encode, FindName, CopyFrom, ClientCall, OnNames, CoreEvent, By, At}
+use Rattle.core_events.specs.Clients.{ClientState, client_state, client_after_call, after_client_call, number_by_code, names_by_number, greater_of, greater_where}
 use Rattle.core_events.specs.Cells.{dictionary_of, dictionary_after, dictionary_after_call}
 use Rattle.core_events.specs.Fitting.{FitsCall, FitsNames}
 use Rattle.core_events.specs.Runs.{IsCoreRun, NamesSay, CallSays}
@@ -90,7 +90,7 @@ names-grow o cube dim (At mail move ∷ later) es = names-grow o cube dim later 
 
 -- The number of a code is the place of the name, once the code is given.
 record GivesPlace (d : Dictionary) (name : List ℕ) (code : Code) : Type 0 where
-  place : (n : ℕ) → number_in code ≡ Some n → slice_get (with_code d name code).names n ≡ Some name
+  place : (n : ℕ) → number_by_code code ≡ Some n → slice_get (with_code d name code).names n ≡ Some name
 
 last-place : (xs : List (List ℕ)) (x : List ℕ) → slice_get (xs ++ x ∷ []) (length xs) ≡ Some x
 last-place [] x = refl
@@ -117,7 +117,7 @@ same-test n = eq-eqb n n refl
 
 -- A code keeps its name.
 pub codes-stay : (o : Opening) (a cube dim n : ℕ) (name : List ℕ) (code : Code) (later es : List CoreEvent)
-    → IsCoreRun o (By a (OnNames (Encode cube dim name code)) ∷ es) → number_in code ≡ Some n
+    → IsCoreRun o (By a (OnNames (Encode cube dim name code)) ∷ es) → number_by_code code ≡ Some n
     → slice_get (dictionary_of o cube dim (later ++ By a (OnNames (Encode cube dim name code)) ∷ es)).names n ≡ Some name
 codes-stay o a cube dim n name code later es run is =
     let d = dictionary_of o cube dim es in
@@ -168,12 +168,12 @@ after-copy from names more e le =
 
 after-encode : (here : Bool) (n : ℕ) (name : List ℕ) (code : Code) (d : Dictionary) → n ≤ length d.names
     → (here ≡ true → code ≡ code_of d name)
-    → greater_where here (names_by_number (number_in code)) n ≤ length (if here then with_code d name code else d).names
+    → greater_where here (names_by_number (number_by_code code)) n ≤ length (if here then with_code d name code else d).names
 after-encode true n name code d le says =
     let longer = length-longer d.names (with_code d name code).names (grows-by-code d name code) in
     let place = (gives-place d name code (says refl)).place in
-    greater-fits (names_by_number (number_in code)) n (length (with_code d name code).names) (omega (arith, le, longer))
-    (by-number-all (number_in code) (with_code d name code).names
+    greater-fits (names_by_number (number_by_code code)) n (length (with_code d name code).names) (omega (arith, le, longer))
+    (by-number-all (number_by_code code) (with_code d name code).names
     (λ m is. slice_get_within (with_code d name code).names m name (place m is)))
   where
     by-number-all : (number : Option ℕ) (names : List (List ℕ)) → ((n : ℕ) → number ≡ Some n → n < length names)
@@ -181,7 +181,7 @@ after-encode true n name code d le says =
     by-number-all number names all m e = by-number number names m all e
 after-encode false n name code d le says = le
 
-own-names-call : (o : Opening) (a : ℕ) (call : NamesCall) (k : ClientState) (es : List CoreEvent) (c d : ℕ)
+own-names-call : (o : Opening) (a : ℕ) (call : NamesEvent) (k : ClientState) (es : List CoreEvent) (c d : ℕ)
     → ((cube dim : ℕ) → k.names cube dim ≤ length (dictionary_of o cube dim es).names)
     → FitsNames o a call k → NamesSay o es call
     → (after_client_call o a (OnNames call) k).names c d

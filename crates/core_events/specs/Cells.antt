@@ -14,12 +14,12 @@ use Rattle.aosi_register.specs.State.{state_of, answer_entry, end_entry}
 use Rattle.aosi_desk.specs.Desks.{DeskState, opening_desk, desk_with_entry, desk_after_search, desk_after_answer}
 use Rattle.names_dict.specs.Dictionaries.{Dictionary, with_code}
 use Rattle.core_events.specs.ShardView.{BrickEntry, RowRun, RowMark, ShardView, entries_without_epoch, entries_after_purge, every_epoch}
-use Rattle.core_events.specs.Jobs.{CoreJob, Append, DropBox, Rollback, Purge, JobAnswer, Done}
-use Rattle.core_events.specs.Events.{Opening, DeskCall, OpenWrite, OpenRead, Commit, AbortEnd, CloseRead, TakeNote, CreateCube, FindCube, CubesFrom, CountersNow, RoundOpen, RoundClose, StoreFailed, NamesCall, Encode, ClientCall, OnDesk, OnNames, Post, Fetch, CloseMail, WorkerMove, Take, NoJob, Work, Reply, CoreEvent, By, At}
+use Rattle.core_events.specs.Jobs.{CoreJob, Append, DropBox, Rollback, Purge, JobOutcome, Done}
+use Rattle.core_events.specs.Events.{Opening, DeskEvent, OpenWrite, OpenRead, Commit, AbortEnd, CloseRead, TakeNote, CreateCube, FindCube, CubesFrom, CountersNow, RoundOpen, RoundClose, StoreFailed, NamesEvent, Encode, ClientCall, OnDesk, OnNames, Post, Fetch, CloseMail, WorkerMove, Take, NoJob, Work, Reply, CoreEvent, By, At}
 
 -- The desk.
 
-abbrev pub desk_after_call : ℕ → DeskCall → DeskState → DeskState
+abbrev pub desk_after_call : ℕ → DeskEvent → DeskState → DeskState
 desk_after_call a (OpenWrite statement epoch deps) desk = desk_with_entry desk (entry.Begin a statement epoch deps)
 desk_after_call a (OpenRead holder statement epoch) desk = desk_with_entry desk (entry.Read holder statement epoch)
 desk_after_call a (Commit statement epoch) desk = desk_with_entry desk (entry.Committed a statement epoch)
@@ -50,7 +50,7 @@ counters_of_run o es = state_of (desk_of o es).register
 
 -- The names.
 
-abbrev pub dictionary_after_call : ℕ → ℕ → NamesCall → Dictionary → Dictionary
+abbrev pub dictionary_after_call : ℕ → ℕ → NamesEvent → Dictionary → Dictionary
 dictionary_after_call cube dim (Encode c d name code) dict =
     if c == cube && d == dim then with_code dict name code else dict
 dictionary_after_call cube dim call dict = dict
@@ -98,25 +98,25 @@ queue_of mail (By a call ∷ es) = queue_after_call mail a call (queue_of mail e
 queue_of mail (At other move ∷ es) = queue_after_move (other == mail) move (queue_of mail es)
 
 -- The answer that a mail holds for a client.
-abbrev pub reply_after_fetch : Bool → Bool → Option JobAnswer → Option JobAnswer
+abbrev pub reply_after_fetch : Bool → Bool → Option JobOutcome → Option JobOutcome
 reply_after_fetch true true reply = None
 reply_after_fetch true false reply = reply
 reply_after_fetch false own reply = reply
 
-abbrev pub reply_after_call : ℕ → Bool → ClientCall → Option JobAnswer → Option JobAnswer
+abbrev pub reply_after_call : ℕ → Bool → ClientCall → Option JobOutcome → Option JobOutcome
 reply_after_call mail own (Fetch other answer) reply = reply_after_fetch (other == mail) own reply
 reply_after_call mail own call reply = reply
 
-abbrev pub reply_after_reply : Bool → Bool → JobAnswer → Option JobAnswer → Option JobAnswer
+abbrev pub reply_after_reply : Bool → Bool → JobOutcome → Option JobOutcome → Option JobOutcome
 reply_after_reply true true answer reply = Some answer
 reply_after_reply true false answer reply = reply
 reply_after_reply false own answer reply = reply
 
-abbrev pub reply_after_move : Bool → ℕ → WorkerMove → Option JobAnswer → Option JobAnswer
+abbrev pub reply_after_move : Bool → ℕ → WorkerMove → Option JobOutcome → Option JobOutcome
 reply_after_move here client (Reply other answer) reply = reply_after_reply here (other == client) answer reply
 reply_after_move here client move reply = reply
 
-abbrev pub reply_for : ℕ → ℕ → List CoreEvent → Option JobAnswer
+abbrev pub reply_for : ℕ → ℕ → List CoreEvent → Option JobOutcome
 reply_for mail client [] = None
 reply_for mail client (By a call ∷ es) = reply_after_call mail (a == client) call (reply_for mail client es)
 reply_for mail client (At other move ∷ es) =
@@ -127,18 +127,18 @@ abbrev pub closed_after_call : ℕ → ClientCall → Bool → Bool
 closed_after_call mail (CloseMail other) closed = other == mail || closed
 closed_after_call mail call closed = closed
 
-abbrev pub is_closed : ℕ → List CoreEvent → Bool
-is_closed mail [] = false
-is_closed mail (By a call ∷ es) = closed_after_call mail call (is_closed mail es)
-is_closed mail (At other move ∷ es) = is_closed mail es
+abbrev pub is_mail_closed : ℕ → List CoreEvent → Bool
+is_mail_closed mail [] = false
+is_mail_closed mail (By a call ∷ es) = closed_after_call mail call (is_mail_closed mail es)
+is_mail_closed mail (At other move ∷ es) = is_mail_closed mail es
 
 -- What the worker of a mail does, by its own moves: it has no job, it has taken one, or it has made it.
 pub data WorkerState : Type 0 where
   Free : WorkerState
   Took : (client : ℕ) (job : CoreJob) → WorkerState
-  Worked : (client : ℕ) (job : CoreJob) (answer : JobAnswer) → WorkerState
+  Worked : (client : ℕ) (job : CoreJob) (answer : JobOutcome) → WorkerState
 
-abbrev pub worker_after_work : JobAnswer → WorkerState → WorkerState
+abbrev pub worker_after_work : JobOutcome → WorkerState → WorkerState
 worker_after_work answer Free = Free
 worker_after_work answer (Took client job) = Worked client job answer
 worker_after_work answer (Worked client job old) = Worked client job old
@@ -187,8 +187,8 @@ brick_after_move o true cube brick (Work job Done) entries = brick_after_job o c
 brick_after_move o here cube brick move entries = entries
 
 -- The shard of a brick is its number modulo the number of shards.
-abbrev pub view_of : Opening → List CoreEvent → ShardView
-view_of o [] cube brick = RowRun o.safe (rows_of_brick o cube brick (o.rows cube)) ∷ []
-view_of o (By a call ∷ es) cube brick = view_of o es cube brick
-view_of o (At mail move ∷ es) cube brick =
-    brick_after_move o (mail == brick % o.shards) cube brick move (view_of o es cube brick)
+abbrev pub shard_view_of : Opening → List CoreEvent → ShardView
+shard_view_of o [] cube brick = RowRun o.safe (rows_of_brick o cube brick (o.rows cube)) ∷ []
+shard_view_of o (By a call ∷ es) cube brick = shard_view_of o es cube brick
+shard_view_of o (At mail move ∷ es) cube brick =
+    brick_after_move o (mail == brick % o.shards) cube brick move (shard_view_of o es cube brick)

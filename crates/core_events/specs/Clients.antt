@@ -15,9 +15,9 @@ use Rattle.aosi_desk.specs.declared.cube.CubeFound.{CubeFound}
 use Rattle.aosi_desk.specs.declared.cube.CubeFound.TheVariants.{Found, Unknown}
 use Rattle.names_dict.specs.declared.code.Code.{Code}
 use Rattle.names_dict.specs.declared.code.Code.TheVariants.{Known, Added, Full}
-use Rattle.core_events.specs.Jobs.{JobAnswer}
+use Rattle.core_events.specs.Jobs.{JobOutcome}
 use Rattle.core_events.specs.Groups.{GroupKind, Flushes, JobGroup, no_group, group_after_post, group_after_fetch}
-use Rattle.core_events.specs.Events.{Opening, OpenWrite, OpenRead, Commit, AbortEnd, CloseRead, TakeNote, CreateCube, FindCube, CubesFrom, CountersNow, RoundOpen, RoundClose, NamesCall, Encode, FindName, CopyFrom, ClientCall, OnDesk, OnNames, Post, Fetch, CoreEvent, By, At}
+use Rattle.core_events.specs.Events.{Opening, OpenWrite, OpenRead, Commit, AbortEnd, CloseRead, TakeNote, CreateCube, FindCube, CubesFrom, CountersNow, RoundOpen, RoundClose, NamesEvent, Encode, FindName, CopyFrom, ClientCall, OnDesk, OnNames, Post, Fetch, CoreEvent, By, At}
 
 -- A snapshot that is held under a number: a session's own, or one of its holders'.
 pub record Holding : Type 0 where
@@ -38,7 +38,7 @@ pub record ClientState : Type 0 where
   pub holds : List Holding
   pub leader : Option ℕ
   pub group : JobGroup
-  pub flush : Option JobAnswer
+  pub flush : Option JobOutcome
   pub lse : ℕ
   pub shown : List ℕ
   pub round : Option OwnRound
@@ -98,9 +98,9 @@ leader_after a (OnDesk (CloseRead number statement)) holds leader =
 leader_after a call holds leader = leader
 
 -- Looking for a cube leaves an entry in the journal where there is none.
-abbrev pub is_unknown : CubeFound → Bool
-is_unknown Unknown = true
-is_unknown (Found place decl) = false
+abbrev pub is_not_found : CubeFound → Bool
+is_not_found Unknown = true
+is_not_found (Found place decl) = false
 
 -- The call leaves an entry of the client itself: one under its own number.
 abbrev pub is_own_entry : ℕ → ClientCall → Bool
@@ -111,7 +111,7 @@ is_own_entry a (OnDesk (AbortEnd statement epoch cause)) = true
 is_own_entry a (OnDesk (CloseRead number statement)) = number == a
 is_own_entry a (OnDesk (TakeNote note counters)) = true
 is_own_entry a (OnDesk (CreateCube statement decl answer)) = true
-is_own_entry a (OnDesk (FindCube statement name answer)) = is_unknown answer
+is_own_entry a (OnDesk (FindCube statement name answer)) = is_not_found answer
 is_own_entry a call = false
 
 -- No group goes on past a call that opens or ends something, or that leaves an entry.
@@ -123,7 +123,7 @@ ends_group (OnDesk (AbortEnd statement epoch cause)) = true
 ends_group (OnDesk (CloseRead number statement)) = true
 ends_group (OnDesk (TakeNote note counters)) = true
 ends_group (OnDesk (CreateCube statement decl answer)) = true
-ends_group (OnDesk (FindCube statement name answer)) = is_unknown answer
+ends_group (OnDesk (FindCube statement name answer)) = is_not_found answer
 ends_group (OnDesk (RoundOpen answer)) = true
 ends_group (OnDesk (RoundClose epoch end)) = true
 ends_group call = false
@@ -134,11 +134,11 @@ group_after shards (Fetch mail answer) g = group_after_fetch mail answer g
 group_after shards call g = if ends_group call then no_group else g
 
 -- The answer to a FLUSH is kept besides.
-abbrev pub flush_after_fetch : GroupKind → JobAnswer → Option JobAnswer → Option JobAnswer
+abbrev pub flush_after_fetch : GroupKind → JobOutcome → Option JobOutcome → Option JobOutcome
 flush_after_fetch Flushes answer flush = Some answer
 flush_after_fetch kind answer flush = flush
 
-abbrev pub flush_after : ℕ → ClientCall → GroupKind → Option JobAnswer → Option JobAnswer
+abbrev pub flush_after : ℕ → ClientCall → GroupKind → Option JobOutcome → Option JobOutcome
 flush_after a (Fetch mail answer) kind flush = flush_after_fetch kind answer flush
 flush_after a call kind flush = if is_own_entry a call then None else flush
 
@@ -192,17 +192,17 @@ abbrev pub cubes_by_place : CubeFound → Option ℕ
 cubes_by_place (Found place decl) = Some (place + 1)
 cubes_by_place Unknown = None
 
-abbrev pub cubes_in : ClientCall → Option ℕ
-cubes_in (OnDesk (CreateCube statement decl answer)) = cubes_by_answer answer
-cubes_in (OnDesk (FindCube statement name answer)) = cubes_by_place answer
-cubes_in (OnDesk (CubesFrom place cubes)) = Some (place + length cubes)
-cubes_in call = None
+abbrev pub cubes_at_least : ClientCall → Option ℕ
+cubes_at_least (OnDesk (CreateCube statement decl answer)) = cubes_by_answer answer
+cubes_at_least (OnDesk (FindCube statement name answer)) = cubes_by_place answer
+cubes_at_least (OnDesk (CubesFrom place cubes)) = Some (place + length cubes)
+cubes_at_least call = None
 
 -- The number that a name has by its code.
-abbrev pub number_in : Code → Option ℕ
-number_in (Known n) = Some n
-number_in (Added n) = Some n
-number_in Full = None
+abbrev pub number_by_code : Code → Option ℕ
+number_by_code (Known n) = Some n
+number_by_code (Added n) = Some n
+number_by_code Full = None
 
 -- How many names a dimension has at least, by a number that one of them has.
 abbrev pub names_by_number : Option ℕ → Option ℕ
@@ -214,9 +214,9 @@ abbrev pub greater_where : Bool → Option ℕ → ℕ → ℕ
 greater_where true more n = greater_of more n
 greater_where false more n = n
 
-abbrev pub names_after_call : NamesCall → (ℕ → ℕ → ℕ) → ℕ → ℕ → ℕ
+abbrev pub names_after_call : NamesEvent → (ℕ → ℕ → ℕ) → ℕ → ℕ → ℕ
 names_after_call (Encode cube dim name code) names c d =
-    greater_where (cube == c && dim == d) (names_by_number (number_in code)) (names c d)
+    greater_where (cube == c && dim == d) (names_by_number (number_by_code code)) (names c d)
 names_after_call (FindName cube dim name number) names c d =
     greater_where (cube == c && dim == d) (names_by_number number) (names c d)
 names_after_call (CopyFrom cube dim from more) names c d =
@@ -236,7 +236,7 @@ after_client_call o a call k = record {
   shown = with_lse (lse_in call) (if is_own_entry a call then [] else k.shown);
   round = own_round_after call k.round;
   store_lost = store_lost_after call k.store_lost;
-  cubes = greater_of (cubes_in call) k.cubes;
+  cubes = greater_of (cubes_at_least call) k.cubes;
   names = names_after call k.names;
 }
 

@@ -16,7 +16,7 @@ use Rattle.aosi_desk.specs.declared.cube.CubeAnswer.{CubeAnswer}
 use Rattle.aosi_desk.specs.declared.cube.CubeFound.{CubeFound}
 use Rattle.names_dict.specs.declared.code.Code.{Code}
 use Rattle.names_dict.specs.Dictionaries.{Dictionary}
-use Rattle.core_events.specs.Jobs.{CoreJob, JobAnswer}
+use Rattle.core_events.specs.Jobs.{CoreJob, JobOutcome}
 
 -- How a run opens: the numbers of shards and of sessions, the epoch up to which its store keeps all, the cubes, the
 -- dictionary of each dimension, and the kept rows of each cube. Each cube has one shape, also one that is made later.
@@ -41,33 +41,33 @@ pub record IsOpening (o : Opening) : Type 0 where
   pub none : o.safe ≡ 0 → (cube : ℕ) → o.rows cube ≡ []
 
 -- A call on the desk. A session's calls carry its own number but where they say the number of a holder.
-pub data DeskCall : Type 0 where
-  OpenWrite : (statement epoch : ℕ) (deps : List ℕ) → DeskCall
-  OpenRead : (holder statement epoch : ℕ) → DeskCall
-  Commit : (statement epoch : ℕ) → DeskCall
-  AbortEnd : (statement epoch : ℕ) (cause : AbortCause) → DeskCall
-  CloseRead : (holder statement : ℕ) → DeskCall
-  TakeNote : (note : Note) (counters : Counters) → DeskCall
-  CreateCube : (statement : ℕ) (decl : Decl) (answer : CubeAnswer) → DeskCall
-  FindCube : (statement : ℕ) (name : List ℕ) (answer : CubeFound) → DeskCall
-  CubesFrom : (place : ℕ) (cubes : List Decl) → DeskCall
-  CountersNow : (counters : Counters) → DeskCall
-  RoundOpen : (answer : RoundAnswer) → DeskCall
-  RoundClose : (epoch : ℕ) (end : RoundEnd) → DeskCall
-  StoreFailed : (failed : Bool) → DeskCall
+pub data DeskEvent : Type 0 where
+  OpenWrite : (statement epoch : ℕ) (deps : List ℕ) → DeskEvent
+  OpenRead : (holder statement epoch : ℕ) → DeskEvent
+  Commit : (statement epoch : ℕ) → DeskEvent
+  AbortEnd : (statement epoch : ℕ) (cause : AbortCause) → DeskEvent
+  CloseRead : (holder statement : ℕ) → DeskEvent
+  TakeNote : (note : Note) (counters : Counters) → DeskEvent
+  CreateCube : (statement : ℕ) (decl : Decl) (answer : CubeAnswer) → DeskEvent
+  FindCube : (statement : ℕ) (name : List ℕ) (answer : CubeFound) → DeskEvent
+  CubesFrom : (place : ℕ) (cubes : List Decl) → DeskEvent
+  CountersNow : (counters : Counters) → DeskEvent
+  RoundOpen : (answer : RoundAnswer) → DeskEvent
+  RoundClose : (epoch : ℕ) (end : RoundEnd) → DeskEvent
+  StoreFailed : (failed : Bool) → DeskEvent
 
 -- A call on the names.
-pub data NamesCall : Type 0 where
-  Encode : (cube dim : ℕ) (name : List ℕ) (code : Code) → NamesCall
-  FindName : (cube dim : ℕ) (name : List ℕ) (number : Option ℕ) → NamesCall
-  CopyFrom : (cube dim from : ℕ) (names : List (List ℕ)) → NamesCall
+pub data NamesEvent : Type 0 where
+  Encode : (cube dim : ℕ) (name : List ℕ) (code : Code) → NamesEvent
+  FindName : (cube dim : ℕ) (name : List ℕ) (number : Option ℕ) → NamesEvent
+  CopyFrom : (cube dim from : ℕ) (names : List (List ℕ)) → NamesEvent
 
 -- A client's call. One that was answered out of memory, or that there is no answer yet, changes nothing.
 pub data ClientCall : Type 0 where
-  OnDesk : (call : DeskCall) → ClientCall
-  OnNames : (call : NamesCall) → ClientCall
+  OnDesk : (call : DeskEvent) → ClientCall
+  OnNames : (call : NamesEvent) → ClientCall
   Post : (mail : ℕ) (job : CoreJob) → ClientCall
-  Fetch : (mail : ℕ) (answer : JobAnswer) → ClientCall
+  Fetch : (mail : ℕ) (answer : JobOutcome) → ClientCall
   CloseMail : (mail : ℕ) → ClientCall
   NoChange : ClientCall
 
@@ -76,8 +76,8 @@ pub data ClientCall : Type 0 where
 pub data WorkerMove : Type 0 where
   Take : (client : ℕ) (job : CoreJob) → WorkerMove
   NoJob : (closed : Bool) → WorkerMove
-  Work : (job : CoreJob) (answer : JobAnswer) → WorkerMove
-  Reply : (client : ℕ) (answer : JobAnswer) → WorkerMove
+  Work : (job : CoreJob) (answer : JobOutcome) → WorkerMove
+  Reply : (client : ℕ) (answer : JobOutcome) → WorkerMove
 
 -- The mails of the shards have the numbers of the shards, and the flusher's mail comes next.
 pub data CoreEvent : Type 0 where

@@ -18,8 +18,8 @@ use Rattle.aosi_register.specs.declared.answer.RoundAnswer.TheVariants.{Target, 
 use Rattle.aosi_register.specs.declared.answer.RoundEnd.TheVariants.{Safe}
 use Rattle.aosi_desk.specs.Desks.{is_cube_code}
 use Rattle.names_dict.specs.Dictionaries.{IsTextDimension}
-use Rattle.core_events.specs.Jobs.{CoreJob, Append, DropBox, Scan, Delta, Rollback, Purge, CopyRound, Flush, JobAnswer, Done, StoreLost, OutOfMemory}
-use Rattle.core_events.specs.Events.{Opening, flusher, IsSession, flush_mail, DeskCall, OpenWrite, OpenRead, Commit, AbortEnd, CloseRead, TakeNote, CreateCube, FindCube, CubesFrom, CountersNow, RoundOpen, RoundClose, StoreFailed, NamesCall, Encode, FindName, CopyFrom, ClientCall, OnDesk, OnNames, Post, Fetch, CloseMail, NoChange, WorkerMove, Take, NoJob, Work, Reply, CoreEvent, By, At}
+use Rattle.core_events.specs.Jobs.{CoreJob, Append, DropBox, Scan, Delta, Rollback, Purge, CopyRound, Flush, JobOutcome, Done, StoreLost, OutOfMemory}
+use Rattle.core_events.specs.Events.{Opening, flusher, IsSession, flush_mail, DeskEvent, OpenWrite, OpenRead, Commit, AbortEnd, CloseRead, TakeNote, CreateCube, FindCube, CubesFrom, CountersNow, RoundOpen, RoundClose, StoreFailed, NamesEvent, Encode, FindName, CopyFrom, ClientCall, OnDesk, OnNames, Post, Fetch, CloseMail, NoChange, WorkerMove, Take, NoJob, Work, Reply, CoreEvent, By, At}
 use Rattle.core_events.specs.Groups.{JobGroup, RollsBack, Purges, Copies, kind_of, has_number, is_empty, has_all_below, mails_of, has_refusal, has_ended, is_ready, may_begin}
 use Rattle.core_events.specs.Clients.{Holding, OwnRound, ClientState, client_state, held_under}
 use Rattle.core_events.specs.Cells.{WorkerState, Free, Took, Worked, worker_of, sizes_of_cube, box_has_brick}
@@ -41,8 +41,8 @@ pub record HasAllDone (shards : ℕ) (g : JobGroup) : Type 0 where
 -- The jobs.
 
 -- Text coordinates are numbers of names that the client was told of.
-abbrev pub HaveNames : Opening → ℕ → ClientState → List ℕ → Type 0
-HaveNames o cube k coords = (dim coord : ℕ) → IsTextDimension (o.shapes cube) dim
+abbrev pub AreToldNames : Opening → ℕ → ClientState → List ℕ → Type 0
+AreToldNames o cube k coords = (dim coord : ℕ) → IsTextDimension (o.shapes cube) dim
     → slice_get coords dim ≡ Some coord → coord < k.names cube dim
 
 -- A row of the cube, of this shard.
@@ -50,7 +50,7 @@ pub record MayPutRow (o : Opening) (cube shard : ℕ) (k : ClientState) (row : C
   pub coords : AreCoords (sizes_of_cube o cube) row.coords
   pub of_shard : brick_of (sizes_of_cube o cube) row.coords % o.shards ≡ shard
   pub metrics : length row.metrics ≡ (o.shapes cube).metrics
-  pub names : HaveNames o cube k row.coords
+  pub names : AreToldNames o cube k row.coords
 
 pub record MayAppend (o : Opening) (a mail cube epoch : ℕ) (rows : List CodedRow) (k : ClientState) : Type 0 where
   pub session : IsSession o a
@@ -198,7 +198,7 @@ pub record MayCloseRoundCall (o : Opening) (a epoch : ℕ) (k : ClientState) : T
   pub round : IsSomeAnd k.round (λ r. r.epoch ≡ epoch)
   pub fetched : is_empty k.group.waits ≡ true
 
-abbrev pub FitsDesk : Opening → ℕ → DeskCall → ClientState → Type 0
+abbrev pub FitsDesk : Opening → ℕ → DeskEvent → ClientState → Type 0
 FitsDesk o a (OpenWrite statement epoch deps) k = MayOpen o a a k
 FitsDesk o a (OpenRead number statement epoch) k = MayOpen o a number k
 FitsDesk o a (Commit statement epoch) k = MayCommit o a epoch k
@@ -226,7 +226,7 @@ pub record MayCopyNames (cube dim from : ℕ) (k : ClientState) : Type 0 where
   pub begins : from ≤ k.names cube dim
   pub after : IfSome k.round (λ round. round.has_cubes ≡ true)
 
-abbrev pub FitsNames : Opening → ℕ → NamesCall → ClientState → Type 0
+abbrev pub FitsNames : Opening → ℕ → NamesEvent → ClientState → Type 0
 FitsNames o a (Encode cube dim name code) k = MayAskName o a cube dim k × (length name ≤ 255)
 FitsNames o a (FindName cube dim name number) k = MayAskName o a cube dim k
 FitsNames o a (CopyFrom cube dim from names) k = MayCopyNames cube dim from k
@@ -277,14 +277,14 @@ round_progress o (By a call ∷ es) = progress_after_call call (round_progress o
 round_progress o (At mail move ∷ es) = progress_after_move (mail == flush_mail o) move (round_progress o es)
 
 -- What the flusher may reply.
-abbrev pub FlushSays : RoundProgress → Bool → JobAnswer → Type 0
+abbrev pub FlushSays : RoundProgress → Bool → JobOutcome → Type 0
 FlushSays progress lost Done = progress ≡ AllSaved
 FlushSays progress lost StoreLost = lost ≡ true
 FlushSays progress lost OutOfMemory = Unit {0}
 FlushSays progress lost answer = ⊥
 
 -- The flusher replies to a FLUSH at once; every other job is done on a shard first.
-abbrev pub FitsReply : RoundProgress → Bool → CoreJob → JobAnswer → Type 0
+abbrev pub FitsReply : RoundProgress → Bool → CoreJob → JobOutcome → Type 0
 FitsReply progress lost Flush said = FlushSays progress lost said
 FitsReply progress lost job said = ⊥
 

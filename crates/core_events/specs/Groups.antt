@@ -6,7 +6,7 @@ use Rattle.std.specs.List.{list_any}
 use Rattle.cube_values.specs.declared.query.BoundQuery.{BoundQuery}
 use Rattle.cube_values.specs.declared.snapshot.Snapshot.{Snapshot}
 use Rattle.cube_values.specs.declared.span.Span.{Span}
-use Rattle.core_events.specs.Jobs.{CoreJob, JobAnswer, Append, DropBox, Scan, Delta, Rollback, Purge, CopyRound, Flush, is_refusal}
+use Rattle.core_events.specs.Jobs.{CoreJob, JobOutcome, Append, DropBox, Scan, Delta, Rollback, Purge, CopyRound, Flush, is_refusal}
 
 -- What a group does. Before the first job, and once a snapshot is opened or ended, there is none.
 pub data GroupKind : Type 0 where
@@ -33,7 +33,7 @@ kind_of Flush = Flushes
 -- An answer that the client fetched, with its mail.
 pub record Received : Type 0 where
   pub mail : ℕ
-  pub answer : JobAnswer
+  pub answer : JobOutcome
 
 -- A group: the mails whose answer the client has not fetched, and the answers that it has, the newest first.
 pub record JobGroup : Type 0 where
@@ -97,7 +97,7 @@ group_after_post shards mail job g =
     if has_ended shards g then record { kind = kind_of job; waits = mail ∷ []; answers = [] }
     else record g { waits = mail ∷ g.waits }
 
-abbrev pub group_after_fetch : ℕ → JobAnswer → JobGroup → JobGroup
+abbrev pub group_after_fetch : ℕ → JobOutcome → JobGroup → JobGroup
 group_after_fetch mail answer g = record g {
   waits = numbers_without mail g.waits;
   answers = record { mail = mail; answer = answer } ∷ g.answers;

@@ -28,20 +28,20 @@ pub data CoreJob : Type 0 where
   Flush : CoreJob
 
 -- An answer. A partial result stands for a list of rows, and is that list here.
-pub data JobAnswer : Type 0 where
-  Done : JobAnswer
+pub data JobOutcome : Type 0 where
+  Done : JobOutcome
   -- the shard has so many rows, and these are too many besides; nothing changed
-  ShardFull : (rows : ℕ) → JobAnswer
-  Found : (rows : List CodedRow) → JobAnswer
-  Compared : (came went : List CodedRow) → JobAnswer
-  Copied : (view : ShardView) → JobAnswer
+  ShardFull : (rows : ℕ) → JobOutcome
+  Found : (rows : List CodedRow) → JobOutcome
+  Compared : (came went : List CodedRow) → JobOutcome
+  Copied : (view : ShardView) → JobOutcome
   -- a round was lost to the disk
-  StoreLost : JobAnswer
+  StoreLost : JobOutcome
   -- out of memory; nothing changed
-  OutOfMemory : JobAnswer
+  OutOfMemory : JobOutcome
 
 -- The job was not done.
-abbrev pub is_refusal : JobAnswer → Bool
+abbrev pub is_refusal : JobOutcome → Bool
 is_refusal (ShardFull rows) = true
 is_refusal StoreLost = true
 is_refusal OutOfMemory = true

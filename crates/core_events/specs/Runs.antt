@@ -11,15 +11,15 @@ use Rattle.cube_journal.specs.Counters.{lce, counters_in}
 use Rattle.aosi_register.specs.State.{state_of, round_answer}
 use Rattle.aosi_desk.specs.Desks.{DeskState, cube_answer, IsFound}
 use Rattle.names_dict.specs.Dictionaries.{code_of, number_of}
-use Rattle.core_events.specs.ShardView.{BrickEntry, RowRun, RowMark, ShardView, ShowAlike, Epochs, is_below_mark, epochs_before_mark, rows_where, brick_rows_seen, entries_of_round}
-use Rattle.core_events.specs.Jobs.{CoreJob, Append, DropBox, Scan, Delta, Rollback, Purge, CopyRound, JobAnswer, Done, ShardFull, Found, Compared, Copied, OutOfMemory}
-use Rattle.core_events.specs.Events.{Opening, IsOpening, DeskCall, OpenWrite, OpenRead, TakeNote, CreateCube, FindCube, CubesFrom, CountersNow, RoundOpen, StoreFailed, NamesCall, Encode, FindName, CopyFrom, ClientCall, OnDesk, OnNames, Fetch, WorkerMove, Take, NoJob, Work, Reply, CoreEvent, By, At}
+use Rattle.core_events.specs.ShardView.{BrickEntry, RowRun, RowMark, ShardView, ShowAlike, EpochSet, is_below_mark, epochs_before_mark, rows_where, brick_rows_seen, entries_of_round}
+use Rattle.core_events.specs.Jobs.{CoreJob, Append, DropBox, Scan, Delta, Rollback, Purge, CopyRound, JobOutcome, Done, ShardFull, Found, Compared, Copied, OutOfMemory}
+use Rattle.core_events.specs.Events.{Opening, IsOpening, DeskEvent, OpenWrite, OpenRead, TakeNote, CreateCube, FindCube, CubesFrom, CountersNow, RoundOpen, StoreFailed, NamesEvent, Encode, FindName, CopyFrom, ClientCall, OnDesk, OnNames, Fetch, WorkerMove, Take, NoJob, Work, Reply, CoreEvent, By, At}
 use Rattle.core_events.specs.Clients.{client_state, reader_up_to}
-use Rattle.core_events.specs.Cells.{desk_of, dictionary_of, Letter, letter, queue_of, reply_for, is_closed, view_of, rows_of_brick}
+use Rattle.core_events.specs.Cells.{desk_of, dictionary_of, Letter, letter, queue_of, reply_for, is_mail_closed, shard_view_of, rows_of_brick}
 use Rattle.core_events.specs.Fitting.{FitsCall, FitsMove}
 
 -- The answers of the desk.
-abbrev pub DeskSays : DeskState → DeskCall → Type 0
+abbrev pub DeskSays : DeskState → DeskEvent → Type 0
 DeskSays desk (OpenWrite statement epoch deps) =
     let s = state_of desk.register in (epoch ≡ s.ec) × (deps ≡ s.pending)
 DeskSays desk (OpenRead holder statement epoch) = epoch ≡ lce (state_of desk.register)
@@ -33,7 +33,7 @@ DeskSays desk (StoreFailed failed) = failed ≡ (state_of desk.register).store_f
 DeskSays desk call = Unit {0}
 
 -- The answers of the dictionaries.
-abbrev pub NamesSay : Opening → List CoreEvent → NamesCall → Type 0
+abbrev pub NamesSay : Opening → List CoreEvent → NamesEvent → Type 0
 NamesSay o es (Encode cube dim name code) = code ≡ code_of (dictionary_of o cube dim es) name
 NamesSay o es (FindName cube dim name number) = number ≡ number_of (dictionary_of o cube dim es) name
 NamesSay o es (CopyFrom cube dim from names) = names ≡ drop from (dictionary_of o cube dim es).names
@@ -52,8 +52,8 @@ rows_in_span span rows = filter (λ row. span_has span row.coords) rows
 -- The rows of a brick that one sight shows and another does not. A sight has the epochs whose rows it looks for and the
 -- epochs whose marks it obeys.
 pub record Sight : Type 0 where
-  pub epochs : Epochs
-  pub marks : Epochs
+  pub epochs : EpochSet
+  pub marks : EpochSet
 
 abbrev pub sight_before_mark : ℕ → Sight → Sight
 sight_before_mark epoch sight = record sight { epochs = epochs_before_mark (sight.marks epoch) epoch sight.epochs }
@@ -96,7 +96,7 @@ IsCopyOf o mail view from to copy = (cube brick : ℕ) → brick % o.shards ≡ 
     → ShowAlike (copy cube brick) (entries_of_round from to (view cube brick))
 
 -- The answers of a shard. Rollback and purge take no memory.
-abbrev pub ShardSays : Opening → ℕ → ShardView → CoreJob → JobAnswer → Type 0
+abbrev pub ShardSays : Opening → ℕ → ShardView → CoreJob → JobOutcome → Type 0
 ShardSays o mail view (Append cube epoch rows) Done = Unit {0}
 ShardSays o mail view (Append cube epoch rows) (ShardFull full) = Unit {0}
 ShardSays o mail view (Append cube epoch rows) OutOfMemory = Unit {0}
@@ -120,8 +120,8 @@ IsOldest client job (first ∷ queue) = first ≡ letter client job
 -- The answers to a worker: a mail gives its oldest job, a shard answers by what it has.
 abbrev pub MoveSays : Opening → List CoreEvent → ℕ → WorkerMove → Type 0
 MoveSays o es mail (Take client job) = IsOldest client job (queue_of mail es)
-MoveSays o es mail (NoJob closed) = (queue_of mail es ≡ []) × (closed ≡ is_closed mail es)
-MoveSays o es mail (Work job answer) = ShardSays o mail (view_of o es) job answer
+MoveSays o es mail (NoJob closed) = (queue_of mail es ≡ []) × (closed ≡ is_mail_closed mail es)
+MoveSays o es mail (Work job answer) = ShardSays o mail (shard_view_of o es) job answer
 MoveSays o es mail (Reply client answer) = Unit {0}
 
 -- A call that fits, with the answer of its cell, behind events.

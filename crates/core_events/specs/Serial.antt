@@ -7,33 +7,33 @@ use Rattle.cube_values.specs.declared.snapshot.Snapshot.{Snapshot}
 use Rattle.cube_values.specs.declared.span.Span.{Span}
 use Rattle.cube_values.specs.Sees.{sees}
 use Rattle.cube_values.specs.Spans.{span_has}
-use Rattle.core_events.specs.ShardView.{Epochs}
+use Rattle.core_events.specs.ShardView.{EpochSet}
 use Rattle.core_events.specs.Jobs.{CoreJob, Append, DropBox}
 use Rattle.core_events.specs.Groups.{has_ended}
 use Rattle.core_events.specs.Clients.{client_state}
 use Rattle.core_events.specs.Events.{Opening, OnDesk, Commit, AbortEnd, ClientCall, Post, CoreEvent, By, At}
 
 -- Epochs that were committed, those of the kept rows among them, and epochs that were aborted.
-abbrev pub commits : ClientCall → Epochs
+abbrev pub commits : ClientCall → EpochSet
 commits (OnDesk (Commit statement epoch)) e = epoch == e
 commits call e = false
 
-abbrev pub has_committed : Opening → List CoreEvent → Epochs
+abbrev pub has_committed : Opening → List CoreEvent → EpochSet
 has_committed o [] e = nat_le e o.safe
 has_committed o (By a call ∷ es) e = commits call e || has_committed o es e
 has_committed o (At mail move ∷ es) e = has_committed o es e
 
-abbrev pub aborts : ClientCall → Epochs
+abbrev pub aborts : ClientCall → EpochSet
 aborts (OnDesk (AbortEnd statement epoch cause)) e = epoch == e
 aborts call e = false
 
-abbrev pub has_aborted : List CoreEvent → Epochs
+abbrev pub has_aborted : List CoreEvent → EpochSet
 has_aborted [] e = false
 has_aborted (By a call ∷ es) e = aborts call e || has_aborted es e
 has_aborted (At mail move ∷ es) e = has_aborted es e
 
 -- The epochs that count for a snapshot: those that it sees and that were committed, and its own.
-abbrev pub counts_for : Opening → List CoreEvent → Snapshot → Epochs
+abbrev pub counts_for : Opening → List CoreEvent → Snapshot → EpochSet
 counts_for o es s e = sees s e && (has_committed o es e || (s.own && s.epoch == e))
 
 -- What a transaction does to a cube.
@@ -68,7 +68,7 @@ rows_after_transaction (DropRows box ∷ older) rows =
     filter (λ row. not (span_has box row.coords)) (rows_after_transaction older rows)
 
 -- The rows that the transactions of some epochs below a limit leave.
-abbrev pub rows_left_below : ℕ → Epochs → (ℕ → List CubeOperation) → List CodedRow
+abbrev pub rows_left_below : ℕ → EpochSet → (ℕ → List CubeOperation) → List CodedRow
 rows_left_below zero epochs operations = []
 rows_left_below (suc m) epochs operations =
     if epochs m then rows_after_transaction (operations m) (rows_left_below m epochs operations)

@@ -17,22 +17,22 @@ abbrev pub ShardView : Type 0
 ShardView = ℕ → ℕ → List BrickEntry
 
 -- A set of epochs, by a test.
-abbrev pub Epochs : Type 0
-Epochs = ℕ → Bool
+abbrev pub EpochSet : Type 0
+EpochSet = ℕ → Bool
 
 -- Rows of an epoch that is below that of a mark are hidden by it, wherever the mark stands.
-abbrev pub is_below_mark : Epochs → ℕ → List BrickEntry → Bool
+abbrev pub is_below_mark : EpochSet → ℕ → List BrickEntry → Bool
 is_below_mark marks epoch [] = false
 is_below_mark marks epoch (RowRun other rows ∷ older) = is_below_mark marks epoch older
 is_below_mark marks epoch (RowMark other ∷ older) =
     (marks other && nat_lt epoch other) || is_below_mark marks epoch older
 
 -- The epochs of a set that are above one.
-abbrev pub epochs_above : ℕ → Epochs → Epochs
+abbrev pub epochs_above : ℕ → EpochSet → EpochSet
 epochs_above epoch set e = set e && nat_lt epoch e
 
 -- The epochs whose rows are still looked for before a mark: where it counts, those above it alone.
-abbrev pub epochs_before_mark : Bool → ℕ → Epochs → Epochs
+abbrev pub epochs_before_mark : Bool → ℕ → EpochSet → EpochSet
 epochs_before_mark true epoch set = epochs_above epoch set
 epochs_before_mark false epoch set = set
 
@@ -43,7 +43,7 @@ rows_where false rows = []
 
 -- The rows of a brick, in the order in which they were appended, for whoever looks for the rows of some epochs and
 -- obeys the marks of some epochs. A mark hides the rows of lower epochs, and those of its own epoch that stood before it.
-abbrev pub rows_shown_to : Epochs → Epochs → List BrickEntry → List CodedRow
+abbrev pub rows_shown_to : EpochSet → EpochSet → List BrickEntry → List CodedRow
 rows_shown_to epochs marks [] = []
 rows_shown_to epochs marks (RowRun epoch rows ∷ older) =
     rows_shown_to epochs marks older ++ rows_where (epochs epoch && not (is_below_mark marks epoch older)) rows
@@ -56,8 +56,8 @@ brick_rows_seen s entries = rows_shown_to (sees s) (sees s) entries
 
 -- Two bricks show the same rows, and hide the same, whoever looks.
 pub record ShowAlike (a b : List BrickEntry) : Type 0 where
-  pub rows : (epochs marks : Epochs) → rows_shown_to epochs marks a ≡ rows_shown_to epochs marks b
-  pub hidden : (marks : Epochs) (epoch : ℕ) → is_below_mark marks epoch a ≡ is_below_mark marks epoch b
+  pub rows : (epochs marks : EpochSet) → rows_shown_to epochs marks a ≡ rows_shown_to epochs marks b
+  pub hidden : (marks : EpochSet) (epoch : ℕ) → is_below_mark marks epoch a ≡ is_below_mark marks epoch b
 
 -- A brick after a rollback of an epoch: without its runs and marks.
 abbrev pub entries_without_epoch : ℕ → List BrickEntry → List BrickEntry
@@ -70,12 +70,12 @@ entries_without_epoch epoch (RowMark other ∷ older) =
     else RowMark other ∷ entries_without_epoch epoch older
 
 -- A purge at an epoch looks for all rows, and obeys the marks up to that epoch.
-abbrev pub is_up_to : ℕ → Epochs
+abbrev pub is_up_to : ℕ → EpochSet
 is_up_to epoch e = nat_le e epoch
 
 -- A brick after a purge at an epoch: without the marks up to it, and without the rows that these hide. Of the runs from
 -- here on, those of some epochs are left; a mark that is taken out leaves only those above it.
-abbrev pub entries_after_purge : Epochs → ℕ → List BrickEntry → List BrickEntry
+abbrev pub entries_after_purge : EpochSet → ℕ → List BrickEntry → List BrickEntry
 entries_after_purge epochs at [] = []
 entries_after_purge epochs at (RowRun epoch rows ∷ older) =
     RowRun epoch (rows_where (epochs epoch && not (is_below_mark (is_up_to at) epoch older)) rows)
@@ -85,7 +85,7 @@ entries_after_purge epochs at (RowMark epoch ∷ older) =
     else RowMark epoch ∷ entries_after_purge epochs at older
 
 -- Every epoch.
-abbrev pub every_epoch : Epochs
+abbrev pub every_epoch : EpochSet
 every_epoch e = true
 
 -- What a round from one epoch up to another has of a brick: the runs and marks of the epochs between.
@@ -102,5 +102,5 @@ entries_of_round from to (RowMark epoch ∷ older) =
     else entries_of_round from to older
 
 -- The epochs of a set that are in no other.
-abbrev pub epochs_without : Epochs → Epochs → Epochs
+abbrev pub epochs_without : EpochSet → EpochSet → EpochSet
 epochs_without set gone e = set e && not (gone e)

@@ -3,7 +3,7 @@
 ghost use Rattle.std.specs.Prelude.{◌≡◌, ℕ, ◌≤◌, List, ◌∷◌, ◌++◌, length, slice_get, Some};
 ghost use Rattle.names_dict.specs.declared.code.Code.{Code};
 ghost use Rattle.core_events.specs.Cells.{dictionary_of};
-ghost use Rattle.core_events.specs.Clients.{client_state, state_from_calls, calls_of, number_in};
+ghost use Rattle.core_events.specs.Clients.{client_state, state_from_calls, calls_of, number_by_code};
 ghost use Rattle.core_events.specs.Events.{Opening, CoreEvent, By, OnNames, Encode};
 ghost use Rattle.core_events.specs.Runs.{IsCoreRun};
 
@@ -21,7 +21,7 @@ pub fn names_only_grow()
         ≡ (dictionary_of o cube dim es).names ++ rest) }
     ensures codes { (o : Opening) (a cube dim n : ℕ) (name : List ℕ) (code : Code)
         (later es : List CoreEvent)
-        → IsCoreRun o (By a (OnNames (Encode cube dim name code)) ∷ es) → number_in code ≡ Some n
+        → IsCoreRun o (By a (OnNames (Encode cube dim name code)) ∷ es) → number_by_code code ≡ Some n
         → slice_get (dictionary_of o cube dim
         (later ++ By a (OnNames (Encode cube dim name code)) ∷ es)).names n ≡ Some name }
     ensures known { (o : Opening) (es : List CoreEvent) → IsCoreRun o es → (a cube dim : ℕ)

@@ -8,11 +8,11 @@ use Rattle.cube_journal.specs.declared.journal_entry.JournalEntry.TheVariants as
 use Rattle.cube_journal.specs.declared.journal_entry.LostCause.TheVariants as cause
 use Rattle.cube_journal.specs.Counters.{JournalState, state_after}
 use Rattle.cube_journal.specs.Legal.{WasFlushed, WasSafe}
-use Rattle.core_events.specs.Jobs.{CoreJob, Append, DropBox, Scan, Delta, Rollback, Purge, CopyRound, Flush, JobAnswer, Done, ShardFull, Found, Compared, Copied, StoreLost, OutOfMemory}
+use Rattle.core_events.specs.Jobs.{CoreJob, Append, DropBox, Scan, Delta, Rollback, Purge, CopyRound, Flush, JobOutcome, Done, ShardFull, Found, Compared, Copied, StoreLost, OutOfMemory}
 use Rattle.core_events.specs.Events.{Opening, IsSession, flusher, OpenWrite, OpenRead, Commit, AbortEnd, CloseRead, TakeNote, CreateCube, FindCube, CubesFrom, CountersNow, RoundOpen, RoundClose, StoreFailed, ClientCall, OnDesk, OnNames, Post, Fetch, CloseMail, NoChange, WorkerMove, CoreEvent, By, At}
 use Rattle.core_events.specs.Groups.{GroupKind, Flushes, kind_of, has_number}
 use Rattle.core_events.specs.Clients.{ClientState, client_state, client_after_call, is_own_entry, ends_group, flush_after, flush_after_fetch, lse_in, with_lse}
-use Rattle.core_events.specs.Cells.{counters_of_run, view_of, Took, worker_of}
+use Rattle.core_events.specs.Cells.{counters_of_run, shard_view_of, Took, worker_of}
 use Rattle.core_events.specs.Fitting.{FlushSays, round_progress}
 use Rattle.core_events.specs.Runs.{IsCoreRun, ShardSays}
 use Rattle.core_desk.proofs.Agreement.{opening-of, round-agrees}
@@ -73,13 +73,13 @@ not-of o es a b call run session own = entry-not-of o a b call (client_state o b
 
 -- What is claimed of the answer to a FLUSH.
 
-abbrev NoteClaim : Opening → List CoreEvent → ℕ → ℕ → CoreJob → JobAnswer → Type 0
+abbrev NoteClaim : Opening → List CoreEvent → ℕ → ℕ → CoreJob → JobOutcome → Type 0
 NoteClaim o es a mail Flush Done = IsSession o a → WasFlushed a (journal_of o es)
 NoteClaim o es a mail Flush StoreLost = (counters_of_run o es).store_failed ≡ true
 NoteClaim o es a mail job answer = Unit {0}
 
-note-given : (o : Opening) (es : List CoreEvent) (a mail : ℕ) (job : CoreJob) (answer : JobAnswer) → IsCoreRun o es
-    → ShardSays o mail (view_of o es) job answer → NoteClaim o es a mail job answer
+note-given : (o : Opening) (es : List CoreEvent) (a mail : ℕ) (job : CoreJob) (answer : JobOutcome) → IsCoreRun o es
+    → ShardSays o mail (shard_view_of o es) job answer → NoteClaim o es a mail job answer
 note-given o es a mail (Append cube epoch rows) answer run says = tt
 note-given o es a mail (DropBox cube epoch box) answer run says = tt
 note-given o es a mail (Scan query snapshot) answer run says = tt
@@ -95,7 +95,7 @@ note-given o es a mail Flush (Copied view) run says = tt
 note-given o es a mail Flush StoreLost run says = absurd says
 note-given o es a mail Flush OutOfMemory run says = tt
 
-note-flushed : (o : Opening) (es : List CoreEvent) (a mail : ℕ) (said : JobAnswer) → IsCoreRun o es → worker_of mail es ≡ Took a Flush
+note-flushed : (o : Opening) (es : List CoreEvent) (a mail : ℕ) (said : JobOutcome) → IsCoreRun o es → worker_of mail es ≡ Took a Flush
     → FlushSays (round_progress o es) (client_state o (flusher o) es).store_lost said → NoteClaim o es a mail Flush said
 note-flushed o es a mail Done run took says = λ session. saved-noted o es mail a run session took says
 note-flushed o es a mail StoreLost run took says = (round-agrees o es run).store ∙ says
@@ -105,7 +105,7 @@ note-flushed o es a mail (Compared came went) run took says = tt
 note-flushed o es a mail (Copied view) run took says = tt
 note-flushed o es a mail OutOfMemory run took says = tt
 
-note-call : (o : Opening) (es : List CoreEvent) (a b mail : ℕ) (call : ClientCall) (job : CoreJob) (answer : JobAnswer)
+note-call : (o : Opening) (es : List CoreEvent) (a b mail : ℕ) (call : ClientCall) (job : CoreJob) (answer : JobOutcome)
     → IsCoreRun o (By b call ∷ es) → kind_of job ≡ (client_state o a es).group.kind → (b ≡ a → ends_group call ≡ false)
     → NoteClaim o es a mail job answer → NoteClaim o (By b call ∷ es) a mail job answer
 note-call o es a b mail call (Append cube epoch rows) answer run kind goes f = tt
@@ -124,7 +124,7 @@ note-call o es a b mail call Flush (Copied view) run kind goes f = tt
 note-call o es a b mail call Flush StoreLost run kind goes f = failed-call o es b call f
 note-call o es a b mail call Flush OutOfMemory run kind goes f = tt
 
-note-move : (o : Opening) (es : List CoreEvent) (a other mail : ℕ) (move : WorkerMove) (job : CoreJob) (answer : JobAnswer)
+note-move : (o : Opening) (es : List CoreEvent) (a other mail : ℕ) (move : WorkerMove) (job : CoreJob) (answer : JobOutcome)
     → IsCoreRun o (At other move ∷ es) → kind_of job ≡ (client_state o a es).group.kind
     → NoteClaim o es a mail job answer → NoteClaim o (At other move ∷ es) a mail job answer
 note-move o es a other mail move (Append cube epoch rows) answer run kind f = tt
@@ -144,14 +144,14 @@ note-move o es a other mail move Flush OutOfMemory run kind f = tt
 
 -- The answer to the last FLUSH that the session knows.
 
-pub record FlushKnown (o : Opening) (es : List CoreEvent) (a : ℕ) (flush : Option JobAnswer) : Type 0 where
+pub record FlushKnown (o : Opening) (es : List CoreEvent) (a : ℕ) (flush : Option JobOutcome) : Type 0 where
   pub saved : flush ≡ Some Done → WasFlushed a (journal_of o es)
   pub lost : flush ≡ Some StoreLost → (counters_of_run o es).store_failed ≡ true
 
 none-known : (o : Opening) (es : List CoreEvent) (a : ℕ) → FlushKnown o es a None
 none-known o es a = record { saved = λ e. absurd (none-some Done e); lost = λ e. absurd (none-some StoreLost e) }
 
-known-call : (o : Opening) (es : List CoreEvent) (a b : ℕ) (call : ClientCall) (flush : Option JobAnswer) → IsNotOf a (client_entry b call)
+known-call : (o : Opening) (es : List CoreEvent) (a b : ℕ) (call : ClientCall) (flush : Option JobOutcome) → IsNotOf a (client_entry b call)
     → FlushKnown o es a flush → FlushKnown o (By b call ∷ es) a flush
 known-call o es a b call flush other f = record {
   saved = λ e. flushed-call o es a b call other (f.saved e);
@@ -173,7 +173,7 @@ flush-of-kind (Purge epoch) e = absurd (false≢true (ap is_flush e))
 flush-of-kind (CopyRound from to) e = absurd (false≢true (ap is_flush e))
 
 -- An answer that is fetched.
-fetched-claim : (o : Opening) (es : List CoreEvent) (a mail : ℕ) (answer : JobAnswer) → IsCoreRun o (By a (Fetch mail answer) ∷ es)
+fetched-claim : (o : Opening) (es : List CoreEvent) (a mail : ℕ) (answer : JobOutcome) → IsCoreRun o (By a (Fetch mail answer) ∷ es)
     → (client_state o a es).group.kind ≡ Flushes → NoteClaim o es a mail Flush answer
 fetched-claim o es a mail answer run kind =
     let there = ((run-posted o es run.0).posted mail).held a answer run.1.says in
@@ -183,7 +183,7 @@ fetched-claim o es a mail answer run kind =
     in
     coe 0 1 (i. NoteClaim o es a mail (flush-of-kind there.0 (suits.kind ∙ kind) i) answer) claim
 
-fetch-known : (kind : GroupKind) (o : Opening) (es : List CoreEvent) (a mail : ℕ) (answer : JobAnswer) → IsCoreRun o (By a (Fetch mail answer) ∷ es)
+fetch-known : (kind : GroupKind) (o : Opening) (es : List CoreEvent) (a mail : ℕ) (answer : JobOutcome) → IsCoreRun o (By a (Fetch mail answer) ∷ es)
     → IsSession o a → (client_state o a es).group.kind ≡ kind → FlushKnown o es a (client_state o a es).flush
     → FlushKnown o es a (flush_after_fetch kind answer (client_state o a es).flush)
 fetch-known Flushes o es a mail answer run session is f =
@@ -194,7 +194,7 @@ fetch-known Flushes o es a mail answer run session is f =
     }
 fetch-known kind o es a mail answer run session is f = f
 
-own-known : (own : Bool) (o : Opening) (es : List CoreEvent) (a : ℕ) (call : ClientCall) (flush : Option JobAnswer) → is_own_entry a call ≡ own
+own-known : (own : Bool) (o : Opening) (es : List CoreEvent) (a : ℕ) (call : ClientCall) (flush : Option JobOutcome) → is_own_entry a call ≡ own
     → IsCoreRun o (By a call ∷ es) → IsSession o a → FlushKnown o es a flush
     → FlushKnown o (By a call ∷ es) a (if own then None else flush)
 own-known true o es a call flush is run session f = none-known o (By a call ∷ es) a

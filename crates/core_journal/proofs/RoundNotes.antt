@@ -10,7 +10,7 @@ use Rattle.aosi_register.specs.declared.answer.RoundAnswer.TheVariants.{Target, 
 use Rattle.aosi_register.specs.declared.answer.RoundEnd.TheVariants.{Safe, Lost}
 use Rattle.aosi_desk.specs.declared.cube.CubeAnswer.TheVariants.{Created, Exists, TooMany}
 use Rattle.aosi_desk.specs.declared.cube.CubeFound.TheVariants.{Found, Unknown}
-use Rattle.core_events.specs.Jobs.{CoreJob, Flush, JobAnswer}
+use Rattle.core_events.specs.Jobs.{CoreJob, Flush, JobOutcome}
 use Rattle.core_events.specs.Events.{Opening, IsSession, flush_mail, OpenWrite, OpenRead, Commit, AbortEnd, CloseRead, TakeNote, CreateCube, FindCube, CubesFrom, CountersNow, RoundOpen, RoundClose, StoreFailed, ClientCall, OnDesk, OnNames, Post, Fetch, CloseMail, NoChange, WorkerMove, Take, NoJob, Work, Reply, CoreEvent, By, At}
 use Rattle.core_events.specs.Clients.{ClientState, client_state, ends_group}
 use Rattle.core_events.specs.Cells.{WorkerState, Free, Took, Worked, worker_after, worker_of}
@@ -140,7 +140,7 @@ no-job-progress : (here closed : Bool) (progress : RoundProgress) → progress_a
 no-job-progress true closed progress = refl
 no-job-progress false closed progress = refl
 
-work-took : (answer : JobAnswer) (worker : WorkerState) (a : ℕ) (job made : CoreJob) → worker_after true (Work made answer) worker ≡ Took a job → ⊥
+work-took : (answer : JobOutcome) (worker : WorkerState) (a : ℕ) (job made : CoreJob) → worker_after true (Work made answer) worker ≡ Took a job → ⊥
 work-took answer Free a job made e = false≢true (ap has_taken e)
 work-took answer (Took c j) a job made e = false≢true (ap has_taken e)
 work-took answer (Worked c j x) a job made e = false≢true (ap has_taken e)

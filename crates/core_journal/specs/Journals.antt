@@ -3,7 +3,7 @@
 use Rattle.std.specs.Prelude.{ℕ, Bool, true, false, List, [], ◌∷◌, ◌++◌, if◌then◌else◌}
 use Rattle.cube_journal.specs.declared.journal_entry.JournalEntry.{JournalEntry}
 use Rattle.core_events.specs.Events.{Opening, CreateCube, FindCube, CubesFrom, CountersNow, StoreFailed, ClientCall, OnDesk, CoreEvent, By, At}
-use Rattle.core_events.specs.Clients.{is_unknown}
+use Rattle.core_events.specs.Clients.{is_not_found}
 use Rattle.core_events.specs.Cells.{desk_of}
 
 abbrev pub journal_of : Opening → List CoreEvent → List JournalEntry
@@ -11,7 +11,7 @@ journal_of o es = (desk_of o es).register.journal
 
 -- The call leaves an entry in the journal.
 abbrev pub leaves_entry : ClientCall → Bool
-leaves_entry (OnDesk (FindCube statement name answer)) = is_unknown answer
+leaves_entry (OnDesk (FindCube statement name answer)) = is_not_found answer
 leaves_entry (OnDesk (CubesFrom place cubes)) = false
 leaves_entry (OnDesk (CountersNow counters)) = false
 leaves_entry (OnDesk (StoreFailed failed)) = false

@@ -12,16 +12,16 @@ use Rattle.mail_cell.specs.declared.place.Place.{Place}
 use Rattle.mail_cell.specs.declared.place.Place.TheVariants.{Idle, Waiting, Out, Answered}
 use Rattle.mail_cell.specs.State.{MailState, mail_state, new_mail, place_of}
 use Rattle.mail_cell.specs.Steps.{taken, fetched, without_answer, with_oldest_out, after_post, after_take, after_reply, after_fetch, after_close}
-use Rattle.core_events.specs.Jobs.{CoreJob, JobAnswer}
+use Rattle.core_events.specs.Jobs.{CoreJob, JobOutcome}
 use Rattle.core_events.specs.Events.{Opening, flusher, OnDesk, OnNames, CloseMail, NoChange, NoJob, Work, CoreEvent, By, At}
 use Rattle.core_events.specs.Events as event
-use Rattle.core_events.specs.Cells.{Letter, letter, queue_of, queue_after_post, queue_after_take, reply_for, reply_after_fetch, reply_after_reply, queue_after_move, WorkerState, Free, Took, Worked, worker_after, worker_of, is_closed}
+use Rattle.core_events.specs.Cells.{Letter, letter, queue_of, queue_after_post, queue_after_take, reply_for, reply_after_fetch, reply_after_reply, queue_after_move, WorkerState, Free, Took, Worked, worker_after, worker_of, is_mail_closed}
 use Rattle.core_events.specs.Runs.{IsCoreRun, CallSays, IsOldest, MoveSays}
 use Rattle.core_mails.proofs.Places.{AreQueued, place}
-use Rattle.core_mails.specs.Histories.{has_letter_of, is_serving}
+use Rattle.core_mails.specs.Histories.{last_after_post, last_post, has_letter_of, is_serving, job_served}
 use Rattle.core_mails.proofs.MayMails.{may-post, may-reply, no-letter}
-use Rattle.core_mails.proofs.Posted.{run-posted}
-use Rattle.core_mail_cells.specs.MailCells.{IsThere, IsPlaceIn, letters_posted, IsMailOf, is_on_mail}
+use Rattle.core_mails.proofs.Posted.{run-posted, served-is-last}
+use Rattle.core_mail_cells.specs.MailCells.{IsThere, HoldsOutcome, IsPlaceIn, letters_posted, IsMailOf, IsFetched, is_on_mail}
 
 same_number : (n : ℕ) → (n == n) ≡ true
 same_number n = eq-eqb n n refl
@@ -49,53 +49,65 @@ module _ {J : Type 0} where
   is_shut answer = false
 
 -- A client's job stays where it is.
-there-as : (queued served : Bool) (held : Option JobAnswer) (mail client : ℕ) (es later : List CoreEvent)
+there-as : (queued served : Bool) (held : Option JobOutcome) (mail client : ℕ) (es later : List CoreEvent)
     → has_letter_of client (queue_of mail later) ≡ has_letter_of client (queue_of mail es)
     → is_serving client (worker_of mail later) ≡ is_serving client (worker_of mail es)
     → reply_for mail client later ≡ reply_for mail client es
     → IsThere queued served held mail client es → IsThere queued served held mail client later
 there-as queued served held mail client es later l w r t = record { letter = l ∙ t.letter; worker = w ∙ t.worker; reply = r ∙ t.reply }
 
-module _ {A : Type 0} (answer_of : A → JobAnswer) where
+module _ {A : Type 0} (stands_for : CoreJob → A → JobOutcome → Type 0) where
   place-as : (p : Place A) (mail client : ℕ) (es later : List CoreEvent)
       → has_letter_of client (queue_of mail later) ≡ has_letter_of client (queue_of mail es)
       → is_serving client (worker_of mail later) ≡ is_serving client (worker_of mail es)
-      → reply_for mail client later ≡ reply_for mail client es
-      → IsPlaceIn answer_of p mail client es → IsPlaceIn answer_of p mail client later
-  place-as Idle mail client es later l w r t = there-as false false None mail client es later l w r t
-  place-as Waiting mail client es later l w r t = there-as true false None mail client es later l w r t
-  place-as Out mail client es later l w r t = there-as false true None mail client es later l w r t
-  place-as (Answered x) mail client es later l w r t = there-as false false (Some (answer_of x)) mail client es later l w r t
+      → reply_for mail client later ≡ reply_for mail client es → last_post mail client later ≡ last_post mail client es
+      → IsPlaceIn stands_for p mail client es → IsPlaceIn stands_for p mail client later
+  place-as Idle mail client es later l w r a t = there-as false false None mail client es later l w r t
+  place-as Waiting mail client es later l w r a t = there-as true false None mail client es later l w r t
+  place-as Out mail client es later l w r a t = there-as false true None mail client es later l w r t
+  place-as (Answered x) mail client es later l w r a t = record {
+    job = t.job;
+    outcome = t.outcome;
+    asked = a ∙ t.asked;
+    stands = t.stands;
+    there = there-as false false (Some t.outcome) mail client es later l w r t.there;
+  }
 
   -- The place of a client by where its job is.
-  idle-place : (p : Place A) (mail client : ℕ) (es : List CoreEvent) → IsPlaceIn answer_of p mail client es
+  idle-place : (p : Place A) (mail client : ℕ) (es : List CoreEvent) → IsPlaceIn stands_for p mail client es
       → has_letter_of client (queue_of mail es) ≡ false → is_serving client (worker_of mail es) ≡ false → reply_for mail client es ≡ None → p ≡ Idle
   idle-place Idle mail client es t l w r = refl
   idle-place Waiting mail client es t l w r = absurd (true≢false (sym t.letter ∙ l))
   idle-place Out mail client es t l w r = absurd (true≢false (sym t.worker ∙ w))
-  idle-place (Answered x) mail client es t l w r = absurd (none-some (answer_of x) (sym r ∙ t.reply))
+  idle-place (Answered x) mail client es t l w r = absurd (none-some t.outcome (sym r ∙ t.there.reply))
 
-  out-place : (p : Place A) (mail client : ℕ) (es : List CoreEvent) → IsPlaceIn answer_of p mail client es
+  out-place : (p : Place A) (mail client : ℕ) (es : List CoreEvent) → IsPlaceIn stands_for p mail client es
       → is_serving client (worker_of mail es) ≡ true → p ≡ Out
   out-place Idle mail client es t w = absurd (false≢true (sym t.worker ∙ w))
   out-place Waiting mail client es t w = absurd (false≢true (sym t.worker ∙ w))
   out-place Out mail client es t w = refl
-  out-place (Answered x) mail client es t w = absurd (false≢true (sym t.worker ∙ w))
+  out-place (Answered x) mail client es t w = absurd (false≢true (sym t.there.worker ∙ w))
 
-  waiting-held : (p : Place A) (mail client : ℕ) (es : List CoreEvent) → IsPlaceIn answer_of p mail client es
+  waiting-held : (p : Place A) (mail client : ℕ) (es : List CoreEvent) → IsPlaceIn stands_for p mail client es
       → has_letter_of client (queue_of mail es) ≡ true → reply_for mail client es ≡ None
   waiting-held Idle mail client es t l = absurd (false≢true (sym t.letter ∙ l))
   waiting-held Waiting mail client es t l = t.reply
   waiting-held Out mail client es t l = absurd (false≢true (sym t.letter ∙ l))
-  waiting-held (Answered x) mail client es t l = absurd (false≢true (sym t.letter ∙ l))
+  waiting-held (Answered x) mail client es t l = absurd (false≢true (sym t.there.letter ∙ l))
 
-  answered-there : (p : Place A) (x : A) (mail client : ℕ) (es : List CoreEvent) → fetched p ≡ Got x → IsPlaceIn answer_of p mail client es
-      → IsThere false false (Some (answer_of x)) mail client es
+  answered-there : (p : Place A) (x : A) (mail client : ℕ) (es : List CoreEvent) → fetched p ≡ Got x → IsPlaceIn stands_for p mail client es
+      → HoldsOutcome stands_for x mail client es
   answered-there Idle x mail client es e t = absurd (false≢true (ap is_got e))
   answered-there Waiting x mail client es e t = absurd (false≢true (ap is_got e))
   answered-there Out x mail client es e t = absurd (false≢true (ap is_got e))
   answered-there (Answered y) x mail client es e t =
-      record { letter = t.letter; worker = t.worker; reply = t.reply ∙ ap (λ (z : A). Some (answer_of z)) (ap (out y) e) }
+      record {
+        job = t.job;
+        outcome = t.outcome;
+        asked = t.asked;
+        stands = subst (λ (z : A). stands_for t.job z t.outcome) (ap (out y) e) t.stands;
+        there = t.there;
+      }
     where
       out : A → Fetched A → A
       out default (Got z) = z
@@ -103,7 +115,7 @@ module _ {A : Type 0} (answer_of : A → JobAnswer) where
 
 -- Letters.
 
-has-more : (client : ℕ) (queue : List Letter) (x : Letter) → has_letter_of client (queue ++ x ∷ []) ≡ (has_letter_of client queue || x.client == client)
+pub has-more : (client : ℕ) (queue : List Letter) (x : Letter) → has_letter_of client (queue ++ x ∷ []) ≡ (has_letter_of client queue || x.client == client)
 has-more client [] x = or-none (x.client == client)
   where
     or-none : (b : Bool) → (b || false) ≡ b
@@ -125,29 +137,34 @@ or-false : (b : Bool) → (b || false) ≡ b
 or-false true = refl
 or-false false = refl
 
-module _ {J A : Type 0} (job_of : J → CoreJob) (answer_of : A → JobAnswer) where
+module _ {J A : Type 0} (job_of : J → CoreJob) (stands_for : CoreJob → A → JobOutcome → Type 0) where
   -- The places of all clients, where one has changed.
   places-set : (mail client : ℕ) (es : List CoreEvent) (places : List (Place A)) (p : Place A) (later : List CoreEvent)
-      → (client < length places → IsPlaceIn answer_of p mail client later)
-      → ((d : ℕ) → d < length places → (d ≡ client → ⊥) → IsPlaceIn answer_of (get_or places d Idle) mail d later)
-      → (d : ℕ) → d < length (set places client p) → IsPlaceIn answer_of (get_or (set places client p) d Idle) mail d later
+      → (client < length places → IsPlaceIn stands_for p mail client later)
+      → ((d : ℕ) → d < length places → (d ≡ client → ⊥) → IsPlaceIn stands_for (get_or places d Idle) mail d later)
+      → (d : ℕ) → d < length (set places client p) → IsPlaceIn stands_for (get_or (set places client p) d Idle) mail d later
   places-set mail client es places p later own others d l =
       let low : d < length places = (let same = length-set places client p in omega (arith, l, same)) in
       elim (same-or-not d client) [
         | inl same ↦
-            subst (λ (c : ℕ). IsPlaceIn answer_of (get_or (set places client p) c Idle) mail c later) (sym same)
-            (subst (λ (q : Place A). IsPlaceIn answer_of q mail client later)
+            subst (λ (c : ℕ). IsPlaceIn stands_for (get_or (set places client p) c Idle) mail c later) (sym same)
+            (subst (λ (q : Place A). IsPlaceIn stands_for q mail client later)
             (sym (get_or-set_same places client p Idle (subst (λ (c : ℕ). c < length places) same low)))
             (own (subst (λ (c : ℕ). c < length places) same low)))
         | inr other ↦
-            subst (λ (q : Place A). IsPlaceIn answer_of q mail d later) (sym (get_or-set_other places client d p Idle other)) (others d low other)
+            subst (λ (q : Place A). IsPlaceIn stands_for q mail d later) (sym (get_or-set_other places client d p Idle other)) (others d low other)
       ]
 
   -- Post.
 
+  last-other : (own : Bool) (job : CoreJob) (last : Option CoreJob) → own ≡ false → (here : Bool) → last_after_post here own job last ≡ last
+  last-other true job last e here = absurd (true≢false e)
+  last-other false job last e true = refl
+  last-other false job last e false = refl
+
   pub posts : (o : Opening) (es : List CoreEvent) (mail client : ℕ) (job : J) (m : MailState J A)
-      → IsCoreRun o (By client (event.Post mail (job_of job)) ∷ es) → IsMailOf job_of answer_of mail es m → client < length m.places
-      → (place_of m client ≡ Idle) × IsMailOf job_of answer_of mail (By client (event.Post mail (job_of job)) ∷ es) (after_post m client job)
+      → IsCoreRun o (By client (event.Post mail (job_of job)) ∷ es) → IsMailOf job_of stands_for mail es m → client < length m.places
+      → (place_of m client ≡ Idle) × IsMailOf job_of stands_for mail (By client (event.Post mail (job_of job)) ∷ es) (after_post m client job)
   posts o es mail client job m run f known =
       let free = may-post o client mail (job_of job) es run in
       let later = By client (event.Post mail (job_of job)) ∷ es in
@@ -155,7 +172,7 @@ module _ {J A : Type 0} (job_of : J → CoreJob) (answer_of : A → JobAnswer) w
       ap (λ (b : Bool). queue_after_post b client (job_of job) (queue_of mail es)) (same_number mail)
       in
       let has = λ (d : ℕ). ap (has_letter_of d) queue ∙ has-more d (queue_of mail es) (letter client (job_of job)) in (
-        idle-place answer_of (place_of m client) mail client es (f.places client known) free.letter free.worker free.reply,
+        idle-place stands_for (place_of m client) mail client es (f.places client known) free.letter free.worker free.reply,
         record {
           posted = map-append (λ (p : Post J). letter p.client (job_of p.job)) m.posted (record { client = client; job = job } ∷ [])
               ∙ ap (λ (q : List Letter). q ++ letter client (job_of job) ∷ []) f.posted
@@ -166,32 +183,36 @@ module _ {J A : Type 0} (job_of : J → CoreJob) (answer_of : A → JobAnswer) w
                 worker = free.worker;
                 reply = free.reply;
               })
-              (λ d l other. place-as answer_of (place_of m d) mail d es later
+              (λ d l other. place-as stands_for (place_of m d) mail d es later
               (has d ∙ ap (λ b. has_letter_of d (queue_of mail es) || b) (ne_eqb client d (λ same. other (sym same))) ∙ or-false (has_letter_of d (queue_of mail es)))
-              refl refl (f.places d l));
+              refl refl (last-other (client == d) (job_of job) (last_post mail d es) (ne_eqb client d (λ same. other (sym same))) (mail == mail)) (f.places d l));
           closed = f.closed;
         },
       )
 
   -- Fetch.
 
-  fetch-other : (own : Bool) (reply : Option JobAnswer) → own ≡ false → (here : Bool) → reply_after_fetch here own reply ≡ reply
+  fetch-other : (own : Bool) (reply : Option JobOutcome) → own ≡ false → (here : Bool) → reply_after_fetch here own reply ≡ reply
   fetch-other true reply e here = absurd (true≢false e)
   fetch-other false reply e true = refl
   fetch-other false reply e false = refl
 
   pub fetches : (o : Opening) (es : List CoreEvent) (mail client : ℕ) (answer : A) (m : MailState J A)
-      → IsMailOf job_of answer_of mail es m → client < length m.places → fetched (place_of m client) ≡ Got answer
-      → CallSays o es client (event.Fetch mail (answer_of answer))
-      × IsMailOf job_of answer_of mail (By client (event.Fetch mail (answer_of answer)) ∷ es) (after_fetch m client)
+      → IsMailOf job_of stands_for mail es m → client < length m.places → fetched (place_of m client) ≡ Got answer
+      → IsFetched job_of stands_for o mail client answer es (after_fetch m client)
   fetches o es mail client answer m f known got =
-      let there = answered-there answer_of (place_of m client) answer mail client es got (f.places client known) in
-      let later = By client (event.Fetch mail (answer_of answer)) ∷ es in (
-        there.reply,
-        record {
+      let held = answered-there stands_for (place_of m client) answer mail client es got (f.places client known) in
+      let there = held.there in
+      let later = By client (event.Fetch mail held.outcome) ∷ es in record {
+        job = held.job;
+        outcome = held.outcome;
+        asked = held.asked;
+        stands = held.stands;
+        says = there.reply;
+        is = record {
           posted = f.posted;
           places = subst (λ (p : Place A). (d : ℕ) → d < length (set m.places client p)
-              → IsPlaceIn answer_of (get_or (set m.places client p) d Idle) mail d later)
+              → IsPlaceIn stands_for (get_or (set m.places client p) d Idle) mail d later)
               (sym (idle-after (place_of m client) got))
               (places-set mail client es m.places Idle later
               (λ l. record {
@@ -199,11 +220,11 @@ module _ {J A : Type 0} (job_of : J → CoreJob) (answer_of : A → JobAnswer) w
                 worker = there.worker;
                 reply = λ i. reply_after_fetch (same_number mail i) (same_number client i) (reply_for mail client es);
               })
-              (λ d l other. place-as answer_of (place_of m d) mail d es later refl refl
-              (fetch-other (client == d) (reply_for mail d es) (ne_eqb client d (λ same. other (sym same))) (mail == mail)) (f.places d l)));
+              (λ d l other. place-as stands_for (place_of m d) mail d es later refl refl
+              (fetch-other (client == d) (reply_for mail d es) (ne_eqb client d (λ same. other (sym same))) (mail == mail)) refl (f.places d l)));
           closed = f.closed;
-        },
-      )
+        };
+      }
     where
       idle-after : (p : Place A) → fetched p ≡ Got answer → without_answer p ≡ Idle
       idle-after (Answered y) e = refl
@@ -211,14 +232,14 @@ module _ {J A : Type 0} (job_of : J → CoreJob) (answer_of : A → JobAnswer) w
       idle-after Waiting e = absurd (false≢true (ap is_got e))
       idle-after Out e = absurd (false≢true (ap is_got e))
 
-  pub not-yet : (es : List CoreEvent) (mail client : ℕ) (m : MailState J A) → IsMailOf job_of answer_of mail es m → client < length m.places
-      → fetched (place_of m client) ≡ NotYet → IsMailOf job_of answer_of mail (By client NoChange ∷ es) (after_fetch m client)
+  pub not-yet : (es : List CoreEvent) (mail client : ℕ) (m : MailState J A) → IsMailOf job_of stands_for mail es m → client < length m.places
+      → fetched (place_of m client) ≡ NotYet → IsMailOf job_of stands_for mail (By client NoChange ∷ es) (after_fetch m client)
   not-yet es mail client m f known none = record {
     posted = f.posted;
     places = places-set mail client es m.places (without_answer (place_of m client)) (By client NoChange ∷ es)
-        (λ l. place-as answer_of (without_answer (place_of m client)) mail client es (By client NoChange ∷ es) refl refl refl
-        (subst (λ (p : Place A). IsPlaceIn answer_of p mail client es) (sym (same-after (place_of m client) none)) (f.places client known)))
-        (λ d l other. place-as answer_of (place_of m d) mail d es (By client NoChange ∷ es) refl refl refl (f.places d l));
+        (λ l. place-as stands_for (without_answer (place_of m client)) mail client es (By client NoChange ∷ es) refl refl refl refl
+        (subst (λ (p : Place A). IsPlaceIn stands_for p mail client es) (sym (same-after (place_of m client) none)) (f.places client known)))
+        (λ d l other. place-as stands_for (place_of m d) mail d es (By client NoChange ∷ es) refl refl refl refl (f.places d l));
     closed = f.closed;
   } where
     same-after : (p : Place A) → fetched p ≡ NotYet → without_answer p ≡ p
@@ -248,9 +269,9 @@ module _ {J A : Type 0} (job_of : J → CoreJob) (answer_of : A → JobAnswer) w
       job_in default answer = default
 
   pub takes : (o : Opening) (es : List CoreEvent) (mail client : ℕ) (job : J) (m : MailState J A)
-      → IsCoreRun o es → worker_of mail es ≡ Free → IsMailOf job_of answer_of mail es m → taken m.posted m.closed ≡ Job client job
+      → IsCoreRun o es → worker_of mail es ≡ Free → IsMailOf job_of stands_for mail es m → taken m.posted m.closed ≡ Job client job
       → MoveSays o es mail (event.Take client (job_of job))
-      × IsMailOf job_of answer_of mail (At mail (event.Take client (job_of job)) ∷ es) (after_take m)
+      × IsMailOf job_of stands_for mail (At mail (event.Take client (job_of job)) ∷ es) (after_take m)
   takes o es mail client job m run free f is =
       let first = first-post m.posted m.closed client job is in
       let later = At mail (event.Take client (job_of job)) ∷ es in
@@ -263,7 +284,7 @@ module _ {J A : Type 0} (job_of : J → CoreJob) (answer_of : A → JobAnswer) w
       let only = (coe 0 1 (i. AreQueued (λ c. place mail c es) (whole i)) ((run-posted o es run).posted mail).letters).0.only in
       let had : has_letter_of client (queue_of mail es) ≡ true = ap (has_letter_of client) whole ∙ ap (λ b. b || has_letter_of client rest) (same_number client) in (
         coe 1 0 (i. IsOldest client (job_of job) (whole i)) refl,
-        subst (λ (posted : List (Post J)). IsMailOf job_of answer_of mail later (mail_state (drop 1 posted) (with_oldest_out posted m.places) m.closed))
+        subst (λ (posted : List (Post J)). IsMailOf job_of stands_for mail later (mail_state (drop 1 posted) (with_oldest_out posted m.places) m.closed))
             (sym first.is)
             (record {
               posted = sym queue;
@@ -271,13 +292,13 @@ module _ {J A : Type 0} (job_of : J → CoreJob) (answer_of : A → JobAnswer) w
                   (λ l. record {
                     letter = ap (has_letter_of client) queue ∙ no-letter client rest only;
                     worker = ap (is_serving client) worker ∙ same_number client;
-                    reply = waiting-held answer_of (place_of m client) mail client es (f.places client l) had;
+                    reply = waiting-held stands_for (place_of m client) mail client es (f.places client l) had;
                   })
                   (λ d l other.
                   let apart : (client == d) ≡ false = ne_eqb client d (λ same. other (sym same)) in
-                  place-as answer_of (place_of m d) mail d es later
+                  place-as stands_for (place_of m d) mail d es later
                   (ap (has_letter_of d) queue ∙ sym (ap (has_letter_of d) whole ∙ (λ i. apart i || has_letter_of d rest)))
-                  (ap (is_serving d) worker ∙ apart ∙ sym (ap (is_serving d) free)) refl (f.places d l));
+                  (ap (is_serving d) worker ∙ apart ∙ sym (ap (is_serving d) free)) refl refl (f.places d l));
               closed = f.closed;
             }),
       )
@@ -297,22 +318,22 @@ module _ {J A : Type 0} (job_of : J → CoreJob) (answer_of : A → JobAnswer) w
   shut-closed true e = refl
   shut-closed false e = absurd (false≢true (ap is_shut e))
 
-  no-job : (es : List CoreEvent) (mail : ℕ) (closed : Bool) (m : MailState J A) → IsMailOf job_of answer_of mail es m → m.posted ≡ []
-      → IsMailOf job_of answer_of mail (At mail (NoJob closed) ∷ es) (after_take m)
+  no-job : (es : List CoreEvent) (mail : ℕ) (closed : Bool) (m : MailState J A) → IsMailOf job_of stands_for mail es m → m.posted ≡ []
+      → IsMailOf job_of stands_for mail (At mail (NoJob closed) ∷ es) (after_take m)
   no-job es mail closed m f none =
       let later = At mail (NoJob closed) ∷ es in
       let worker : worker_of mail later ≡ worker_of mail es = ap (λ (b : Bool). worker_after b (NoJob closed) (worker_of mail es)) (same_number mail) in
-      subst (λ (posted : List (Post J)). IsMailOf job_of answer_of mail later (mail_state (drop 1 posted) (with_oldest_out posted m.places) m.closed))
+      subst (λ (posted : List (Post J)). IsMailOf job_of stands_for mail later (mail_state (drop 1 posted) (with_oldest_out posted m.places) m.closed))
       (sym none)
       (record {
         posted = ap (letters_posted job_of) (sym none) ∙ f.posted;
-        places = λ d l. place-as answer_of (place_of m d) mail d es later refl (ap (is_serving d) worker) refl (f.places d l);
+        places = λ d l. place-as stands_for (place_of m d) mail d es later refl (ap (is_serving d) worker) refl refl (f.places d l);
         closed = f.closed;
       })
 
-  pub none : (o : Opening) (es : List CoreEvent) (mail : ℕ) (m : MailState J A) → IsMailOf job_of answer_of mail es m
+  pub none : (o : Opening) (es : List CoreEvent) (mail : ℕ) (m : MailState J A) → IsMailOf job_of stands_for mail es m
       → taken m.posted m.closed ≡ Empty
-      → MoveSays o es mail (NoJob false) × IsMailOf job_of answer_of mail (At mail (NoJob false) ∷ es) (after_take m)
+      → MoveSays o es mail (NoJob false) × IsMailOf job_of stands_for mail (At mail (NoJob false) ∷ es) (after_take m)
   none o es mail m f is =
       let empty = none-posted m.posted m.closed (inl is) in (
         (
@@ -322,9 +343,9 @@ module _ {J A : Type 0} (job_of : J → CoreJob) (answer_of : A → JobAnswer) w
         no-job es mail false m f empty,
       )
 
-  pub closed : (o : Opening) (es : List CoreEvent) (mail : ℕ) (m : MailState J A) → IsMailOf job_of answer_of mail es m
+  pub closed : (o : Opening) (es : List CoreEvent) (mail : ℕ) (m : MailState J A) → IsMailOf job_of stands_for mail es m
       → taken m.posted m.closed ≡ Closed
-      → MoveSays o es mail (NoJob true) × IsMailOf job_of answer_of mail (At mail (NoJob true) ∷ es) (after_take m)
+      → MoveSays o es mail (NoJob true) × IsMailOf job_of stands_for mail (At mail (NoJob true) ∷ es) (after_take m)
   closed o es mail m f is =
       let empty = none-posted m.posted m.closed (inr is) in (
         (
@@ -336,7 +357,7 @@ module _ {J A : Type 0} (job_of : J → CoreJob) (answer_of : A → JobAnswer) w
 
   -- Reply.
 
-  reply-other : (own : Bool) (answer : JobAnswer) (reply : Option JobAnswer) → own ≡ false → (here : Bool) → reply_after_reply here own answer reply ≡ reply
+  reply-other : (own : Bool) (answer : JobOutcome) (reply : Option JobOutcome) → own ≡ false → (here : Bool) → reply_after_reply here own answer reply ≡ reply
   reply-other true answer reply e here = absurd (true≢false e)
   reply-other false answer reply e true = refl
   reply-other false answer reply e false = refl
@@ -346,96 +367,103 @@ module _ {J A : Type 0} (job_of : J → CoreJob) (answer_of : A → JobAnswer) w
   serves-one (Took c job) client d e other = ne_eqb c d (λ same. other (sym same ∙ eqb-true c client e))
   serves-one (Worked c job answer) client d e other = ne_eqb c d (λ same. other (sym same ∙ eqb-true c client e))
 
-  pub replies : (o : Opening) (es : List CoreEvent) (mail client : ℕ) (answer : A) (m : MailState J A)
-      → IsCoreRun o (At mail (event.Reply client (answer_of answer)) ∷ es) → IsMailOf job_of answer_of mail es m → client < length m.places
+  pub replies : (o : Opening) (es : List CoreEvent) (mail client : ℕ) (served : CoreJob) (answer : A) (outcome : JobOutcome)
+      (m : MailState J A) → job_served (worker_of mail es) ≡ Some served → stands_for served answer outcome → IsCoreRun o (At mail (event.Reply client outcome) ∷ es) → IsMailOf job_of stands_for mail es m → client < length m.places
       → (place_of m client ≡ Out)
-      × IsMailOf job_of answer_of mail (At mail (event.Reply client (answer_of answer)) ∷ es) (after_reply m client answer)
-  replies o es mail client answer m run f known =
-      let out = may-reply o mail client (answer_of answer) es run in
-      let later = At mail (event.Reply client (answer_of answer)) ∷ es in
+      × IsMailOf job_of stands_for mail (At mail (event.Reply client outcome) ∷ es) (after_reply m client answer)
+  replies o es mail client served answer outcome m is stands run f known =
+      let out = may-reply o mail client outcome es run in
+      let later = At mail (event.Reply client outcome) ∷ es in
       let worker : worker_of mail later ≡ Free =
-      ap (λ (b : Bool). worker_after b (event.Reply client (answer_of answer)) (worker_of mail es)) (same_number mail)
+      ap (λ (b : Bool). worker_after b (event.Reply client outcome) (worker_of mail es)) (same_number mail)
       in (
-        out-place answer_of (place_of m client) mail client es (f.places client known) out.worker,
+        out-place stands_for (place_of m client) mail client es (f.places client known) out.worker,
         record {
           posted = f.posted;
           places = places-set mail client es m.places (Answered answer) later
               (λ l. record {
-                letter = out.letter;
-                worker = ap (is_serving client) worker;
-                reply = λ i. reply_after_reply (same_number mail i) (same_number client i) (answer_of answer) (reply_for mail client es);
+                job = served;
+                outcome = outcome;
+                asked = served-is-last o es mail client served run.0 out.worker is;
+                stands = stands;
+                there = record {
+                  letter = out.letter;
+                  worker = ap (is_serving client) worker;
+                  reply = λ i. reply_after_reply (same_number mail i) (same_number client i) outcome (reply_for mail client es);
+                };
               })
-              (λ d l other. place-as answer_of (place_of m d) mail d es later refl
+              (λ d l other. place-as stands_for (place_of m d) mail d es later refl
               (ap (is_serving d) worker ∙ sym (serves-one (worker_of mail es) client d out.worker other))
-              (reply-other (client == d) (answer_of answer) (reply_for mail d es) (ne_eqb client d (λ same. other (sym same))) (mail == mail)) (f.places d l));
+              (reply-other (client == d) outcome (reply_for mail d es) (ne_eqb client d (λ same. other (sym same))) (mail == mail)) refl (f.places d l));
           closed = f.closed;
         },
       )
 
   -- Close, and all that is not on the mail.
 
-  pub closes : (es : List CoreEvent) (mail client : ℕ) (m : MailState J A) → IsMailOf job_of answer_of mail es m
-      → IsMailOf job_of answer_of mail (By client (CloseMail mail) ∷ es) (after_close m)
+  pub closes : (es : List CoreEvent) (mail client : ℕ) (m : MailState J A) → IsMailOf job_of stands_for mail es m
+      → IsMailOf job_of stands_for mail (By client (CloseMail mail) ∷ es) (after_close m)
   closes es mail client m f = record {
     posted = f.posted;
-    places = λ d l. place-as answer_of (place_of m d) mail d es (By client (CloseMail mail) ∷ es) refl refl refl (f.places d l);
-    closed = λ i. sym (same_number mail) i || is_closed mail es;
+    places = λ d l. place-as stands_for (place_of m d) mail d es (By client (CloseMail mail) ∷ es) refl refl refl refl (f.places d l);
+    closed = λ i. sym (same_number mail) i || is_mail_closed mail es;
   }
 
   as-before : (es later : List CoreEvent) (mail : ℕ) (m : MailState J A) → queue_of mail later ≡ queue_of mail es
       → ((d : ℕ) → is_serving d (worker_of mail later) ≡ is_serving d (worker_of mail es))
-      → ((d : ℕ) → reply_for mail d later ≡ reply_for mail d es) → is_closed mail later ≡ is_closed mail es
-      → IsMailOf job_of answer_of mail es m → IsMailOf job_of answer_of mail later m
-  as-before es later mail m q w r c f = record {
+      → ((d : ℕ) → reply_for mail d later ≡ reply_for mail d es) → is_mail_closed mail later ≡ is_mail_closed mail es
+      → ((d : ℕ) → last_post mail d later ≡ last_post mail d es)
+      → IsMailOf job_of stands_for mail es m → IsMailOf job_of stands_for mail later m
+  as-before es later mail m q w r c a f = record {
     posted = f.posted ∙ sym q;
-    places = λ d l. place-as answer_of (place_of m d) mail d es later (ap (has_letter_of d) q) (w d) (r d) (f.places d l);
+    places = λ d l. place-as stands_for (place_of m d) mail d es later (ap (has_letter_of d) q) (w d) (r d) (a d) (f.places d l);
     closed = f.closed ∙ sym c;
   }
 
-  fetch-elsewhere : (here own : Bool) (reply : Option JobAnswer) → here ≡ false → reply_after_fetch here own reply ≡ reply
+  fetch-elsewhere : (here own : Bool) (reply : Option JobOutcome) → here ≡ false → reply_after_fetch here own reply ≡ reply
   fetch-elsewhere true own reply e = absurd (true≢false e)
   fetch-elsewhere false own reply e = refl
 
-  reply-elsewhere : (here own : Bool) (answer : JobAnswer) (reply : Option JobAnswer) → here ≡ false → reply_after_reply here own answer reply ≡ reply
+  reply-elsewhere : (here own : Bool) (answer : JobOutcome) (reply : Option JobOutcome) → here ≡ false → reply_after_reply here own answer reply ≡ reply
   reply-elsewhere true own answer reply e = absurd (true≢false e)
   reply-elsewhere false own answer reply e = refl
 
-  work-serves : (here : Bool) (d : ℕ) (job : CoreJob) (answer : JobAnswer) (worker : WorkerState)
+  work-serves : (here : Bool) (d : ℕ) (job : CoreJob) (answer : JobOutcome) (worker : WorkerState)
       → is_serving d (worker_after here (Work job answer) worker) ≡ is_serving d worker
   work-serves true d job answer Free = refl
   work-serves true d job answer (Took c j) = refl
   work-serves true d job answer (Worked c j x) = refl
   work-serves false d job answer worker = refl
 
-  work-queue : (here : Bool) (job : CoreJob) (answer : JobAnswer) (queue : List Letter) → queue_after_move here (Work job answer) queue ≡ queue
+  work-queue : (here : Bool) (job : CoreJob) (answer : JobOutcome) (queue : List Letter) → queue_after_move here (Work job answer) queue ≡ queue
   work-queue true job answer queue = refl
   work-queue false job answer queue = refl
 
   pub others : (es : List CoreEvent) (mail : ℕ) (e : CoreEvent) (m : MailState J A) → is_on_mail mail e ≡ false
-      → IsMailOf job_of answer_of mail es m → IsMailOf job_of answer_of mail (e ∷ es) m
+      → IsMailOf job_of stands_for mail es m → IsMailOf job_of stands_for mail (e ∷ es) m
   others es mail (By client (event.Post other job)) m off f =
-      as-before es (By client (event.Post other job) ∷ es) mail m (λ i. queue_after_post (off i) client job (queue_of mail es)) (λ d. refl) (λ d. refl) refl f
+      as-before es (By client (event.Post other job) ∷ es) mail m (λ i. queue_after_post (off i) client job (queue_of mail es)) (λ d. refl) (λ d. refl) refl (λ d i. last_after_post (off i) (client == d) job (last_post mail d es)) f
   others es mail (By client (event.Fetch other answer)) m off f =
       as-before es (By client (event.Fetch other answer) ∷ es) mail m refl (λ d. refl)
-      (λ d. fetch-elsewhere (other == mail) (client == d) (reply_for mail d es) off) refl f
+      (λ d. fetch-elsewhere (other == mail) (client == d) (reply_for mail d es) off) refl (λ d. refl) f
   others es mail (By client (CloseMail other)) m off f =
-      as-before es (By client (CloseMail other) ∷ es) mail m refl (λ d. refl) (λ d. refl) (λ i. off i || is_closed mail es) f
-  others es mail (By client (OnDesk call)) m off f = as-before es (By client (OnDesk call) ∷ es) mail m refl (λ d. refl) (λ d. refl) refl f
-  others es mail (By client (OnNames call)) m off f = as-before es (By client (OnNames call) ∷ es) mail m refl (λ d. refl) (λ d. refl) refl f
-  others es mail (By client NoChange) m off f = as-before es (By client NoChange ∷ es) mail m refl (λ d. refl) (λ d. refl) refl f
+      as-before es (By client (CloseMail other) ∷ es) mail m refl (λ d. refl) (λ d. refl) (λ i. off i || is_mail_closed mail es) (λ d. refl) f
+  others es mail (By client (OnDesk call)) m off f = as-before es (By client (OnDesk call) ∷ es) mail m refl (λ d. refl) (λ d. refl) refl (λ d. refl) f
+  others es mail (By client (OnNames call)) m off f = as-before es (By client (OnNames call) ∷ es) mail m refl (λ d. refl) (λ d. refl) refl (λ d. refl) f
+  others es mail (By client NoChange) m off f = as-before es (By client NoChange ∷ es) mail m refl (λ d. refl) (λ d. refl) refl (λ d. refl) f
   others es mail (At other (event.Take client job)) m off f =
       as-before es (At other (event.Take client job) ∷ es) mail m (λ i. queue_after_take (off i) (queue_of mail es))
-      (λ d i. is_serving d (worker_after (off i) (event.Take client job) (worker_of mail es))) (λ d. refl) refl f
+      (λ d i. is_serving d (worker_after (off i) (event.Take client job) (worker_of mail es))) (λ d. refl) refl (λ d. refl) f
   others es mail (At other (NoJob closed)) m off f =
       as-before es (At other (NoJob closed) ∷ es) mail m (λ i. queue_after_move (off i) (NoJob closed) (queue_of mail es))
-      (λ d i. is_serving d (worker_after (off i) (NoJob closed) (worker_of mail es))) (λ d. refl) refl f
+      (λ d i. is_serving d (worker_after (off i) (NoJob closed) (worker_of mail es))) (λ d. refl) refl (λ d. refl) f
   others es mail (At other (event.Reply client answer)) m off f =
       as-before es (At other (event.Reply client answer) ∷ es) mail m (λ i. queue_after_move (off i) (event.Reply client answer) (queue_of mail es))
       (λ d i. is_serving d (worker_after (off i) (event.Reply client answer) (worker_of mail es)))
-      (λ d. reply-elsewhere (other == mail) (client == d) answer (reply_for mail d es) off) refl f
+      (λ d. reply-elsewhere (other == mail) (client == d) answer (reply_for mail d es) off) refl (λ d. refl) f
   others es mail (At other (Work job answer)) m off f =
       as-before es (At other (Work job answer) ∷ es) mail m (work-queue (other == mail) job answer (queue_of mail es))
-      (λ d. work-serves (other == mail) d job answer (worker_of mail es)) (λ d. refl) refl f
+      (λ d. work-serves (other == mail) d job answer (worker_of mail es)) (λ d. refl) refl (λ d. refl) f
 
   -- A new mail.
 
@@ -444,9 +472,9 @@ module _ {J A : Type 0} (job_of : J → CoreJob) (answer_of : A → JobAnswer) w
   new-place (suc n) zero = refl
   new-place (suc n) (suc client) = new-place n client
 
-  pub opens : (mail clients : ℕ) → IsMailOf job_of answer_of mail [] (new_mail clients)
+  pub opens : (mail clients : ℕ) → IsMailOf job_of stands_for mail [] (new_mail clients)
   opens mail clients = record {
     posted = refl;
-    places = λ d l. subst (λ (p : Place A). IsPlaceIn answer_of p mail d []) (sym (new-place clients d)) (record { letter = refl; worker = refl; reply = refl });
+    places = λ d l. subst (λ (p : Place A). IsPlaceIn stands_for p mail d []) (sym (new-place clients d)) (record { letter = refl; worker = refl; reply = refl });
     closed = refl;
   }

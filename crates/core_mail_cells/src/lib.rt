@@ -3,5 +3,7 @@
 #![tactic(auto)]
 
 mod law;
+mod outcome;
 
 pub use law::mails_are_what_events_make;
+pub use outcome::StandsForOutcome;

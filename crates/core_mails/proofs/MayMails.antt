@@ -4,7 +4,7 @@ use Rattle.core_events.specs.Cells.{Letter, WorkerState, Free, Took, Worked, que
 use Rattle.core_events.specs.Clients.{client_state}
 use Rattle.core_events.specs.Events.{Opening, flusher, Post, Reply, CoreEvent, By, At}
 use Rattle.core_events.specs.Fitting.{FitsWork, RoundProgress, round_progress}
-use Rattle.core_events.specs.Jobs.{CoreJob, JobAnswer}
+use Rattle.core_events.specs.Jobs.{CoreJob, JobOutcome}
 use Rattle.core_events.specs.Runs.{IsCoreRun}
 use Rattle.core_mails.specs.Histories.{has_letter_of, is_serving, HasNoJob, HasJobOut}
 use Rattle.core_mails.proofs.Places.{JobPlace, Nowhere, place, Lacks, IsBusy, FitsPlaces, lacks-unasked, nowhere-asked, nowhere-answered, asked-answered}
@@ -14,11 +14,11 @@ pub no-letter : (a : ℕ) (queue : List Letter) → Lacks a queue → has_letter
 no-letter a [] lacks = refl
 no-letter a (x ∷ queue) lacks = λ i. ne_eqb x.client a lacks.0 i || no-letter a queue lacks.1 i
 
-none-where : (o : Option JobAnswer) → ((answer : JobAnswer) → o ≡ Some answer → ⊥) → o ≡ None
+none-where : (o : Option JobOutcome) → ((answer : JobOutcome) → o ≡ Some answer → ⊥) → o ≡ None
 none-where None never = refl
 none-where (Some answer) never = absurd (never answer refl)
 
-not-serving : (places : ℕ → JobPlace) (queue : List Letter) (replies : ℕ → Option JobAnswer) (a : ℕ) (worker : WorkerState)
+not-serving : (places : ℕ → JobPlace) (queue : List Letter) (replies : ℕ → Option JobOutcome) (a : ℕ) (worker : WorkerState)
     → places a ≡ Nowhere → IsBusy places queue replies worker → is_serving a worker ≡ false
 not-serving places queue replies a Free nowhere busy = refl
 not-serving places queue replies a (Took c job) nowhere busy =
@@ -43,8 +43,8 @@ may-post o a mail job es run =
           let there = f.held a answer held in nowhere-answered there.0 answer (sym nowhere ∙ there.1));
     }
 
-out-at : (places : ℕ → JobPlace) (queue : List Letter) (replies : ℕ → Option JobAnswer) (q : RoundProgress) (lost : Bool)
-    (worker : WorkerState) (to : ℕ) (said : JobAnswer) → FitsWork q lost worker (Reply to said)
+out-at : (places : ℕ → JobPlace) (queue : List Letter) (replies : ℕ → Option JobOutcome) (q : RoundProgress) (lost : Bool)
+    (worker : WorkerState) (to : ℕ) (said : JobOutcome) → FitsWork q lost worker (Reply to said)
     → FitsPlaces places queue replies worker → HasJobOut queue (replies to) worker to
 out-at places queue replies q lost Free to said fits f = absurd fits
 out-at places queue replies q lost (Took c job) to said fits f =
@@ -63,7 +63,7 @@ out-at places queue replies q lost (Worked c job answer) to said fits f =
       reply = ap replies fits.0 ∙ f.busy.unsaid;
     }
 
-pub may-reply : (o : Opening) (mail client : ℕ) (answer : JobAnswer) (es : List CoreEvent)
+pub may-reply : (o : Opening) (mail client : ℕ) (answer : JobOutcome) (es : List CoreEvent)
     → IsCoreRun o (At mail (Reply client answer) ∷ es)
     → HasJobOut (queue_of mail es) (reply_for mail client es) (worker_of mail es) client
 may-reply o mail client answer es run =

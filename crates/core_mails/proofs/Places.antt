@@ -3,7 +3,7 @@ use Rattle.std.proofs.Common.{◌≡◌, ◌∙◌, ℕ, ◌==◌, Bool, true, f
 use Rattle.std.proofs.lemmas.Bool.{false≢true}
 use Rattle.std.proofs.lemmas.Bool.Decides.{eqb_tells}
 use Rattle.std.proofs.lemmas.Option.{none-some, same_Some}
-use Rattle.core_events.specs.Jobs.{CoreJob, JobAnswer}
+use Rattle.core_events.specs.Jobs.{CoreJob, JobOutcome}
 use Rattle.core_events.specs.Events.{ClientCall, Post, Fetch, WorkerMove, CoreEvent, By, At}
 use Rattle.core_events.specs.Cells.{Letter, letter, WorkerState, Free, Took, Worked, worker_of}
 use Rattle.core_mails.specs.Histories.{DoneJob, job_done}
@@ -12,7 +12,7 @@ use Rattle.core_mails.specs.Histories.{DoneJob, job_done}
 pub data JobPlace : Type 0 where
   Nowhere : JobPlace
   Asked : (job : CoreJob) → JobPlace
-  Answered : (job : CoreJob) (answer : JobAnswer) → JobPlace
+  Answered : (job : CoreJob) (answer : JobOutcome) → JobPlace
 
 abbrev pub is_out : JobPlace → Bool
 is_out Nowhere = false
@@ -27,10 +27,10 @@ is_done (Answered job answer) = true
 pub nowhere-asked : (job : CoreJob) → Nowhere ≡ Asked job → ⊥
 nowhere-asked job e = false≢true (ap is_out e)
 
-pub nowhere-answered : (job : CoreJob) (answer : JobAnswer) → Nowhere ≡ Answered job answer → ⊥
+pub nowhere-answered : (job : CoreJob) (answer : JobOutcome) → Nowhere ≡ Answered job answer → ⊥
 nowhere-answered job answer e = false≢true (ap is_out e)
 
-pub asked-answered : (job other : CoreJob) (answer : JobAnswer) → Asked job ≡ Answered other answer → ⊥
+pub asked-answered : (job other : CoreJob) (answer : JobOutcome) → Asked job ≡ Answered other answer → ⊥
 asked-answered job other answer e = false≢true (ap is_done e)
 
 -- The place after a call and after a move. The tests say whether it is on this mail, and whether it is this client's.
@@ -86,21 +86,21 @@ pub record HasTaken (places : ℕ → JobPlace) (queue : List Letter) (client : 
   pub asked : places client ≡ Asked job
   pub lacks : Lacks client queue
 
-pub record HasWorked (places : ℕ → JobPlace) (replies : ℕ → Option JobAnswer) (client : ℕ) (job : CoreJob)
-    (answer : JobAnswer) : Type 0 where
+pub record HasWorked (places : ℕ → JobPlace) (replies : ℕ → Option JobOutcome) (client : ℕ) (job : CoreJob)
+    (answer : JobOutcome) : Type 0 where
   pub answered : places client ≡ Answered job answer
   pub unsaid : replies client ≡ None
 
-abbrev pub IsBusy : (ℕ → JobPlace) → List Letter → (ℕ → Option JobAnswer) → WorkerState → Type 0
+abbrev pub IsBusy : (ℕ → JobPlace) → List Letter → (ℕ → Option JobOutcome) → WorkerState → Type 0
 IsBusy places queue replies Free = Unit {0}
 IsBusy places queue replies (Took client job) = HasTaken places queue client job
 IsBusy places queue replies (Worked client job answer) = HasWorked places replies client job answer
 
 -- A mail and its worker go with the places.
-pub record FitsPlaces (places : ℕ → JobPlace) (queue : List Letter) (replies : ℕ → Option JobAnswer)
+pub record FitsPlaces (places : ℕ → JobPlace) (queue : List Letter) (replies : ℕ → Option JobOutcome)
     (worker : WorkerState) : Type 0 where
   pub letters : AreQueued places queue
-  pub held : (a : ℕ) (answer : JobAnswer) → replies a ≡ Some answer → (job : CoreJob) × (places a ≡ Answered job answer)
+  pub held : (a : ℕ) (answer : JobOutcome) → replies a ≡ Some answer → (job : CoreJob) × (places a ≡ Answered job answer)
   pub busy : IsBusy places queue replies worker
 
 -- A client whose job is not asked has no letter.
@@ -133,7 +133,7 @@ queued-more places (y ∷ queue) x asked lacks q = (
 )
 
 -- A client posts a job where it has none.
-pub after-post : (old new : ℕ → JobPlace) (queue : List Letter) (replies : ℕ → Option JobAnswer) (worker : WorkerState)
+pub after-post : (old new : ℕ → JobPlace) (queue : List Letter) (replies : ℕ → Option JobOutcome) (worker : WorkerState)
     (a : ℕ) (job : CoreJob) → old a ≡ Nowhere → new a ≡ Asked job → OthersStay old new a
     → FitsPlaces old queue replies worker → FitsPlaces new (queue ++ letter a job ∷ []) replies worker
 after-post old new queue replies worker a job free asked stay f = record {
@@ -156,8 +156,8 @@ after-post old new queue replies worker a job free asked stay f = record {
       record { answered = stay c apart ∙ b.answered; unsaid = b.unsaid }
 
 -- A client fetches the answer that is held for it.
-pub after-fetch : (old new : ℕ → JobPlace) (queue : List Letter) (replies less : ℕ → Option JobAnswer)
-    (worker : WorkerState) (a : ℕ) (answer : JobAnswer) → replies a ≡ Some answer → less a ≡ None
+pub after-fetch : (old new : ℕ → JobPlace) (queue : List Letter) (replies less : ℕ → Option JobOutcome)
+    (worker : WorkerState) (a : ℕ) (answer : JobOutcome) → replies a ≡ Some answer → less a ≡ None
     → ((c : ℕ) → (c ≡ a → ⊥) → less c ≡ replies c) → OthersStay old new a
     → FitsPlaces old queue replies worker → FitsPlaces new queue less worker
 after-fetch old new queue replies less worker a answer there none others stay f = record {
@@ -186,7 +186,7 @@ after-fetch old new queue replies less worker a answer there none others stay f 
       record { answered = stay c apart ∙ b.answered; unsaid = others c apart ∙ b.unsaid }
 
 -- A worker takes the oldest letter.
-pub after-take : (places : ℕ → JobPlace) (queue : List Letter) (replies : ℕ → Option JobAnswer) (a : ℕ) (job : CoreJob)
+pub after-take : (places : ℕ → JobPlace) (queue : List Letter) (replies : ℕ → Option JobOutcome) (a : ℕ) (job : CoreJob)
     → FitsPlaces places (letter a job ∷ queue) replies Free → FitsPlaces places queue replies (Took a job)
 after-take places queue replies a job f = record {
   letters = f.letters.1;
@@ -195,16 +195,16 @@ after-take places queue replies a job f = record {
 }
 
 -- Nothing is held for a client whose job is asked.
-none-held : (places : ℕ → JobPlace) (replies : ℕ → Option JobAnswer) (a : ℕ) (job : CoreJob) (o : Option JobAnswer)
-    → ((answer : JobAnswer) → replies a ≡ Some answer → (other : CoreJob) × (places a ≡ Answered other answer))
+none-held : (places : ℕ → JobPlace) (replies : ℕ → Option JobOutcome) (a : ℕ) (job : CoreJob) (o : Option JobOutcome)
+    → ((answer : JobOutcome) → replies a ≡ Some answer → (other : CoreJob) × (places a ≡ Answered other answer))
     → places a ≡ Asked job → replies a ≡ o → replies a ≡ None
 none-held places replies a job None held asked is = is
 none-held places replies a job (Some answer) held asked is =
     let h = held answer is in absurd (asked-answered job h.0 answer (sym asked ∙ h.1))
 
 -- It does the job.
-pub after-work : (old new : ℕ → JobPlace) (queue : List Letter) (replies : ℕ → Option JobAnswer) (a : ℕ) (job : CoreJob)
-    (answer : JobAnswer) → new a ≡ Answered job answer → OthersStay old new a
+pub after-work : (old new : ℕ → JobPlace) (queue : List Letter) (replies : ℕ → Option JobOutcome) (a : ℕ) (job : CoreJob)
+    (answer : JobOutcome) → new a ≡ Answered job answer → OthersStay old new a
     → FitsPlaces old queue replies (Took a job) → FitsPlaces new queue replies (Worked a job answer)
 after-work old new queue replies a job answer done stay f = record {
   letters = queued-others old new queue a stay f.busy.lacks f.letters;
@@ -218,8 +218,8 @@ after-work old new queue replies a job answer done stay f = record {
 }
 
 -- It replies.
-pub after-reply : (places : ℕ → JobPlace) (queue : List Letter) (replies more : ℕ → Option JobAnswer) (a : ℕ)
-    (job : CoreJob) (answer : JobAnswer) → more a ≡ Some answer → ((c : ℕ) → (c ≡ a → ⊥) → more c ≡ replies c)
+pub after-reply : (places : ℕ → JobPlace) (queue : List Letter) (replies more : ℕ → Option JobOutcome) (a : ℕ)
+    (job : CoreJob) (answer : JobOutcome) → more a ≡ Some answer → ((c : ℕ) → (c ≡ a → ⊥) → more c ≡ replies c)
     → FitsPlaces places queue replies (Worked a job answer) → FitsPlaces places queue more Free
 after-reply places queue replies more a job answer there others f = record {
   letters = f.letters;
@@ -233,8 +233,8 @@ after-reply places queue replies more a job answer there others f = record {
 }
 
 -- The flusher replies at once.
-pub after-flush : (old new : ℕ → JobPlace) (queue : List Letter) (replies more : ℕ → Option JobAnswer) (a : ℕ)
-    (job : CoreJob) (answer : JobAnswer) → new a ≡ Answered job answer → OthersStay old new a → more a ≡ Some answer
+pub after-flush : (old new : ℕ → JobPlace) (queue : List Letter) (replies more : ℕ → Option JobOutcome) (a : ℕ)
+    (job : CoreJob) (answer : JobOutcome) → new a ≡ Answered job answer → OthersStay old new a → more a ≡ Some answer
     → ((c : ℕ) → (c ≡ a → ⊥) → more c ≡ replies c)
     → FitsPlaces old queue replies (Took a job) → FitsPlaces new queue more Free
 after-flush old new queue replies more a job answer done stay there others f =

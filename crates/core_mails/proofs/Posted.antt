@@ -4,21 +4,21 @@ use Rattle.std.proofs.Common.{◌≡◌, ◌⊎◌, ◌∙◌, ℕ, ◌==◌, Bo
 use Rattle.std.proofs.lemmas.Bool.{false≢true}
 use Rattle.std.proofs.lemmas.Option.{none-some, same_Some}
 use Rattle.aosi_desk.specs.declared.cube.CubeFound.TheVariants.{Found, Unknown}
-use Rattle.core_events.specs.Jobs.{CoreJob, JobAnswer}
+use Rattle.core_events.specs.Jobs.{CoreJob, JobOutcome}
 use Rattle.core_events.specs.Events.{Opening, flusher, OpenWrite, OpenRead, Commit, AbortEnd, CloseRead, TakeNote, CreateCube, FindCube, CubesFrom, CountersNow, RoundOpen, RoundClose, StoreFailed, ClientCall, OnDesk, OnNames, Post, Fetch, CloseMail, NoChange, WorkerMove, Take, NoJob, Work, Reply, CoreEvent, By, At}
 use Rattle.core_events.specs.Groups.{JobGroup, no_group, kind_of, has_number, is_empty, has_ended, is_ready, is_complete, is_spoiled, has_refusal, mails_of}
 use Rattle.core_events.specs.Clients.{ClientState, client_state, client_after_call, ends_group}
 use Rattle.core_events.specs.Cells.{Letter, letter, queue_of, queue_after_post, queue_after_move, reply_for, reply_after_fetch, reply_after_move, reply_after_reply, WorkerState, Free, Took, Worked, worker_of, worker_after}
 use Rattle.core_events.specs.Fitting.{FitsCall, FitsWork, RoundProgress, BeginsGroup, JoinsGroup, round_progress}
 use Rattle.core_events.specs.Runs.{IsCoreRun, CallSays, MoveSays, IsOldest}
-use Rattle.core_mails.specs.Histories.{DoneJob, job_done, posts_of, letters_after, takes_of, takes_after, jobs_done, done_after, letters_of, job_to_come, last_post, last_after_post, done_since_post, since_after_post, since_after_move, with_own_done, IsAnswered}
-use Rattle.core_mails.proofs.Places.{JobPlace, Nowhere, Asked, Answered, is_out, place, place_after_post, place_after_fetch, place_after_call, place_where, place_with_done, place_after_move, FitsPlaces, after-post, after-fetch, after-take, after-work, after-reply, after-flush}
+use Rattle.core_mails.specs.Histories.{DoneJob, job_done, posts_of, letters_after, takes_of, takes_after, jobs_done, done_after, letters_of, job_to_come, last_post, last_after_post, done_since_post, since_after_post, since_after_move, with_own_done, is_serving, job_served, IsAnswered}
+use Rattle.core_mails.proofs.Places.{JobPlace, Nowhere, Asked, Answered, is_out, place, place_after_post, place_after_fetch, place_after_call, place_where, place_with_done, place_after_move, IsBusy, FitsPlaces, after-post, after-fetch, after-take, after-work, after-reply, after-flush}
 use Rattle.core_desk.proofs.Finished.{has-without}
 
 -- A client's calls.
 
 post-fits : (here : Bool) (b : ℕ) (job : CoreJob) (places : ℕ → JobPlace) (queue : List Letter)
-    (replies : ℕ → Option JobAnswer) (worker : WorkerState) → (here ≡ true → places b ≡ Nowhere)
+    (replies : ℕ → Option JobOutcome) (worker : WorkerState) → (here ≡ true → places b ≡ Nowhere)
     → FitsPlaces places queue replies worker
     → FitsPlaces (λ a. place_after_post here (b == a) job (places a)) (queue_after_post here b job queue) replies worker
 post-fits true b job places queue replies worker free f =
@@ -27,8 +27,8 @@ post-fits true b job places queue replies worker free f =
     (λ c apart. ap (λ (x : Bool). place_after_post true x job (places c)) (ne_eqb b c (λ same. apart (sym same)))) f
 post-fits false b job places queue replies worker free f = f
 
-fetch-fits : (here : Bool) (b : ℕ) (answer : JobAnswer) (places : ℕ → JobPlace) (queue : List Letter)
-    (replies : ℕ → Option JobAnswer) (worker : WorkerState) → (here ≡ true → replies b ≡ Some answer)
+fetch-fits : (here : Bool) (b : ℕ) (answer : JobOutcome) (places : ℕ → JobPlace) (queue : List Letter)
+    (replies : ℕ → Option JobOutcome) (worker : WorkerState) → (here ≡ true → replies b ≡ Some answer)
     → FitsPlaces places queue replies worker
     → FitsPlaces (λ a. place_after_fetch here (b == a) (places a)) queue (λ a. reply_after_fetch here (b == a) (replies a)) worker
 fetch-fits true b answer places queue replies worker there f =
@@ -169,15 +169,15 @@ call-tied o false a NoChange k mail p fits e = e
 
 -- A worker's moves.
 
-take-fits : (places : ℕ → JobPlace) (queue : List Letter) (replies : ℕ → Option JobAnswer) (client : ℕ) (job : CoreJob)
+take-fits : (places : ℕ → JobPlace) (queue : List Letter) (replies : ℕ → Option JobOutcome) (client : ℕ) (job : CoreJob)
     → IsOldest client job queue → FitsPlaces places queue replies Free
     → FitsPlaces places (queue_after_move true (Take client job) queue) replies (Took client job)
 take-fits places [] replies client job says f = absurd says
 take-fits places (first ∷ queue) replies client job says f =
     after-take places queue replies client job (coe 0 1 (i. FitsPlaces places (says i ∷ queue) replies Free) f)
 
-work-fits : (places : ℕ → JobPlace) (queue : List Letter) (replies : ℕ → Option JobAnswer) (client : ℕ)
-    (job made : CoreJob) (answer : JobAnswer) → made ≡ job → FitsPlaces places queue replies (Took client job)
+work-fits : (places : ℕ → JobPlace) (queue : List Letter) (replies : ℕ → Option JobOutcome) (client : ℕ)
+    (job made : CoreJob) (answer : JobOutcome) → made ≡ job → FitsPlaces places queue replies (Took client job)
     → FitsPlaces (λ a. place_where (client == a) (Answered made answer) (places a)) queue replies (Worked client job answer)
 work-fits places queue replies client job made answer same f =
     after-work places (λ a. place_where (client == a) (Answered made answer) (places a)) queue replies client job answer
@@ -185,8 +185,8 @@ work-fits places queue replies client job made answer same f =
     ∙ ap (λ (j : CoreJob). Answered j answer) same)
     (λ c apart. ap (λ (x : Bool). place_where x (Answered made answer) (places c)) (ne_eqb client c (λ e. apart (sym e)))) f
 
-reply-fits : (places : ℕ → JobPlace) (queue : List Letter) (replies : ℕ → Option JobAnswer) (client to : ℕ)
-    (job : CoreJob) (answer said : JobAnswer) → to ≡ client → said ≡ answer
+reply-fits : (places : ℕ → JobPlace) (queue : List Letter) (replies : ℕ → Option JobOutcome) (client to : ℕ)
+    (job : CoreJob) (answer said : JobOutcome) → to ≡ client → said ≡ answer
     → FitsPlaces places queue replies (Worked client job answer)
     → FitsPlaces places queue (λ a. reply_after_reply true (to == a) said (replies a)) Free
 reply-fits places queue replies client to job answer said same what f =
@@ -194,8 +194,8 @@ reply-fits places queue replies client to job answer said same what f =
     (ap (λ (x : Bool). reply_after_reply true x said (replies client)) (eq-eqb to client same) ∙ ap Some what)
     (λ c apart. ap (λ (x : Bool). reply_after_reply true x said (replies c)) (ne_eqb to c (λ e. apart (sym e ∙ same)))) f
 
-flush-fits : (places : ℕ → JobPlace) (queue : List Letter) (replies : ℕ → Option JobAnswer) (client to : ℕ)
-    (job : CoreJob) (said : JobAnswer) → to ≡ client → FitsPlaces places queue replies (Took client job)
+flush-fits : (places : ℕ → JobPlace) (queue : List Letter) (replies : ℕ → Option JobOutcome) (client to : ℕ)
+    (job : CoreJob) (said : JobOutcome) → to ≡ client → FitsPlaces places queue replies (Took client job)
     → FitsPlaces (λ a. place_where (to == a) (Answered job said) (places a)) queue
     (λ a. reply_after_reply true (to == a) said (replies a)) Free
 flush-fits places queue replies client to job said same f =
@@ -211,7 +211,7 @@ TakeSays (Take client job) queue = IsOldest client job queue
 TakeSays move queue = Unit {0}
 
 move-fits : (here : Bool) (q : RoundProgress) (lost : Bool) (move : WorkerMove) (places : ℕ → JobPlace)
-    (queue : List Letter) (replies : ℕ → Option JobAnswer) (worker : WorkerState)
+    (queue : List Letter) (replies : ℕ → Option JobOutcome) (worker : WorkerState)
     → (here ≡ true → FitsWork q lost worker move) → (here ≡ true → TakeSays move queue)
     → FitsPlaces places queue replies worker
     → FitsPlaces (λ a. place_after_move here a worker move (places a)) (queue_after_move here move queue)
@@ -238,7 +238,7 @@ move-fits false q lost (Reply to said) places queue replies worker fits says f =
 
 -- A job that is done was asked.
 pub done-asked : (q : RoundProgress) (lost : Bool) (move : WorkerMove) (places : ℕ → JobPlace) (queue : List Letter)
-    (replies : ℕ → Option JobAnswer) (worker : WorkerState) (d : DoneJob) → FitsWork q lost worker move
+    (replies : ℕ → Option JobOutcome) (worker : WorkerState) (d : DoneJob) → FitsWork q lost worker move
     → FitsPlaces places queue replies worker → job_done worker move ≡ Some d → places d.client ≡ Asked d.job
 done-asked q lost (Take client job) places queue replies Free d fits f is = absurd (none-some d is)
 done-asked q lost (Take client job) places queue replies (Took c j) d fits f is = absurd fits
@@ -463,9 +463,27 @@ since-run o (At other move ∷ es) mail a run =
     (coe 0 1 (i. FitsWork q lost (worker_of (same i) es) move) run.1.fits) ((run-posted o es run.0).posted mail) is)
     (since-run o es mail a run.0)
 
-pub fetched-is-done : (o : Opening) (es : List CoreEvent) (mail a : ℕ) (answer : JobAnswer) → IsCoreRun o es
+pub fetched-is-done : (o : Opening) (es : List CoreEvent) (mail a : ℕ) (answer : JobOutcome) → IsCoreRun o es
     → reply_for mail a es ≡ Some answer → IsAnswered mail a answer es
 fetched-is-done o es mail a answer run held =
     let there = ((run-posted o es run).posted mail).held a answer held in
     let f = coe 0 1 (i. SinceFits a (there.1 i) (last_post mail a es) (done_since_post mail a es)) (since-run o es mail a run) in
     record { job = there.0; asked = f.0; once = f.1 }
+
+-- The job of a worker is its client's last.
+last-served : (places : ℕ → JobPlace) (queue : List Letter) (replies : ℕ → Option JobOutcome) (a : ℕ) (job : CoreJob)
+    (worker : WorkerState) (last : Option CoreJob) (done : List DoneJob) → IsBusy places queue replies worker
+    → is_serving a worker ≡ true → job_served worker ≡ Some job → SinceFits a (places a) last done → last ≡ Some job
+last-served places queue replies a job Free last done busy serves is f = absurd (false≢true serves)
+last-served places queue replies a job (Took c j) last done busy serves is f =
+    let asked : places a ≡ Asked j = ap places (sym (eqb-true c a serves)) ∙ busy.asked in
+    (coe 0 1 (i. SinceFits a (asked i) last done) f).0 ∙ is
+last-served places queue replies a job (Worked c j x) last done busy serves is f =
+    let answered : places a ≡ Answered j x = ap places (sym (eqb-true c a serves)) ∙ busy.answered in
+    (coe 0 1 (i. SinceFits a (answered i) last done) f).0 ∙ is
+
+pub served-is-last : (o : Opening) (es : List CoreEvent) (mail a : ℕ) (job : CoreJob) → IsCoreRun o es
+    → is_serving a (worker_of mail es) ≡ true → job_served (worker_of mail es) ≡ Some job → last_post mail a es ≡ Some job
+served-is-last o es mail a job run serves is =
+    last-served (λ c. place mail c es) (queue_of mail es) (λ c. reply_for mail c es) a job (worker_of mail es) (last_post mail a es)
+    (done_since_post mail a es) ((run-posted o es run).posted mail).busy serves is (since-run o es mail a run)

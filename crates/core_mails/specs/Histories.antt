@@ -1,7 +1,7 @@
 -- What was posted to a mail, what its worker took and made, and what became of a client's last job.
 -- Source: this project's own.
 use Rattle.std.specs.Prelude.{◌≡◌, ℕ, Bool, true, false, ◌||◌, ◌==◌, List, [], ◌∷◌, ◌++◌, Option, Some, None, if◌then◌else◌}
-use Rattle.core_events.specs.Jobs.{CoreJob, JobAnswer}
+use Rattle.core_events.specs.Jobs.{CoreJob, JobOutcome}
 use Rattle.core_events.specs.Events.{ClientCall, Post, WorkerMove, Take, Work, Reply, CoreEvent, By, At}
 use Rattle.core_events.specs.Cells.{Letter, letter, WorkerState, Free, Took, Worked, queue_of, reply_for, worker_of}
 
@@ -33,7 +33,7 @@ takes_of mail (At other move ∷ es) = takes_after (other == mail) move (takes_o
 pub record DoneJob : Type 0 where
   pub client : ℕ
   pub job : CoreJob
-  pub answer : JobAnswer
+  pub answer : JobOutcome
 
 -- What a worker's move does of the job that it has taken: it makes it on the shard, or, at the flusher's mail, answers
 -- a FLUSH that was done by the flusher's own calls.
@@ -108,7 +108,7 @@ done_since_post mail client (At other move ∷ es) =
     since_after_move (other == mail) client (worker_of mail es) move (done_since_post mail client es)
 
 -- One job was done for the client since its last post to the mail: the job that was posted, and this was its answer.
-pub record IsAnswered (mail client : ℕ) (answer : JobAnswer) (es : List CoreEvent) : Type 0 where
+pub record IsAnswered (mail client : ℕ) (answer : JobOutcome) (es : List CoreEvent) : Type 0 where
   pub job : CoreJob
   pub asked : last_post mail client es ≡ Some job
   pub once : done_since_post mail client es ≡ record { client = client; job = job; answer = answer } ∷ []
@@ -123,8 +123,14 @@ is_serving client Free = false
 is_serving client (Took other job) = other == client
 is_serving client (Worked other job answer) = other == client
 
+-- The job that a worker has.
+abbrev pub job_served : WorkerState → Option CoreJob
+job_served Free = None
+job_served (Took client job) = Some job
+job_served (Worked client job answer) = Some job
+
 -- The client's job is out: the worker has it, and it has neither a job in the queue nor an answer to fetch.
-pub record HasJobOut (queue : List Letter) (held : Option JobAnswer) (by : WorkerState) (client : ℕ) : Type 0 where
+pub record HasJobOut (queue : List Letter) (held : Option JobOutcome) (by : WorkerState) (client : ℕ) : Type 0 where
   pub letter : has_letter_of client queue ≡ false
   pub worker : is_serving client by ≡ true
   pub reply : held ≡ None

@@ -5,7 +5,7 @@ use Rattle.std.proofs.lemmas.List.Elements.{recursion_from_All, All-from_recursi
 use Rattle.cube_values.specs.declared.row.CodedRow.{CodedRow}
 use Rattle.cube_values.specs.declared.snapshot.Snapshot.{Snapshot}
 use Rattle.cube_values.specs.Spans.{span_has}
-use Rattle.core_events.specs.ShardView.{Epochs}
+use Rattle.core_events.specs.ShardView.{EpochSet}
 use Rattle.core_events.specs.Jobs.{CoreJob, Append, DropBox, Scan, Delta, Rollback, Purge, CopyRound, Flush}
 use Rattle.core_events.specs.Events.{Opening, ClientCall, OnDesk, OnNames, Post, Fetch, CloseMail, NoChange, CoreEvent, By, At}
 use Rattle.core_events.specs.Groups.{has_ended}
@@ -16,7 +16,7 @@ use Rattle.core_events.specs.Runs.{IsCoreRun}
 use Rattle.core_events.specs.Serial.{CubeOperation, PutRows, DropRows, counts_for, operations_with, operations_of, rows_after_transaction, rows_left_below}
 use Rattle.core_events.proofs.Names.{names-grow, told-names}
 use Rattle.core_serial.specs.CubeRows.{rows_of_serial_run}
-use Rattle.core_rows.specs.RowsOfCubes.{IsRowOf}
+use Rattle.core_rows.specs.RowsOfCubes.{IsCubeRow}
 
 -- Facts on all rows of a list.
 
@@ -46,7 +46,7 @@ more-names o es cube dim e =
     let both = length-append (dictionary_of o cube dim es).names grown.0 in
     omega (arith, same, both)
 
-row-later : (o : Opening) (es : List CoreEvent) (cube : ℕ) (e : CoreEvent) (row : CodedRow) → IsRowOf o es cube row → IsRowOf o (e ∷ es) cube row
+row-later : (o : Opening) (es : List CoreEvent) (cube : ℕ) (e : CoreEvent) (row : CodedRow) → IsCubeRow o es cube row → IsCubeRow o (e ∷ es) cube row
 row-later o es cube e row r = record {
   coords = r.coords;
   metrics = r.metrics;
@@ -60,27 +60,27 @@ row-later o es cube e row r = record {
 
 abbrev PutRowsOf : Opening → List CoreEvent → ℕ → List CubeOperation → Type 0
 PutRowsOf o es cube [] = Unit {0}
-PutRowsOf o es cube (PutRows rows ∷ older) = AllByRecursion (IsRowOf o es cube) rows × PutRowsOf o es cube older
+PutRowsOf o es cube (PutRows rows ∷ older) = AllByRecursion (IsCubeRow o es cube) rows × PutRowsOf o es cube older
 PutRowsOf o es cube (DropRows box ∷ older) = PutRowsOf o es cube older
 
 put-later : (o : Opening) (es : List CoreEvent) (cube : ℕ) (e : CoreEvent) (operations : List CubeOperation) → PutRowsOf o es cube operations
     → PutRowsOf o (e ∷ es) cube operations
 put-later o es cube e [] f = tt
 put-later o es cube e (PutRows rows ∷ older) f =
-    (all-as (IsRowOf o es cube) (IsRowOf o (e ∷ es) cube) rows (λ row r. row-later o es cube e row r) f.0, put-later o es cube e older f.1)
+    (all-as (IsCubeRow o es cube) (IsCubeRow o (e ∷ es) cube) rows (λ row r. row-later o es cube e row r) f.0, put-later o es cube e older f.1)
 put-later o es cube e (DropRows box ∷ older) f = put-later o es cube e older f
 
 -- What is posted.
 
 abbrev JobRows : Opening → List CoreEvent → CoreJob → Type 0
-JobRows o es (Append cube epoch rows) = AllByRecursion (IsRowOf o es cube) rows
+JobRows o es (Append cube epoch rows) = AllByRecursion (IsCubeRow o es cube) rows
 JobRows o es job = Unit {0}
 
 job-rows : (o : Opening) (es : List CoreEvent) (a mail : ℕ) (job : CoreJob) → IsCoreRun o es → FitsCall o a (Post mail job) (client_state o a es)
     → JobRows o es job
 job-rows o es a mail (Append cube epoch rows) run f =
     let k = client_state o a es in
-    all-as (MayPutRow o cube mail k) (IsRowOf o es cube) rows
+    all-as (MayPutRow o cube mail k) (IsCubeRow o es cube) rows
     (λ row r. record {
       coords = r.coords;
       metrics = r.metrics;
@@ -99,7 +99,7 @@ job-rows o es a mail (CopyRound from to) run f = tt
 job-rows o es a mail Flush run f = tt
 
 put-where : (here same : Bool) (o : Opening) (es : List CoreEvent) (cube : ℕ) (rows : List CodedRow) (operations : List CubeOperation)
-    → (here ≡ true → AllByRecursion (IsRowOf o es cube) rows) → PutRowsOf o es cube operations
+    → (here ≡ true → AllByRecursion (IsCubeRow o es cube) rows) → PutRowsOf o es cube operations
     → PutRowsOf o es cube (if here && same then PutRows rows ∷ operations else operations)
 put-where true true o es cube rows operations f g = (f refl, g)
 put-where true false o es cube rows operations f g = g
@@ -109,7 +109,7 @@ with-job : (o : Opening) (es : List CoreEvent) (cube e : ℕ) (begins : Bool) (j
     → PutRowsOf o es cube operations → PutRowsOf o es cube (operations_with cube e begins job operations)
 with-job o es cube e begins (Append other epoch rows) operations f g =
     put-where (other == cube) (epoch == e) o es cube rows operations
-    (λ here. coe 0 1 (i. AllByRecursion (IsRowOf o es (eqb-true other cube here i)) rows) f) g
+    (λ here. coe 0 1 (i. AllByRecursion (IsCubeRow o es (eqb-true other cube here i)) rows) f) g
 with-job o es cube e begins (DropBox other epoch box) operations f g = dropped (begins && (other == cube && epoch == e))
   where
     dropped : (b : Bool) → PutRowsOf o es cube (if b then DropRows box ∷ operations else operations)
@@ -122,12 +122,12 @@ with-job o es cube e begins (Purge epoch) operations f g = g
 with-job o es cube e begins (CopyRound from to) operations f g = g
 with-job o es cube e begins Flush operations f g = g
 
-kept-where : (here : Bool) (o : Opening) (cube : ℕ) → AllByRecursion (IsRowOf o [] cube) (o.rows cube)
+kept-where : (here : Bool) (o : Opening) (cube : ℕ) → AllByRecursion (IsCubeRow o [] cube) (o.rows cube)
     → PutRowsOf o [] cube (if here then PutRows (o.rows cube) ∷ [] else [])
 kept-where true o cube f = (f, tt)
 kept-where false o cube f = tt
 
-run-put-rows : (o : Opening) (es : List CoreEvent) (cube e : ℕ) → IsCoreRun o es → AllByRecursion (IsRowOf o [] cube) (o.rows cube)
+run-put-rows : (o : Opening) (es : List CoreEvent) (cube e : ℕ) → IsCoreRun o es → AllByRecursion (IsCubeRow o [] cube) (o.rows cube)
     → PutRowsOf o es cube (operations_of o cube es e)
 run-put-rows o [] cube e run kept = kept-where (e == o.safe) o cube kept
 run-put-rows o (By b (Post mail job) ∷ es) cube e run kept =
@@ -150,29 +150,29 @@ run-put-rows o (At mail move ∷ es) cube e run kept =
 -- What is left.
 
 after-rows : (o : Opening) (es : List CoreEvent) (cube : ℕ) (operations : List CubeOperation) (rows : List CodedRow) → PutRowsOf o es cube operations
-    → AllByRecursion (IsRowOf o es cube) rows → AllByRecursion (IsRowOf o es cube) (rows_after_transaction operations rows)
+    → AllByRecursion (IsCubeRow o es cube) rows → AllByRecursion (IsCubeRow o es cube) (rows_after_transaction operations rows)
 after-rows o es cube [] rows f g = g
 after-rows o es cube (PutRows more ∷ older) rows f g =
-    all-append (IsRowOf o es cube) (rows_after_transaction older rows) more (after-rows o es cube older rows f.1 g) f.0
+    all-append (IsCubeRow o es cube) (rows_after_transaction older rows) more (after-rows o es cube older rows f.1 g) f.0
 after-rows o es cube (DropRows box ∷ older) rows f g =
-    all-filter (IsRowOf o es cube) (λ row. not (span_has box row.coords)) (rows_after_transaction older rows) (after-rows o es cube older rows f g)
+    all-filter (IsCubeRow o es cube) (λ row. not (span_has box row.coords)) (rows_after_transaction older rows) (after-rows o es cube older rows f g)
 
-left-rows : (o : Opening) (es : List CoreEvent) (cube limit : ℕ) (set : Epochs) (operations : ℕ → List CubeOperation)
-    → ((e : ℕ) → PutRowsOf o es cube (operations e)) → AllByRecursion (IsRowOf o es cube) (rows_left_below limit set operations)
+left-rows : (o : Opening) (es : List CoreEvent) (cube limit : ℕ) (set : EpochSet) (operations : ℕ → List CubeOperation)
+    → ((e : ℕ) → PutRowsOf o es cube (operations e)) → AllByRecursion (IsCubeRow o es cube) (rows_left_below limit set operations)
 left-rows o es cube zero set operations f = tt
 left-rows o es cube (suc m) set operations f = at (set m) (left-rows o es cube m set operations f)
   where
     left : List CodedRow
     left = rows_left_below m set operations
 
-    at : (b : Bool) → AllByRecursion (IsRowOf o es cube) left
-        → AllByRecursion (IsRowOf o es cube) (if b then rows_after_transaction (operations m) left else left)
+    at : (b : Bool) → AllByRecursion (IsCubeRow o es cube) left
+        → AllByRecursion (IsCubeRow o es cube) (if b then rows_after_transaction (operations m) left else left)
     at true rest = after-rows o es cube (operations m) left (f m) rest
     at false rest = rest
 
-pub serial-rows-of : (o : Opening) (es : List CoreEvent) (cube : ℕ) (s : Snapshot) → IsCoreRun o es → All (IsRowOf o [] cube) (o.rows cube)
-    → All (IsRowOf o es cube) (rows_of_serial_run o es cube s)
+pub serial-rows-of : (o : Opening) (es : List CoreEvent) (cube : ℕ) (s : Snapshot) → IsCoreRun o es → All (IsCubeRow o [] cube) (o.rows cube)
+    → All (IsCubeRow o es cube) (rows_of_serial_run o es cube s)
 serial-rows-of o es cube s run kept =
-    All-from_recursion (IsRowOf o es cube) (rows_of_serial_run o es cube s)
+    All-from_recursion (IsCubeRow o es cube) (rows_of_serial_run o es cube s)
     (left-rows o es cube (s.epoch + 1) (counts_for o es s) (operations_of o cube es)
-    (λ e. run-put-rows o es cube e run (recursion_from_All (IsRowOf o [] cube) (o.rows cube) kept)))
+    (λ e. run-put-rows o es cube e run (recursion_from_All (IsCubeRow o [] cube) (o.rows cube) kept)))

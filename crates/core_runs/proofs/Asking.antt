@@ -4,8 +4,8 @@ use Rattle.std.specs.Option.{option_map_or}
 use Rattle.std.proofs.lemmas.Bool.{false≢true}
 use Rattle.cube_values.specs.declared.query.BoundQuery.{BoundQuery}
 use Rattle.cube_values.specs.declared.snapshot.Snapshot.{Snapshot}
-use Rattle.core_events.specs.Jobs.{CoreJob, Append, DropBox, Scan, Delta, Rollback, Purge, CopyRound, Flush, JobAnswer}
-use Rattle.core_events.specs.Events.{Opening, IsSession, flusher, DeskCall, OpenRead, CloseRead, ClientCall, OnDesk, OnNames, Post, Fetch, CloseMail, NoChange, WorkerMove, CoreEvent, By, At}
+use Rattle.core_events.specs.Jobs.{CoreJob, Append, DropBox, Scan, Delta, Rollback, Purge, CopyRound, Flush, JobOutcome}
+use Rattle.core_events.specs.Events.{Opening, IsSession, flusher, DeskEvent, OpenRead, CloseRead, ClientCall, OnDesk, OnNames, Post, Fetch, CloseMail, NoChange, WorkerMove, CoreEvent, By, At}
 use Rattle.core_events.specs.Groups.{GroupKind, Asks, kind_of, Received, JobGroup, no_group, has_number, is_empty, has_ended, mails_of, group_after_post}
 use Rattle.core_events.specs.Clients.{Holding, ClientState, client_state, client_after_call, held_under, leader_after, others_hold, ends_group}
 use Rattle.core_events.specs.Cells.{WorkerState, worker_of, queue_of, reply_for}
@@ -65,7 +65,7 @@ post-suits true o other mail job g p is f tied s =
 post-suits false o other mail job g p is f tied s =
     others-suit (has_ended o.shards g) o.shards other mail job g p refl tied s
 
-fetch-suits : (here : Bool) (other mail : ℕ) (answer : JobAnswer) (g h : JobGroup) (p : JobPlace) → (other == mail) ≡ here
+fetch-suits : (here : Bool) (other mail : ℕ) (answer : JobOutcome) (g h : JobGroup) (p : JobPlace) → (other == mail) ≡ here
     → h.kind ≡ g.kind → h.answers ≡ record { mail = other; answer = answer } ∷ g.answers → SuitsAt mail g p
     → SuitsAt mail h (place_after_fetch here true p)
 fetch-suits true other mail answer g h p is kind answers s = tt
@@ -107,7 +107,7 @@ call-suits o false a (OnNames call) k mail p f tied s = s
 call-suits o false a (CloseMail other) k mail p f tied s = s
 call-suits o false a NoChange k mail p f tied s = s
 
-where-suits : (own : Bool) (mail : ℕ) (g : JobGroup) (job : CoreJob) (answer : JobAnswer) (p : JobPlace)
+where-suits : (own : Bool) (mail : ℕ) (g : JobGroup) (job : CoreJob) (answer : JobOutcome) (p : JobPlace)
     → (own ≡ true → p ≡ Asked job) → SuitsAt mail g p → SuitsAt mail g (place_where own (Answered job answer) p)
 where-suits true mail g job answer p asked s = coe 0 1 (i. SuitsAt mail g (asked refl i)) s
 where-suits false mail g job answer p asked s = s
@@ -233,7 +233,7 @@ post-held : (ended : Bool) (o : Opening) (a mail : ℕ) (job : CoreJob) (k : Cli
 post-held true o a mail job k q s f l h e = job-held o a mail job k q s f l e
 post-held false o a mail job k q s f l h e = h q s e
 
-ends-held : (ends : Bool) (o : Opening) (a : ℕ) (call : DeskCall) (k : ClientState) (q : BoundQuery) (s : Snapshot)
+ends-held : (ends : Bool) (o : Opening) (a : ℕ) (call : DeskEvent) (k : ClientState) (q : BoundQuery) (s : Snapshot)
     → ends_group (OnDesk call) ≡ ends → AskHeld o a k → (if ends then no_group else k.group).kind ≡ Asks q s
     → AsksBy o a (client_after_call o true a (OnDesk call) k).holds s
 ends-held true o a call k q s is h e = absurd (false≢true (ap is_asking e))

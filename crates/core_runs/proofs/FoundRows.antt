@@ -10,11 +10,11 @@ use Rattle.cube_values.specs.declared.snapshot.Snapshot.{Snapshot}
 use Rattle.cube_journal.specs.Counters.{held_by}
 use Rattle.brick_address.specs.Addresses.{brick_of}
 use Rattle.core_events.specs.ShardView.{brick_rows_seen, rows_where}
-use Rattle.core_events.specs.Jobs.{CoreJob, Append, DropBox, Scan, Delta, Rollback, Purge, CopyRound, Flush, JobAnswer, Done, ShardFull, Found, Compared, Copied, StoreLost, OutOfMemory, is_refusal}
+use Rattle.core_events.specs.Jobs.{CoreJob, Append, DropBox, Scan, Delta, Rollback, Purge, CopyRound, Flush, JobOutcome, Done, ShardFull, Found, Compared, Copied, StoreLost, OutOfMemory, is_refusal}
 use Rattle.core_events.specs.Events.{Opening, IsSession, flusher, ClientCall, OnDesk, OnNames, Post, Fetch, CloseMail, NoChange, WorkerMove, Take, NoJob, Work, Reply, CoreEvent, By, At}
 use Rattle.core_events.specs.Groups.{GroupKind, Asks, kind_of, JobGroup, no_group, has_number, has_all_below, has_ended, mails_of, has_refusal, numbers_without}
 use Rattle.core_events.specs.Clients.{client_state, client_after_call, ends_group, held_under}
-use Rattle.core_events.specs.Cells.{counters_of_run, view_of, rows_of_brick, brick_after_move, sizes_of_cube, WorkerState, Free, Took, Worked, worker_of}
+use Rattle.core_events.specs.Cells.{counters_of_run, shard_view_of, rows_of_brick, brick_after_move, sizes_of_cube, WorkerState, Free, Took, Worked, worker_of}
 use Rattle.core_events.specs.Fitting.{OwnsWriter, FitsWork, FitsReply, RoundProgress, round_progress}
 use Rattle.core_events.specs.Runs.{IsCoreRun, CallSays, MoveSays, ShardSays, AreByBrick, rows_in_span}
 use Rattle.core_mails.specs.Histories.{DoneJob, job_done}
@@ -31,11 +31,11 @@ use Rattle.core_runs.proofs.Asking.{SuitsAt, AsksBy, is_asking, run-suits, run-h
 abbrev AreAsked : Opening → List CoreEvent → ℕ → BoundQuery → Snapshot → List CodedRow → Type 0
 AreAsked o es mail q s rows = AreByBrick o mail q.cube rows (rows_asked o es q s)
 
-abbrev AnswerFits : Opening → List CoreEvent → ℕ → BoundQuery → Snapshot → JobAnswer → Type 0
+abbrev AnswerFits : Opening → List CoreEvent → ℕ → BoundQuery → Snapshot → JobOutcome → Type 0
 AnswerFits o es mail q s (Found rows) = AreAsked o es mail q s rows
 AnswerFits o es mail q s answer = is_refusal answer ≡ true
 
-abbrev JobAnswerFits : Opening → List CoreEvent → ℕ → CoreJob → JobAnswer → Type 0
+abbrev JobAnswerFits : Opening → List CoreEvent → ℕ → CoreJob → JobOutcome → Type 0
 JobAnswerFits o es mail (Scan q s) answer = AnswerFits o es mail q s answer
 JobAnswerFits o es mail job answer = Unit {0}
 
@@ -104,26 +104,26 @@ asked-stay o es a other (Work job answer) q s run kind brick =
     (job-other o es a made.0 other job q s run.0 asks kind made.1 (asked-fits o es other made.0 job run.0 made.1)))
 asked-stay o es a other (Take client job) q s run kind brick = move-same (other == brick % o.shards)
   where
-    move-same : (here : Bool) → rows_in_span q.span (brick_rows_seen s (brick_after_move o here q.cube brick (Take client job) (view_of o es q.cube brick)))
+    move-same : (here : Bool) → rows_in_span q.span (brick_rows_seen s (brick_after_move o here q.cube brick (Take client job) (shard_view_of o es q.cube brick)))
         ≡ rows_asked o es q s brick
     move-same true = refl
     move-same false = refl
 asked-stay o es a other (NoJob closed) q s run kind brick = move-same (other == brick % o.shards)
   where
-    move-same : (here : Bool) → rows_in_span q.span (brick_rows_seen s (brick_after_move o here q.cube brick (NoJob closed) (view_of o es q.cube brick)))
+    move-same : (here : Bool) → rows_in_span q.span (brick_rows_seen s (brick_after_move o here q.cube brick (NoJob closed) (shard_view_of o es q.cube brick)))
         ≡ rows_asked o es q s brick
     move-same true = refl
     move-same false = refl
 asked-stay o es a other (Reply client answer) q s run kind brick = move-same (other == brick % o.shards)
   where
-    move-same : (here : Bool) → rows_in_span q.span (brick_rows_seen s (brick_after_move o here q.cube brick (Reply client answer) (view_of o es q.cube brick)))
+    move-same : (here : Bool) → rows_in_span q.span (brick_rows_seen s (brick_after_move o here q.cube brick (Reply client answer) (shard_view_of o es q.cube brick)))
         ≡ rows_asked o es q s brick
     move-same true = refl
     move-same false = refl
 
 -- Both facts, over events.
 
-answer-as : (o : Opening) (es later : List CoreEvent) (mail : ℕ) (q : BoundQuery) (s : Snapshot) (answer : JobAnswer)
+answer-as : (o : Opening) (es later : List CoreEvent) (mail : ℕ) (q : BoundQuery) (s : Snapshot) (answer : JobOutcome)
     → ((brick : ℕ) → rows_asked o later q s brick ≡ rows_asked o es q s brick) → AnswerFits o es mail q s answer
     → AnswerFits o later mail q s answer
 answer-as o es later mail q s Done same f = f
@@ -135,7 +135,7 @@ answer-as o es later mail q s (Copied view) same f = f
 answer-as o es later mail q s StoreLost same f = f
 answer-as o es later mail q s OutOfMemory same f = f
 
-job-as : (o : Opening) (es later : List CoreEvent) (mail : ℕ) (job : CoreJob) (answer : JobAnswer)
+job-as : (o : Opening) (es later : List CoreEvent) (mail : ℕ) (job : CoreJob) (answer : JobOutcome)
     → ((q : BoundQuery) (s : Snapshot) → kind_of job ≡ Asks q s → (brick : ℕ) → rows_asked o later q s brick ≡ rows_asked o es q s brick)
     → JobAnswerFits o es mail job answer → JobAnswerFits o later mail job answer
 job-as o es later mail (Append cube epoch rows) answer same f = f
@@ -156,8 +156,8 @@ place-as o es later mail g (Answered job answer) same suits f =
     job-as o es later mail job answer (λ q s kind. same q s (sym suits.kind ∙ kind)) f
 
 -- A new answer is that of the shard.
-says-fits : (o : Opening) (es : List CoreEvent) (mail : ℕ) (job : CoreJob) (answer : JobAnswer)
-    → ShardSays o mail (view_of o es) job answer → JobAnswerFits o es mail job answer
+says-fits : (o : Opening) (es : List CoreEvent) (mail : ℕ) (job : CoreJob) (answer : JobOutcome)
+    → ShardSays o mail (shard_view_of o es) job answer → JobAnswerFits o es mail job answer
 says-fits o es mail (Append cube epoch rows) answer says = tt
 says-fits o es mail (DropBox cube epoch box) answer says = tt
 says-fits o es mail (Scan q s) Done says = absurd says
@@ -174,7 +174,7 @@ says-fits o es mail (CopyRound from to) answer says = tt
 says-fits o es mail Flush answer says = tt
 
 -- A flusher's reply is to no scan.
-reply-fits : (o : Opening) (es : List CoreEvent) (mail : ℕ) (q : RoundProgress) (lost : Bool) (job : CoreJob) (said : JobAnswer)
+reply-fits : (o : Opening) (es : List CoreEvent) (mail : ℕ) (q : RoundProgress) (lost : Bool) (job : CoreJob) (said : JobOutcome)
     → FitsReply q lost job said → JobAnswerFits o es mail job said
 reply-fits o es mail q lost (Append cube epoch rows) said f = tt
 reply-fits o es mail q lost (DropBox cube epoch box) said f = tt
@@ -210,7 +210,7 @@ done-says o es mail q lost (Worked c j x) move d fits says is = absurd (worked-n
     worked-none (Work job answer) e = none-some d e
     worked-none (Reply client answer) e = none-some d e
 
-where-place : (own : Bool) (o : Opening) (es : List CoreEvent) (mail : ℕ) (job : CoreJob) (answer : JobAnswer) (p : JobPlace)
+where-place : (own : Bool) (o : Opening) (es : List CoreEvent) (mail : ℕ) (job : CoreJob) (answer : JobOutcome) (p : JobPlace)
     → (own ≡ true → JobAnswerFits o es mail job answer) → PlaceFits o es mail p → PlaceFits o es mail (place_where own (Answered job answer) p)
 where-place true o es mail job answer p new f = new refl
 where-place false o es mail job answer p new f = f
@@ -278,7 +278,7 @@ rows-where-both true true old new rows asked apart o n = absurd (true≢false (a
 rows-where-both true false old new rows asked apart o n = λ i. o i ++ n i
 rows-where-both false had old new rows asked apart o n = (λ i. o i ++ n i) ∙ append-nil (rows_where had asked)
 
-answer-rows : (o : Opening) (es : List CoreEvent) (mail brick : ℕ) (q : BoundQuery) (s : Snapshot) (answer : JobAnswer)
+answer-rows : (o : Opening) (es : List CoreEvent) (mail brick : ℕ) (q : BoundQuery) (s : Snapshot) (answer : JobOutcome)
     → is_refusal answer ≡ false → AnswerFits o es mail q s answer
     → rows_of_brick o q.cube brick (rows_of_answer answer) ≡ rows_where (brick % o.shards == mail) (rows_asked o es q s brick)
 answer-rows o es mail brick q s Done is f = absurd (false≢true (sym is ∙ f))
@@ -289,7 +289,7 @@ answer-rows o es mail brick q s (Copied view) is f = absurd (false≢true (sym i
 answer-rows o es mail brick q s StoreLost is f = absurd (false≢true (sym is ∙ f))
 answer-rows o es mail brick q s OutOfMemory is f = absurd (false≢true (sym is ∙ f))
 
-scan-answer : (o : Opening) (es : List CoreEvent) (mail : ℕ) (job : CoreJob) (answer : JobAnswer) (q : BoundQuery) (s : Snapshot)
+scan-answer : (o : Opening) (es : List CoreEvent) (mail : ℕ) (job : CoreJob) (answer : JobOutcome) (q : BoundQuery) (s : Snapshot)
     → kind_of job ≡ Asks q s → JobAnswerFits o es mail job answer → AnswerFits o es mail q s answer
 scan-answer o es mail (Append cube epoch rows) answer q s e f = absurd (false≢true (ap is_asking e))
 scan-answer o es mail (DropBox cube epoch box) answer q s e f = absurd (false≢true (ap is_asking e))
@@ -315,7 +315,7 @@ swap-test a b = elim (eqb_tells a b) [
   | inr other ↦ other.0 ∙ sym (ne_eqb b a (λ e. other.1 (sym e)))
 ]
 
-fetch-found : (o : Opening) (es : List CoreEvent) (a mail : ℕ) (answer : JobAnswer) (job : CoreJob) → IsCoreRun o es
+fetch-found : (o : Opening) (es : List CoreEvent) (a mail : ℕ) (answer : JobOutcome) (job : CoreJob) → IsCoreRun o es
     → place mail a es ≡ Answered job answer → HasFound o es (client_state o a es).group
     → HasFound o es (record {
       kind = (client_state o a es).group.kind;

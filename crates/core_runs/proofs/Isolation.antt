@@ -12,11 +12,11 @@ use Rattle.cube_journal.specs.Order.{IsInOrder}
 use Rattle.aosi_register.specs.declared.answer.RoundAnswer.{RoundAnswer}
 use Rattle.aosi_register.specs.declared.answer.RoundAnswer.TheVariants.{Target, Nothing}
 use Rattle.core_events.specs.ShardView.{BrickEntry, RowRun, RowMark, brick_rows_seen}
-use Rattle.core_events.specs.Jobs.{CoreJob, Append, DropBox, Scan, Delta, Rollback, Purge, CopyRound, Flush, JobAnswer, Done, ShardFull, Found, Compared, Copied, StoreLost, OutOfMemory}
+use Rattle.core_events.specs.Jobs.{CoreJob, Append, DropBox, Scan, Delta, Rollback, Purge, CopyRound, Flush, JobOutcome, Done, ShardFull, Found, Compared, Copied, StoreLost, OutOfMemory}
 use Rattle.core_events.specs.Events.{Opening, IsSession, flusher, OpenWrite, OpenRead, Commit, AbortEnd, CloseRead, TakeNote, CreateCube, FindCube, CubesFrom, CountersNow, RoundOpen, RoundClose, StoreFailed, ClientCall, OnDesk, OnNames, Post, Fetch, CloseMail, NoChange, WorkerMove, Work, CoreEvent, By, At}
 use Rattle.core_events.specs.Groups.{has_number}
 use Rattle.core_events.specs.Clients.{Holding, ClientState, client_state, client_after_call, held_under, holds_after, ends_group, lse_in, greater_of}
-use Rattle.core_events.specs.Cells.{counters_of_run, view_of, brick_after_job, brick_after_move, rows_of_brick, box_has_brick, WorkerState, Free, Took, Worked, worker_of, queue_of, reply_for}
+use Rattle.core_events.specs.Cells.{counters_of_run, shard_view_of, brick_after_job, brick_after_move, rows_of_brick, box_has_brick, WorkerState, Free, Took, Worked, worker_of, queue_of, reply_for}
 use Rattle.core_events.specs.Fitting.{FitsCall, OwnsWriter, FitsWork, round_progress}
 use Rattle.core_events.specs.Runs.{IsCoreRun, CallSays}
 use Rattle.core_mails.specs.Histories.{DoneJob, job_done}
@@ -194,7 +194,7 @@ fetch-back true true asked p e = absurd (nowhere-asked asked e)
 fetch-back true false asked p e = e
 fetch-back false own asked p e = e
 
-where-back : (own : Bool) (job asked : CoreJob) (answer : JobAnswer) (p : JobPlace)
+where-back : (own : Bool) (job asked : CoreJob) (answer : JobOutcome) (p : JobPlace)
     → place_where own (Answered job answer) p ≡ Asked asked → p ≡ Asked asked
 where-back true job asked answer p e = absurd (asked-answered asked job answer (sym e))
 where-back false job asked answer p e = e
@@ -251,7 +251,7 @@ asked-fits o (At other move ∷ es) mail a job run e =
     asked-fits o es mail a job run.0 (move-back (other == mail) a (worker_of mail es) move job (place mail a es) e)
 
 -- The job that a worker makes is asked.
-pub made-asked : (o : Opening) (es : List CoreEvent) (mail : ℕ) (job : CoreJob) (answer : JobAnswer)
+pub made-asked : (o : Opening) (es : List CoreEvent) (mail : ℕ) (job : CoreJob) (answer : JobOutcome)
     → IsCoreRun o (At mail (Work job answer) ∷ es) → (a : ℕ) × (place mail a es ≡ Asked job)
 made-asked o es mail job answer run = made (worker_of mail es) run.1.fits ((run-posted o es run.0).posted mail).busy
   where
@@ -314,7 +314,7 @@ job-keeps o cube brick (Purge epoch) s xs hidden = purge-unseen (sees s) (sees s
 job-keeps o cube brick (CopyRound from to) s xs hidden = refl
 job-keeps o cube brick Flush s xs hidden = refl
 
-pub move-keeps : (o : Opening) (here : Bool) (cube brick : ℕ) (job : CoreJob) (answer : JobAnswer) (s : Snapshot) (xs : List BrickEntry)
+pub move-keeps : (o : Opening) (here : Bool) (cube brick : ℕ) (job : CoreJob) (answer : JobOutcome) (s : Snapshot) (xs : List BrickEntry)
     → brick_rows_seen s (brick_after_job o cube brick job xs) ≡ brick_rows_seen s xs
     → brick_rows_seen s (brick_after_move o here cube brick (Work job answer) xs) ≡ brick_rows_seen s xs
 move-keeps o true cube brick job Done s xs keeps = keeps
@@ -327,17 +327,17 @@ move-keeps o true cube brick job OutOfMemory s xs keeps = refl
 move-keeps o false cube brick job answer s xs keeps = refl
 
 -- Snapshot isolation: what an open snapshot sees stays.
-pub isolated : (o : Opening) (es : List CoreEvent) (mail cube brick m : ℕ) (job : CoreJob) (answer : JobAnswer) (s : Snapshot)
+pub isolated : (o : Opening) (es : List CoreEvent) (mail cube brick m : ℕ) (job : CoreJob) (answer : JobOutcome) (s : Snapshot)
     → IsCoreRun o (At mail (Work job answer) ∷ es) → held_by (counters_of_run o es).snapshots m ≡ Some s → IsOfOther s job
-    → brick_rows_seen s (view_of o (At mail (Work job answer) ∷ es) cube brick) ≡ brick_rows_seen s (view_of o es cube brick)
+    → brick_rows_seen s (shard_view_of o (At mail (Work job answer) ∷ es) cube brick) ≡ brick_rows_seen s (shard_view_of o es cube brick)
 isolated o es mail cube brick m job answer s run held other =
     let asked = made-asked o es mail job answer run in
-    move-keeps o (mail == brick % o.shards) cube brick job answer s (view_of o es cube brick)
-    (job-keeps o cube brick job s (view_of o es cube brick)
+    move-keeps o (mail == brick % o.shards) cube brick job answer s (shard_view_of o es cube brick)
+    (job-keeps o cube brick job s (shard_view_of o es cube brick)
     (job-unseen o es asked.0 m job s run.0 held (asked-fits o es mail asked.0 job run.0 asked.1) other))
 
 -- A purge that a worker makes is not above LSE.
-pub purge-within : (o : Opening) (es : List CoreEvent) (mail epoch : ℕ) (answer : JobAnswer)
+pub purge-within : (o : Opening) (es : List CoreEvent) (mail epoch : ℕ) (answer : JobOutcome)
     → IsCoreRun o (At mail (Work (Purge epoch) answer) ∷ es) → epoch ≤ (counters_of_run o es).lse
 purge-within o es mail epoch answer run =
     let asked = made-asked o es mail (Purge epoch) answer run in

@@ -7,7 +7,7 @@ use Rattle.cube_values.specs.declared.snapshot.Snapshot.{Snapshot}
 use Rattle.cube_values.specs.Sees.{sees}
 use Rattle.cube_values.specs.Spans.{span_has}
 use Rattle.cube_journal.specs.Counters.{held_by}
-use Rattle.core_events.specs.ShardView.{BrickEntry, Epochs, epochs_without, rows_shown_to}
+use Rattle.core_events.specs.ShardView.{BrickEntry, EpochSet, epochs_without, rows_shown_to}
 use Rattle.core_events.specs.Events.{Opening, CoreEvent}
 use Rattle.core_events.specs.Clients.{client_state}
 use Rattle.core_events.specs.Cells.{counters_of_run, rows_of_brick}
@@ -30,17 +30,17 @@ and-last true false false = refl
 and-last false b c = refl
 
 -- A snapshot sees nothing above its epoch, also without some epochs.
-limit-without : (s : Snapshot) (gone : Epochs)
+limit-without : (s : Snapshot) (gone : EpochSet)
     → epochs_below (s.epoch + 1) (epochs_without (sees s) gone) ≡ epochs_without (sees s) gone
 limit-without s gone = λ i e.
     (and-last (sees s e) (nat_lt e (s.epoch + 1)) (not (gone e)) ∙ ap (λ (b : Bool). b && not (gone e)) (sees-below s e)) i
 
-pub serial-without : (c : CodedRow → Bool) (s : Snapshot) (gone : Epochs) (told : List BrickEntry)
+pub serial-without : (c : CodedRow → Bool) (s : Snapshot) (gone : EpochSet) (told : List BrickEntry)
     → count_by c (rows_shown_to (epochs_without (sees s) gone) (epochs_without (sees s) gone) told)
     ≡ count_by c (brick_rows_left (s.epoch + 1) (epochs_without (sees s) gone) told)
 serial-without c s gone told =
     sym (serial-counts c (s.epoch + 1) (epochs_without (sees s) gone) told
-    ∙ ap (λ (set : Epochs). count_by c (rows_shown_to set set told)) (limit-without s gone))
+    ∙ ap (λ (set : EpochSet). count_by c (rows_shown_to set set told)) (limit-without s gone))
 
 pub answered-serial : (o : Opening) (es : List CoreEvent) (a brick : ℕ) (q : BoundQuery) (s : Snapshot) (c : CodedRow → Bool)
     → IsCoreRun o es → HasAnswered o.shards q s (client_state o a es).group

@@ -11,12 +11,12 @@ use Rattle.cube_journal.specs.declared.journal_entry.JournalEntry.TheVariants as
 use Rattle.cube_journal.specs.Counters.{JournalState, held_by, lce}
 use Rattle.cube_journal.specs.Entries.{takes_epoch}
 use Rattle.cube_journal.specs.Order.{IsInOrder, NeverFalls}
-use Rattle.core_events.specs.ShardView.{BrickEntry, RowRun, RowMark, Epochs, brick_rows_seen, rows_shown_to, epochs_without}
+use Rattle.core_events.specs.ShardView.{BrickEntry, RowRun, RowMark, EpochSet, brick_rows_seen, rows_shown_to, epochs_without}
 use Rattle.core_events.specs.Jobs.{CoreJob, Append, DropBox, Scan, Delta, Rollback, Purge, CopyRound, Flush, Done, ShardFull, Found, Compared, Copied, StoreLost, OutOfMemory}
 use Rattle.core_events.specs.Events.{Opening, IsSession, OpenWrite, OpenRead, Commit, AbortEnd, CloseRead, TakeNote, CreateCube, FindCube, CubesFrom, CountersNow, RoundOpen, RoundClose, StoreFailed, ClientCall, OnDesk, OnNames, Post, Fetch, CloseMail, NoChange, WorkerMove, Take, NoJob, Work, Reply, CoreEvent, By, At}
 use Rattle.core_events.specs.Groups.{GroupKind, RollsBack, kind_of, JobGroup, has_number, is_empty, has_ended, is_ready, is_complete, is_spoiled, has_refusal, mails_of}
 use Rattle.core_events.specs.Clients.{ClientState, client_state, client_after_call, held_under, holds_without}
-use Rattle.core_events.specs.Cells.{counters_of_run, view_of, rows_of_brick, box_has_brick, brick_after_job, brick_after_move}
+use Rattle.core_events.specs.Cells.{counters_of_run, shard_view_of, rows_of_brick, box_has_brick, brick_after_job, brick_after_move}
 use Rattle.core_events.specs.Fitting.{FitsCall, OwnsWriter}
 use Rattle.core_events.specs.Runs.{IsCoreRun}
 use Rattle.core_runs.specs.Told.{told_of, told_after_job, told_after_move, rolled_back, rolled_after_job, rolled_after_move}
@@ -182,7 +182,7 @@ ec-step s None = omega arith
 ec-step s (Some e) = ec-entry (takes_epoch e) s.ec
 
 -- A rollback is new, or it was made before.
-pub rolled-new : (here : Bool) (move : WorkerMove) (rolled : Epochs) (k : ℕ) → rolled_after_move here move rolled k ≡ true
+pub rolled-new : (here : Bool) (move : WorkerMove) (rolled : EpochSet) (k : ℕ) → rolled_after_move here move rolled k ≡ true
     → (rolled k ≡ true) ⊎ ((here ≡ true) × (move ≡ Work (Rollback k) Done))
 rolled-new true (Work (Rollback epoch) Done) rolled k is = new-or-old (epoch == k) refl is
   where
@@ -286,14 +286,14 @@ unrolled o es mail a k job run asked session owns writes =
     false≢true (sym writes ∙ ap is_rolling (suits.kind ∙ kind)))
 
 -- What a job has to be so that a brick goes on with what it was told.
-abbrev JobKeeps : ℕ → Epochs → CoreJob → Type 0
+abbrev JobKeeps : ℕ → EpochSet → CoreJob → Type 0
 JobKeeps p gone (Append cube epoch rows) = (p < epoch) × (gone epoch ≡ false)
 JobKeeps p gone (DropBox cube epoch box) = (p < epoch) × (gone epoch ≡ false)
 JobKeeps p gone (Rollback epoch) = p < epoch
 JobKeeps p gone (Purge epoch) = epoch ≤ p
 JobKeeps p gone job = Unit {0}
 
-append-keeps : (here : Bool) (o : Opening) (cube brick p k : ℕ) (gone : Epochs) (rows : List CodedRow) (now told : List BrickEntry)
+append-keeps : (here : Bool) (o : Opening) (cube brick p k : ℕ) (gone : EpochSet) (rows : List CodedRow) (now told : List BrickEntry)
     → p < k → gone k ≡ false → KeepsTold p gone now told
     → KeepsTold p gone (if here then RowRun k (rows_of_brick o cube brick rows) ∷ now else now)
     (if here then RowRun k (rows_of_brick o cube brick rows) ∷ told else told)
@@ -301,12 +301,12 @@ append-keeps true o cube brick p k gone rows now told l out keeps =
     keeps-append p k gone (rows_of_brick o cube brick rows) now told (omega (arith, l)) out keeps
 append-keeps false o cube brick p k gone rows now told l out keeps = keeps
 
-mark-keeps : (here : Bool) (p k : ℕ) (gone : Epochs) (now told : List BrickEntry) → gone k ≡ false → KeepsTold p gone now told
+mark-keeps : (here : Bool) (p k : ℕ) (gone : EpochSet) (now told : List BrickEntry) → gone k ≡ false → KeepsTold p gone now told
     → KeepsTold p gone (if here then RowMark k ∷ now else now) (if here then RowMark k ∷ told else told)
 mark-keeps true p k gone now told out keeps = keeps-mark p k gone now told out keeps
 mark-keeps false p k gone now told out keeps = keeps
 
-keeps-job : (o : Opening) (cube brick p : ℕ) (job : CoreJob) (gone : Epochs) (now told : List BrickEntry) → JobKeeps p gone job
+keeps-job : (o : Opening) (cube brick p : ℕ) (job : CoreJob) (gone : EpochSet) (now told : List BrickEntry) → JobKeeps p gone job
     → KeepsTold p gone now told
     → KeepsTold p (rolled_after_job job gone) (brick_after_job o cube brick job now) (told_after_job o cube brick job told)
 keeps-job o cube brick p (Append other epoch rows) gone now told j keeps =
@@ -320,7 +320,7 @@ keeps-job o cube brick p (Purge epoch) gone now told j keeps = keeps-purge p epo
 keeps-job o cube brick p (CopyRound from to) gone now told j keeps = keeps
 keeps-job o cube brick p Flush gone now told j keeps = keeps
 
-keeps-move : (o : Opening) (here : Bool) (cube brick p : ℕ) (move : WorkerMove) (gone : Epochs) (now told : List BrickEntry)
+keeps-move : (o : Opening) (here : Bool) (cube brick p : ℕ) (move : WorkerMove) (gone : EpochSet) (now told : List BrickEntry)
     → ((job : CoreJob) → here ≡ true → move ≡ Work job Done → JobKeeps p gone job)
     → KeepsTold p gone now told
     → KeepsTold p (rolled_after_move here move gone) (brick_after_move o here cube brick move now) (told_after_move o here cube brick move told)
@@ -352,14 +352,14 @@ job-keeps-told o es mail a (CopyRound from to) run asked f = tt
 job-keeps-told o es mail a Flush run asked f = tt
 
 pub run-keeps : (o : Opening) (es : List CoreEvent) (cube brick : ℕ) → IsCoreRun o es
-    → KeepsTold (counters_of_run o es).lse (rolled_back (brick % o.shards) es) (view_of o es cube brick) (told_of o es cube brick)
+    → KeepsTold (counters_of_run o es).lse (rolled_back (brick % o.shards) es) (shard_view_of o es cube brick) (told_of o es cube brick)
 run-keeps o [] cube brick run = keeps-same o.safe (told_of o [] cube brick)
 run-keeps o (By b call ∷ es) cube brick run =
     keeps-rise (counters_of_run o es).lse (counters_of_run o (By b call ∷ es)).lse (rolled_back (brick % o.shards) es)
-    (view_of o es cube brick) (told_of o es cube brick) (lse-rises o b call es run) (run-keeps o es cube brick run.0)
+    (shard_view_of o es cube brick) (told_of o es cube brick) (lse-rises o b call es run) (run-keeps o es cube brick run.0)
 run-keeps o (At mail move ∷ es) cube brick run =
     let shard = brick % o.shards in
-    keeps-move o (mail == shard) cube brick (counters_of_run o es).lse move (rolled_back shard es) (view_of o es cube brick)
+    keeps-move o (mail == shard) cube brick (counters_of_run o es).lse move (rolled_back shard es) (shard_view_of o es cube brick)
     (told_of o es cube brick)
     (λ job here is.
     let same = eqb-true mail shard here in
@@ -371,7 +371,7 @@ run-keeps o (At mail move ∷ es) cube brick run =
 -- What an open snapshot sees, by what the brick was told.
 pub seen-of-told : (o : Opening) (es : List CoreEvent) (cube brick m : ℕ) (s : Snapshot) → IsCoreRun o es
     → held_by (counters_of_run o es).snapshots m ≡ Some s
-    → brick_rows_seen s (view_of o es cube brick)
+    → brick_rows_seen s (shard_view_of o es cube brick)
     ≡ rows_shown_to (epochs_without (sees s) (rolled_back (brick % o.shards) es))
     (epochs_without (sees s) (rolled_back (brick % o.shards) es)) (told_of o es cube brick)
 seen-of-told o es cube brick m s run held =

@@ -5,15 +5,15 @@ use Rattle.cube_values.specs.declared.query.BoundQuery.{BoundQuery}
 use Rattle.cube_values.specs.declared.row.CodedRow.{CodedRow}
 use Rattle.cube_values.specs.declared.snapshot.Snapshot.{Snapshot}
 use Rattle.core_events.specs.ShardView.{brick_rows_seen}
-use Rattle.core_events.specs.Jobs.{JobAnswer, Found}
+use Rattle.core_events.specs.Jobs.{JobOutcome, Found}
 use Rattle.core_events.specs.Events.{Opening, CoreEvent}
 use Rattle.core_events.specs.Groups.{Asks, Received, JobGroup}
-use Rattle.core_events.specs.Cells.{view_of}
+use Rattle.core_events.specs.Cells.{shard_view_of}
 use Rattle.core_events.specs.Fitting.{HasAllDone}
 use Rattle.core_events.specs.Runs.{rows_in_span}
 
 -- The rows that answers have.
-abbrev pub rows_of_answer : JobAnswer → List CodedRow
+abbrev pub rows_of_answer : JobOutcome → List CodedRow
 rows_of_answer (Found rows) = rows
 rows_of_answer answer = []
 
@@ -29,4 +29,4 @@ pub record HasAnswered (shards : ℕ) (query : BoundQuery) (snapshot : Snapshot)
 -- The rows of a brick that the query's snapshot sees of the bricks as they are now.
 abbrev pub rows_asked : Opening → List CoreEvent → BoundQuery → Snapshot → ℕ → List CodedRow
 rows_asked o es query snapshot brick =
-    rows_in_span query.span (brick_rows_seen snapshot (view_of o es query.cube brick))
+    rows_in_span query.span (brick_rows_seen snapshot (shard_view_of o es query.cube brick))

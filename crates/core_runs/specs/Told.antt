@@ -2,7 +2,7 @@
 -- back there.
 -- Source: this project's own.
 use Rattle.std.specs.Prelude.{ℕ, ◌%◌, Bool, true, false, ◌&&◌, ◌||◌, ◌==◌, List, [], ◌∷◌, if◌then◌else◌}
-use Rattle.core_events.specs.ShardView.{BrickEntry, RowRun, RowMark, Epochs}
+use Rattle.core_events.specs.ShardView.{BrickEntry, RowRun, RowMark, EpochSet}
 use Rattle.core_events.specs.Jobs.{CoreJob, Append, DropBox, Rollback, Done}
 use Rattle.core_events.specs.Events.{Opening, WorkerMove, Work, CoreEvent, By, At}
 use Rattle.core_events.specs.Cells.{rows_of_brick, box_has_brick}
@@ -27,15 +27,15 @@ told_of o (At mail move ∷ es) cube brick =
     told_after_move o (mail == brick % o.shards) cube brick move (told_of o es cube brick)
 
 -- The epochs that were rolled back on a shard.
-abbrev pub rolled_after_job : CoreJob → Epochs → Epochs
+abbrev pub rolled_after_job : CoreJob → EpochSet → EpochSet
 rolled_after_job (Rollback epoch) rolled e = epoch == e || rolled e
 rolled_after_job job rolled e = rolled e
 
-abbrev pub rolled_after_move : Bool → WorkerMove → Epochs → Epochs
+abbrev pub rolled_after_move : Bool → WorkerMove → EpochSet → EpochSet
 rolled_after_move true (Work job Done) rolled e = rolled_after_job job rolled e
 rolled_after_move here move rolled e = rolled e
 
-abbrev pub rolled_back : ℕ → List CoreEvent → Epochs
+abbrev pub rolled_back : ℕ → List CoreEvent → EpochSet
 rolled_back shard [] e = false
 rolled_back shard (By a call ∷ es) e = rolled_back shard es e
 rolled_back shard (At mail move ∷ es) e = rolled_after_move (mail == shard) move (rolled_back shard es) e

@@ -8,10 +8,10 @@ ghost use Rattle.cube_values.specs.declared.snapshot.Snapshot.{Snapshot};
 ghost use Rattle.cube_values.specs.Sees.{sees};
 ghost use Rattle.cube_journal.specs.Counters.{held_by};
 ghost use Rattle.core_bricks.specs.BrickTransactions.{brick_rows_left};
-ghost use Rattle.core_events.specs.Cells.{counters_of_run, rows_of_brick, view_of};
+ghost use Rattle.core_events.specs.Cells.{counters_of_run, rows_of_brick, shard_view_of};
 ghost use Rattle.core_events.specs.Clients.{client_state};
 ghost use Rattle.core_events.specs.Events.{Opening, CoreEvent, At, Work};
-ghost use Rattle.core_events.specs.Jobs.{CoreJob, JobAnswer, Purge};
+ghost use Rattle.core_events.specs.Jobs.{CoreJob, JobOutcome, Purge};
 ghost use Rattle.core_events.specs.Runs.{IsCoreRun, rows_in_span};
 ghost use Rattle.core_events.specs.ShardView.{brick_rows_seen, epochs_without, rows_shown_to};
 ghost use Rattle.core_runs.specs.Isolation.{IsOfOther};
@@ -20,7 +20,7 @@ ghost use Rattle.core_runs.specs.Told.{rolled_back, told_of};
 
 /// A purge is at an epoch up to LSE, and no client was shown a greater LSE than the desk has.
 pub fn purges_stay_safe()
-    ensures purge { (o : Opening) (es : List CoreEvent) (mail epoch : ℕ) (answer : JobAnswer)
+    ensures purge { (o : Opening) (es : List CoreEvent) (mail epoch : ℕ) (answer : JobOutcome)
         → IsCoreRun o (At mail (Work (Purge epoch) answer) ∷ es) → epoch ≤ (counters_of_run o es).lse }
     ensures shown { (o : Opening) (es : List CoreEvent) (client : ℕ) → IsCoreRun o es
         → (client_state o client es).lse ≤ (counters_of_run o es).lse }
@@ -30,10 +30,10 @@ pub fn purges_stay_safe()
 /// another transaction is done, a purge among them.
 pub fn snapshots_are_isolated()
     ensures { (o : Opening) (es : List CoreEvent) (mail cube brick number : ℕ) (job : CoreJob)
-        (answer : JobAnswer) (s : Snapshot) → IsCoreRun o (At mail (Work job answer) ∷ es)
+        (answer : JobOutcome) (s : Snapshot) → IsCoreRun o (At mail (Work job answer) ∷ es)
         → held_by (counters_of_run o es).snapshots number ≡ Some s → IsOfOther s job
-        → brick_rows_seen s (view_of o (At mail (Work job answer) ∷ es) cube brick)
-        ≡ brick_rows_seen s (view_of o es cube brick) }
+        → brick_rows_seen s (shard_view_of o (At mail (Work job answer) ∷ es) cube brick)
+        ≡ brick_rows_seen s (shard_view_of o es cube brick) }
 {}
 
 /// Rollbacks and purges take nothing else out: what an open snapshot sees of a brick is what all
@@ -43,7 +43,7 @@ pub fn bricks_keep_what_they_were_told()
     ensures { (o : Opening) (es : List CoreEvent) (cube brick number : ℕ) (s : Snapshot)
         → IsCoreRun o es
         → held_by (counters_of_run o es).snapshots number ≡ Some s
-        → brick_rows_seen s (view_of o es cube brick)
+        → brick_rows_seen s (shard_view_of o es cube brick)
         ≡ rows_shown_to (epochs_without (sees s) (rolled_back (brick % o.shards) es))
         (epochs_without (sees s) (rolled_back (brick % o.shards) es)) (told_of o es cube brick) }
 {}

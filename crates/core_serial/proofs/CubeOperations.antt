@@ -8,7 +8,7 @@ use Rattle.cube_values.specs.declared.row.CodedRow.{CodedRow}
 use Rattle.cube_values.specs.declared.span.Span.{Span}
 use Rattle.cube_values.specs.Spans.{span_has}
 use Rattle.brick_address.specs.Addresses.{brick_of, AreCoords}
-use Rattle.core_events.specs.ShardView.{BrickEntry, RowRun, RowMark, Epochs}
+use Rattle.core_events.specs.ShardView.{BrickEntry, RowRun, RowMark, EpochSet}
 use Rattle.core_events.specs.Events.{Opening}
 use Rattle.core_events.specs.Cells.{sizes_of_cube, rows_of_brick, box_has_brick}
 use Rattle.core_events.specs.Fitting.{CutsNoBrick}
@@ -142,7 +142,7 @@ drop-runs true o cube brick e box operations entries cuts fit alike =
 -- Transactions one after the other.
 
 -- Those of a set below a limit make of the rows of the cube what their entries make of those of the brick.
-pub record LeaveAlike (o : Opening) (cube brick limit : ℕ) (set : Epochs) (operations : ℕ → List CubeOperation) (entries : List BrickEntry)
+pub record LeaveAlike (o : Opening) (cube brick limit : ℕ) (set : EpochSet) (operations : ℕ → List CubeOperation) (entries : List BrickEntry)
     : Type 0 where
   pub of_cube : AreOfCube o cube (rows_left_below limit set operations)
   pub rows : rows_of_brick o cube brick (rows_left_below limit set operations) ≡ brick_rows_left limit set entries
@@ -159,7 +159,7 @@ leave-step true o cube brick m operations entries left of_brick fit alike f is =
 )
 leave-step false o cube brick m operations entries left of_brick fit alike f is = (f, is)
 
-pub leave-alike : (o : Opening) (cube brick limit : ℕ) (set : Epochs) (operations : ℕ → List CubeOperation) (entries : List BrickEntry)
+pub leave-alike : (o : Opening) (cube brick limit : ℕ) (set : EpochSet) (operations : ℕ → List CubeOperation) (entries : List BrickEntry)
     → ((e : ℕ) → FitCube o cube (operations e))
     → ((e : ℕ) → set e ≡ true → RunAlike o cube brick (operations e) (entries_of_epoch e entries))
     → LeaveAlike o cube brick limit set operations entries

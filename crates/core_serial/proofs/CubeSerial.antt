@@ -18,7 +18,7 @@ use Rattle.core_events.specs.Events.{Opening, CoreEvent}
 use Rattle.core_events.specs.Groups.{JobGroup, mails_of, is_complete, has_ended}
 use Rattle.core_events.specs.Clients.{client_state}
 use Rattle.core_events.specs.ShardView.{brick_rows_seen, epochs_without, rows_shown_to}
-use Rattle.core_events.specs.Cells.{sizes_of_cube, view_of, rows_of_brick}
+use Rattle.core_events.specs.Cells.{sizes_of_cube, shard_view_of, rows_of_brick}
 use Rattle.core_events.specs.Fitting.{OwnsWriter}
 use Rattle.core_events.specs.Runs.{IsCoreRun, rows_in_span}
 use Rattle.core_events.specs.Serial.{counts_for, has_committed, operations_of}
@@ -98,9 +98,9 @@ serial-rows o es a brick q s run h =
 -- What a settled snapshot sees of a brick, where rollbacks and purges took out nothing else.
 pub seen-serial : (o : Opening) (es : List CoreEvent) (cube brick : ℕ) (s : Snapshot) (c : CodedRow → Bool) → IsCoreRun o es
     → IsSettled o es s → OwnRuns o es cube brick s
-    → brick_rows_seen s (view_of o es cube brick)
+    → brick_rows_seen s (shard_view_of o es cube brick)
     ≡ rows_shown_to (epochs_without (sees s) (rolled_back (brick % o.shards) es)) (epochs_without (sees s) (rolled_back (brick % o.shards) es)) (told_of o es cube brick)
-    → count_by c (brick_rows_seen s (view_of o es cube brick)) ≡ count_by c (rows_of_brick o cube brick (rows_of_serial_run o es cube s))
+    → count_by c (brick_rows_seen s (shard_view_of o es cube brick)) ≡ count_by c (rows_of_brick o cube brick (rows_of_serial_run o es cube s))
 seen-serial o es cube brick s c run settled own shows =
     ap (count_by c) shows
     ∙ serial-without c s (rolled_back (brick % o.shards) es) (told_of o es cube brick)
@@ -108,12 +108,12 @@ seen-serial o es cube brick s c run settled own shows =
 
 -- Of these the rows that a query asks for.
 pub asked-serial : (o : Opening) (es : List CoreEvent) (brick : ℕ) (q : BoundQuery) (s : Snapshot) (c : CodedRow → Bool) → IsCoreRun o es
-    → ((d : CodedRow → Bool) → count_by d (brick_rows_seen s (view_of o es q.cube brick))
+    → ((d : CodedRow → Bool) → count_by d (brick_rows_seen s (shard_view_of o es q.cube brick))
     ≡ count_by d (rows_of_brick o q.cube brick (rows_of_serial_run o es q.cube s)))
     → count_by c (rows_asked o es q s brick) ≡ count_by c (rows_of_brick o q.cube brick (rows_to_find o es q s))
 asked-serial o es brick q s c run seen =
     let within = λ (row : CodedRow). span_has q.span row.coords in
-    count-filter c within (brick_rows_seen s (view_of o es q.cube brick))
+    count-filter c within (brick_rows_seen s (shard_view_of o es q.cube brick))
     ∙ seen (λ row. within row && c row)
     ∙ sym (count-filter c within (rows_of_brick o q.cube brick (rows_of_serial_run o es q.cube s)))
     ∙ count-filters c within (λ row. brick_of (sizes_of_cube o q.cube) row.coords == brick) (rows_of_serial_run o es q.cube s)

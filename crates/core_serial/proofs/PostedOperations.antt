@@ -9,8 +9,8 @@ use Rattle.cube_values.specs.declared.snapshot.Snapshot.{Snapshot}
 use Rattle.cube_values.specs.declared.span.Span.{Span}
 use Rattle.brick_address.specs.Addresses.{brick_of, AreCoords}
 use Rattle.core_events.specs.ShardView.{BrickEntry, RowRun, RowMark}
-use Rattle.core_events.specs.Jobs.{CoreJob, Append, DropBox, Scan, Delta, Rollback, Purge, CopyRound, Flush, JobAnswer, is_refusal}
-use Rattle.core_events.specs.Events.{Opening, IsSession, DeskCall, OpenWrite, OpenRead, Commit, AbortEnd, CloseRead, TakeNote, CreateCube, FindCube, CubesFrom, CountersNow, RoundOpen, RoundClose, StoreFailed, ClientCall, OnDesk, OnNames, Post, Fetch, CloseMail, NoChange, CoreEvent, By, At}
+use Rattle.core_events.specs.Jobs.{CoreJob, Append, DropBox, Scan, Delta, Rollback, Purge, CopyRound, Flush, JobOutcome, is_refusal}
+use Rattle.core_events.specs.Events.{Opening, IsSession, DeskEvent, OpenWrite, OpenRead, Commit, AbortEnd, CloseRead, TakeNote, CreateCube, FindCube, CubesFrom, CountersNow, RoundOpen, RoundClose, StoreFailed, ClientCall, OnDesk, OnNames, Post, Fetch, CloseMail, NoChange, CoreEvent, By, At}
 use Rattle.core_events.specs.Groups.{GroupKind, Puts, Drops, Asks, Compares, RollsBack, Purges, Copies, Flushes, kind_of, JobGroup, no_group, has_number, numbers_without, is_empty, has_all_below, mails_of, has_refusal, is_complete, has_ended, is_ready, is_spoiled}
 use Rattle.core_events.specs.Clients.{ClientState, client_state, client_after_call, held_under, ends_group}
 use Rattle.core_events.specs.Cells.{counters_of_run, sizes_of_cube, rows_of_brick}
@@ -459,7 +459,7 @@ swap-test a b = at (a == b) refl
     at true is = is ∙ sym (eq-eqb b a (sym (eqb-true a b is)))
     at false is = is ∙ sym (ne_eqb b a (λ e. eqb-false a b is (sym e)))
 
-fetch-job : (other mail : ℕ) (answer : JobAnswer) (g : JobGroup) → has_number g.waits other ≡ true
+fetch-job : (other mail : ℕ) (answer : JobOutcome) (g : JobGroup) → has_number g.waits other ≡ true
     → has_job (record {
       kind = g.kind;
       waits = numbers_without other g.waits;
@@ -474,7 +474,7 @@ fetch-job other mail answer g waits =
     (λ here. ap (has_number g.waits) (sym (eqb-true other mail here)) ∙ waits)
 
 -- A call that ends a group, and leaves the writer.
-ends-ready : (o : Opening) (a e : ℕ) (call : DeskCall) (k : ClientState) → IsSession o a → FitsCall o a (OnDesk call) k
+ends-ready : (o : Opening) (a e : ℕ) (call : DeskEvent) (k : ClientState) → IsSession o a → FitsCall o a (OnDesk call) k
     → ends_group (OnDesk call) ≡ true → OwnsWriter a e (client_after_call o true a (OnDesk call) k) → is_ready o.shards k.group ≡ true
 ends-ready o a e (OpenWrite statement epoch deps) k session f ends owns = f.ready
 ends-ready o a e (OpenRead number statement epoch) k session f ends owns = f.ready
@@ -507,7 +507,7 @@ nothing-runs : (o : Opening) (cube brick : ℕ) (operations : List CubeOperation
     → RunAlike o cube brick operations entries
 nothing-runs o cube brick operations entries none empty = coe 1 0 (i. RunAlike o cube brick (none i) (empty i)) (λ rows f. refl)
 
-desk-fit : (ends : Bool) (o : Opening) (es : List CoreEvent) (a e cube brick : ℕ) (call : DeskCall) → IsCoreRun o (By a (OnDesk call) ∷ es)
+desk-fit : (ends : Bool) (o : Opening) (es : List CoreEvent) (a e cube brick : ℕ) (call : DeskEvent) → IsCoreRun o (By a (OnDesk call) ∷ es)
     → ends_group (OnDesk call) ≡ ends → IsSession o a
     → OwnsWriter a e (client_after_call o true a (OnDesk call) (client_state o a es)) → OperationsFit o es a e cube brick
     → IsClean (if ends then no_group else (client_state o a es).group)

@@ -6,7 +6,7 @@ use Rattle.cube_journal.specs.Counters.{held_by}
 use Rattle.core_events.specs.ShardView.{brick_rows_seen}
 use Rattle.core_events.specs.Events.{Opening, CoreEvent}
 use Rattle.core_events.specs.Clients.{client_state}
-use Rattle.core_events.specs.Cells.{counters_of_run, view_of, rows_of_brick}
+use Rattle.core_events.specs.Cells.{counters_of_run, shard_view_of, rows_of_brick}
 use Rattle.core_events.specs.Fitting.{OwnsWriter}
 use Rattle.core_events.specs.Runs.{IsCoreRun}
 use Rattle.std.specs.Prelude.{List}
@@ -37,7 +37,7 @@ resting-runs o es a cube brick s run h e own =
 
 pub resting-serial : (o : Opening) (es : List CoreEvent) (a cube brick : ℕ) (s : Snapshot) → IsCoreRun o es
     → HoldsAtRest o a (client_state o a es) s
-    → IsPermutation (brick_rows_seen s (view_of o es cube brick)) (rows_of_brick o cube brick (rows_of_serial_run o es cube s))
+    → IsPermutation (brick_rows_seen s (shard_view_of o es cube brick)) (rows_of_brick o cube brick (rows_of_serial_run o es cube s))
 resting-serial o es a cube brick s run h =
     let asks = asked-by o es a s h in
     let group = (client_state o a es).group in
@@ -45,5 +45,5 @@ resting-serial o es a cube brick s run h =
     let settled =
     held-settled o es a s run asks (λ own. (ready-clean o.shards group h.ready, ready-empty o.shards group h.ready))
     in
-    permuted-by-counts (brick_rows_seen s (view_of o es cube brick)) (rows_of_brick o cube brick (rows_of_serial_run o es cube s))
+    permuted-by-counts (brick_rows_seen s (shard_view_of o es cube brick)) (rows_of_brick o cube brick (rows_of_serial_run o es cube s))
     (λ c. seen-serial o es cube brick s c run settled (resting-runs o es a cube brick s run h) (seen-of-told o es cube brick h.number s run held))

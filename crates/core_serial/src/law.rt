@@ -9,7 +9,7 @@ ghost use Rattle.cube_values.specs.declared.table.Field.{Field};
 ghost use Rattle.agg_fold.specs.Coded.{row_for};
 ghost use Rattle.agg_fold.specs.Standing.{StandsFor, IsTable};
 ghost use Rattle.agg_fold.specs.declared.groups.Groups.{Groups};
-ghost use Rattle.core_events.specs.Cells.{rows_of_brick, view_of};
+ghost use Rattle.core_events.specs.Cells.{rows_of_brick, shard_view_of};
 ghost use Rattle.core_events.specs.Clients.{calls_of, client_state};
 ghost use Rattle.core_events.specs.ShardView.{brick_rows_seen};
 ghost use Rattle.core_events.specs.Events.{Opening, CoreEvent};
@@ -27,7 +27,7 @@ ghost use Rattle.core_serial.specs.CubeRows.{rows_of_serial_run, rows_to_find};
 pub fn snapshots_see_serial_runs()
     ensures { (o : Opening) (es : List CoreEvent) (client cube brick : ℕ) (s : Snapshot)
         → IsCoreRun o es → HoldsAtRest o client (client_state o client es) s
-        → IsPermutation (brick_rows_seen s (view_of o es cube brick))
+        → IsPermutation (brick_rows_seen s (shard_view_of o es cube brick))
         (rows_of_brick o cube brick (rows_of_serial_run o es cube s)) }
 {}
 

@@ -7,8 +7,8 @@ use Rattle.cube_values.specs.declared.query.BoundQuery.{BoundQuery}
 use Rattle.cube_values.specs.declared.snapshot.Snapshot.{Snapshot}
 use Rattle.cube_values.specs.Sees.{sees}
 use Rattle.cube_journal.specs.Counters.{held_by}
-use Rattle.core_events.specs.ShardView.{BrickEntry, RowRun, RowMark, Epochs, epochs_without}
-use Rattle.core_events.specs.Jobs.{CoreJob, Append, DropBox, Scan, Delta, Rollback, Purge, CopyRound, Flush, JobAnswer}
+use Rattle.core_events.specs.ShardView.{BrickEntry, RowRun, RowMark, EpochSet, epochs_without}
+use Rattle.core_events.specs.Jobs.{CoreJob, Append, DropBox, Scan, Delta, Rollback, Purge, CopyRound, Flush, JobOutcome}
 use Rattle.core_events.specs.Events.{Opening, IsSession, OpenWrite, OpenRead, Commit, AbortEnd, CloseRead, TakeNote, CreateCube, FindCube, CubesFrom, CountersNow, RoundOpen, RoundClose, StoreFailed, ClientCall, OnDesk, OnNames, Post, Fetch, CloseMail, NoChange, WorkerMove, Take, NoJob, Work, Reply, CoreEvent, By, At}
 use Rattle.core_events.specs.Groups.{GroupKind, Asks, JobGroup, has_number, is_empty, is_spoiled, has_refusal}
 use Rattle.core_events.specs.Clients.{ClientState, client_state, client_after_call, held_under}
@@ -48,11 +48,11 @@ use Rattle.core_transactions.proofs.PostedRuns.{run-posted-fits, other-told}
 -- Writers are held under the session's own number.
 
 call-number : (a : ℕ) (call : ClientCall) (n : ℕ) (v : Snapshot) → change_by (client_entry a call) ≡ Opens n v → v.own ≡ true → n ≡ a
-call-number a (OnDesk (OpenWrite statement epoch deps)) n v is own = ap number_in (sym is)
+call-number a (OnDesk (OpenWrite statement epoch deps)) n v is own = ap number_by_code (sym is)
   where
-    number_in : HoldChange → ℕ
-    number_in (Opens m x) = m
-    number_in change = a
+    number_by_code : HoldChange → ℕ
+    number_by_code (Opens m x) = m
+    number_by_code change = a
 call-number a (OnDesk (OpenRead number statement epoch)) n v is own = absurd (false≢true (ap own_in is ∙ own))
   where
     own_in : HoldChange → Bool
@@ -142,7 +142,7 @@ call-same o b (CloseMail mail) es cube brick e run past = refl
 call-same o b NoChange es cube brick e run past = refl
 
 move-same : (here : Bool) (o : Opening) (cube brick e : ℕ) (move : WorkerMove) (told : List BrickEntry)
-    → ((job : CoreJob) (answer : JobAnswer) → move ≡ Work job answer → IsOtherEpoch e job)
+    → ((job : CoreJob) (answer : JobOutcome) → move ≡ Work job answer → IsOtherEpoch e job)
     → entries_of_epoch e (told_after_move o here cube brick move told) ≡ entries_of_epoch e told
 move-same true o cube brick e (Work job answer) told out = other-told o cube brick e job answer told (out job answer refl)
 move-same true o cube brick e (Take client job) told out = refl
@@ -195,7 +195,7 @@ none-told o es e (RowMark j ∷ xs) fateless f =
     ∙ none-told o es e xs fateless f.1
 
 -- An epoch counts by what was done and by what was posted, or by neither.
-data CountsAlike (done counts : Epochs) (told posted : List BrickEntry) (e : ℕ) : Type 0 where
+data CountsAlike (done counts : EpochSet) (told posted : List BrickEntry) (e : ℕ) : Type 0 where
   Both : done e ≡ true → counts e ≡ true → entries_of_epoch e posted ≡ entries_of_epoch e told → CountsAlike done counts told posted e
   Neither : done e ≡ false → counts e ≡ false → CountsAlike done counts told posted e
   Empty : entries_of_epoch e told ≡ [] → counts e ≡ false → CountsAlike done counts told posted e
@@ -204,7 +204,7 @@ no-entries : (b : Bool) (entries : List BrickEntry) (rows : List CodedRow) → e
 no-entries true entries rows e = ap (λ xs. rows_after_entries xs rows) e
 no-entries false entries rows e = refl
 
-left-step : (done counts : Epochs) (told posted : List BrickEntry) (m : ℕ) → CountsAlike done counts told posted m
+left-step : (done counts : EpochSet) (told posted : List BrickEntry) (m : ℕ) → CountsAlike done counts told posted m
     → brick_rows_left m done told ≡ brick_rows_left m counts posted
     → brick_rows_left (suc m) done told ≡ brick_rows_left (suc m) counts posted
 left-step done counts told posted m (Both d c same) rest =
@@ -219,7 +219,7 @@ left-step done counts told posted m (Empty none c) rest =
     ∙ rest
     ∙ (λ i. if sym c i then rows_after_entries (entries_of_epoch m posted) (brick_rows_left m counts posted) else brick_rows_left m counts posted)
 
-left-same : (done counts : Epochs) (told posted : List BrickEntry) (limit : ℕ) → ((e : ℕ) → CountsAlike done counts told posted e)
+left-same : (done counts : EpochSet) (told posted : List BrickEntry) (limit : ℕ) → ((e : ℕ) → CountsAlike done counts told posted e)
     → brick_rows_left limit done told ≡ brick_rows_left limit counts posted
 left-same done counts told posted zero alike = refl
 left-same done counts told posted (suc m) alike = left-step done counts told posted m (alike m) (left-same done counts told posted m alike)

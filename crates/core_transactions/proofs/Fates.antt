@@ -8,12 +8,12 @@ use Rattle.cube_journal.specs.declared.journal_entry.AbortCause.{AbortCause}
 use Rattle.cube_journal.specs.declared.journal_entry.JournalEntry.{JournalEntry}
 use Rattle.cube_journal.specs.declared.journal_entry.JournalEntry.TheVariants as entry
 use Rattle.cube_journal.specs.Counters.{JournalState, state_after}
-use Rattle.core_events.specs.ShardView.{BrickEntry, RowRun, RowMark, Epochs}
-use Rattle.core_events.specs.Jobs.{CoreJob, Append, DropBox, Scan, Delta, Rollback, Purge, CopyRound, Flush, JobAnswer, Done, ShardFull, Found, Compared, Copied, StoreLost, OutOfMemory}
-use Rattle.core_events.specs.Events.{Opening, flusher, DeskCall, Commit, AbortEnd, ClientCall, OnDesk, OnNames, Post, Fetch, CloseMail, NoChange, WorkerMove, Take, NoJob, Work, Reply, CoreEvent, By, At}
+use Rattle.core_events.specs.ShardView.{BrickEntry, RowRun, RowMark, EpochSet}
+use Rattle.core_events.specs.Jobs.{CoreJob, Append, DropBox, Scan, Delta, Rollback, Purge, CopyRound, Flush, JobOutcome, Done, ShardFull, Found, Compared, Copied, StoreLost, OutOfMemory}
+use Rattle.core_events.specs.Events.{Opening, flusher, DeskEvent, Commit, AbortEnd, ClientCall, OnDesk, OnNames, Post, Fetch, CloseMail, NoChange, WorkerMove, Take, NoJob, Work, Reply, CoreEvent, By, At}
 use Rattle.core_events.specs.Groups.{RollsBack, kind_of, no_group, has_number, has_ended, mails_of}
 use Rattle.core_events.specs.Clients.{ClientState, client_state, client_after_call, held_under, ends_group}
-use Rattle.core_events.specs.Cells.{counters_of_run, view_of, rows_of_brick, box_has_brick, WorkerState, Free, Took, Worked, worker_of, reply_for}
+use Rattle.core_events.specs.Cells.{counters_of_run, shard_view_of, rows_of_brick, box_has_brick, WorkerState, Free, Took, Worked, worker_of, reply_for}
 use Rattle.core_events.specs.Fitting.{FitsCall, OwnsWriter, FitsWork, FitsReply, RoundProgress, round_progress}
 use Rattle.core_events.specs.Runs.{IsCoreRun, CallSays, MoveSays, ShardSays}
 use Rattle.core_events.specs.Serial.{commits, has_committed, aborts, has_aborted}
@@ -50,7 +50,7 @@ post-bears false true o a other job p k lse more f shown le b =
     place-stays o a p k (client_after_call o true a (Post other job) k) lse more (λ out. refl) le b
 post-bears false false o a other job p k lse more f shown le b = place-stays o a p k k lse more (λ out. refl) le b
 
-fetch-bears : (here own : Bool) (o : Opening) (a other : ℕ) (answer : JobAnswer) (p : JobPlace) (k : ClientState) (lse more : ℕ)
+fetch-bears : (here own : Bool) (o : Opening) (a other : ℕ) (answer : JobOutcome) (p : JobPlace) (k : ClientState) (lse more : ℕ)
     → lse ≤ more → PlaceBears o a k lse p
     → PlaceBears o a (client_after_call o own a (Fetch other answer) k) more (place_after_fetch here own p)
 fetch-bears true true o a other answer p k lse more le b = tt
@@ -79,7 +79,7 @@ call-bears o own a mail NoChange p k lse more f tied shown le b =
     place-stays o a p k (client_after_call o own a NoChange k) lse more
     (λ out. own-holds o own a mail NoChange k f (tied ∙ out)) le b
 
-where-bears : (own : Bool) (o : Opening) (a : ℕ) (k : ClientState) (lse : ℕ) (job : CoreJob) (answer : JobAnswer) (p : JobPlace)
+where-bears : (own : Bool) (o : Opening) (a : ℕ) (k : ClientState) (lse : ℕ) (job : CoreJob) (answer : JobOutcome) (p : JobPlace)
     → (own ≡ true → p ≡ Asked job) → PlaceBears o a k lse p → PlaceBears o a k lse (place_where own (Answered job answer) p)
 where-bears true o a k lse job answer p asked b = coe 0 1 (i. PlaceBears o a k lse (asked refl i)) b
 where-bears false o a k lse job answer p asked b = b
@@ -110,11 +110,11 @@ run-bears o (At other move ∷ es) mail a run =
 
 -- A rollback that is answered was made.
 
-abbrev JobRolled : Epochs → CoreJob → Type 0
+abbrev JobRolled : EpochSet → CoreJob → Type 0
 JobRolled rolled (Rollback epoch) = rolled epoch ≡ true
 JobRolled rolled job = Unit {0}
 
-abbrev PlaceRolled : Epochs → JobPlace → Type 0
+abbrev PlaceRolled : EpochSet → JobPlace → Type 0
 PlaceRolled rolled (Answered job answer) = JobRolled rolled job
 PlaceRolled rolled p = Unit {0}
 
@@ -122,11 +122,11 @@ pub or-right : (a b : Bool) → b ≡ true → (a || b) ≡ true
 or-right true b e = refl
 or-right false b e = e
 
-rolled-job : (job : CoreJob) (rolled : Epochs) (e : ℕ) → rolled e ≡ true → rolled_after_job job rolled e ≡ true
+rolled-job : (job : CoreJob) (rolled : EpochSet) (e : ℕ) → rolled e ≡ true → rolled_after_job job rolled e ≡ true
 rolled-job (Rollback epoch) rolled e is = or-right (epoch == e) (rolled e) is
 rolled-job job rolled e is = is
 
-pub rolled-stays : (here : Bool) (move : WorkerMove) (rolled : Epochs) (e : ℕ) → rolled e ≡ true → rolled_after_move here move rolled e ≡ true
+pub rolled-stays : (here : Bool) (move : WorkerMove) (rolled : EpochSet) (e : ℕ) → rolled e ≡ true → rolled_after_move here move rolled e ≡ true
 rolled-stays true (Work job Done) rolled e is = rolled-job job rolled e is
 rolled-stays true (Work job (ShardFull rows)) rolled e is = is
 rolled-stays true (Work job (Found rows)) rolled e is = is
@@ -139,7 +139,7 @@ rolled-stays true (NoJob closed) rolled e is = is
 rolled-stays true (Reply client answer) rolled e is = is
 rolled-stays false move rolled e is = is
 
-job-rolled-more : (job : CoreJob) (old new : Epochs) → ((e : ℕ) → old e ≡ true → new e ≡ true) → JobRolled old job → JobRolled new job
+job-rolled-more : (job : CoreJob) (old new : EpochSet) → ((e : ℕ) → old e ≡ true → new e ≡ true) → JobRolled old job → JobRolled new job
 job-rolled-more (Append cube epoch rows) old new more r = tt
 job-rolled-more (DropBox cube epoch box) old new more r = tt
 job-rolled-more (Scan query snapshot) old new more r = tt
@@ -149,13 +149,13 @@ job-rolled-more (Purge epoch) old new more r = tt
 job-rolled-more (CopyRound from to) old new more r = tt
 job-rolled-more Flush old new more r = tt
 
-place-rolled-more : (p : JobPlace) (old new : Epochs) → ((e : ℕ) → old e ≡ true → new e ≡ true) → PlaceRolled old p → PlaceRolled new p
+place-rolled-more : (p : JobPlace) (old new : EpochSet) → ((e : ℕ) → old e ≡ true → new e ≡ true) → PlaceRolled old p → PlaceRolled new p
 place-rolled-more Nowhere old new more r = tt
 place-rolled-more (Asked job) old new more r = tt
 place-rolled-more (Answered job answer) old new more r = job-rolled-more job old new more r
 
-made-rolled : (o : Opening) (es : List CoreEvent) (mail : ℕ) (made : CoreJob) (answer : JobAnswer) (rolled : Epochs)
-    → ShardSays o mail (view_of o es) made answer → JobRolled (rolled_after_move true (Work made answer) rolled) made
+made-rolled : (o : Opening) (es : List CoreEvent) (mail : ℕ) (made : CoreJob) (answer : JobOutcome) (rolled : EpochSet)
+    → ShardSays o mail (shard_view_of o es) made answer → JobRolled (rolled_after_move true (Work made answer) rolled) made
 made-rolled o es mail (Append cube epoch rows) answer rolled says = tt
 made-rolled o es mail (DropBox cube epoch box) answer rolled says = tt
 made-rolled o es mail (Scan query snapshot) answer rolled says = tt
@@ -171,7 +171,7 @@ made-rolled o es mail (Purge epoch) answer rolled says = tt
 made-rolled o es mail (CopyRound from to) answer rolled says = tt
 made-rolled o es mail Flush answer rolled says = tt
 
-replied-rolled : (q : RoundProgress) (lost : Bool) (job : CoreJob) (said : JobAnswer) (rolled : Epochs) → FitsReply q lost job said
+replied-rolled : (q : RoundProgress) (lost : Bool) (job : CoreJob) (said : JobOutcome) (rolled : EpochSet) → FitsReply q lost job said
     → JobRolled rolled job
 replied-rolled q lost (Append cube epoch rows) said rolled f = tt
 replied-rolled q lost (DropBox cube epoch box) said rolled f = tt
@@ -188,14 +188,14 @@ free-none (NoJob closed) d e = none-some d e
 free-none (Work job answer) d e = none-some d e
 free-none (Reply client answer) d e = none-some d e
 
-worked-none : (c : ℕ) (j : CoreJob) (x : JobAnswer) (m : WorkerMove) (d : DoneJob) → job_done (Worked c j x) m ≡ Some d → ⊥
+worked-none : (c : ℕ) (j : CoreJob) (x : JobOutcome) (m : WorkerMove) (d : DoneJob) → job_done (Worked c j x) m ≡ Some d → ⊥
 worked-none c j x (Take client job) d e = none-some d e
 worked-none c j x (NoJob closed) d e = none-some d e
 worked-none c j x (Work job answer) d e = none-some d e
 worked-none c j x (Reply client answer) d e = none-some d e
 
 done-rolled : (o : Opening) (es : List CoreEvent) (mail : ℕ) (q : RoundProgress) (lost : Bool) (worker : WorkerState) (move : WorkerMove)
-    (rolled : Epochs) (d : DoneJob) → FitsWork q lost worker move → MoveSays o es mail move → job_done worker move ≡ Some d
+    (rolled : EpochSet) (d : DoneJob) → FitsWork q lost worker move → MoveSays o es mail move → job_done worker move ≡ Some d
     → JobRolled (rolled_after_move true move rolled) d.job
 done-rolled o es mail q lost (Took c j) (Work made answer) rolled d fits says is =
     coe 0 1 (i. JobRolled (rolled_after_move true (Work made answer) rolled) (same_Some (record { client = c; job = made; answer = answer }) d is i).job)
@@ -208,23 +208,23 @@ done-rolled o es mail q lost (Took c j) (NoJob closed) rolled d fits says is = a
 done-rolled o es mail q lost Free move rolled d fits says is = absurd (free-none move d is)
 done-rolled o es mail q lost (Worked c j x) move rolled d fits says is = absurd (worked-none c j x move d is)
 
-where-rolled : (own : Bool) (rolled : Epochs) (job : CoreJob) (answer : JobAnswer) (p : JobPlace) → JobRolled rolled job → PlaceRolled rolled p
+where-rolled : (own : Bool) (rolled : EpochSet) (job : CoreJob) (answer : JobOutcome) (p : JobPlace) → JobRolled rolled job → PlaceRolled rolled p
     → PlaceRolled rolled (place_where own (Answered job answer) p)
 where-rolled true rolled job answer p new r = new
 where-rolled false rolled job answer p new r = r
 
-with-done-rolled : (x : Option DoneJob) (a : ℕ) (rolled : Epochs) (p : JobPlace) → ((d : DoneJob) → x ≡ Some d → JobRolled rolled d.job)
+with-done-rolled : (x : Option DoneJob) (a : ℕ) (rolled : EpochSet) (p : JobPlace) → ((d : DoneJob) → x ≡ Some d → JobRolled rolled d.job)
     → PlaceRolled rolled p → PlaceRolled rolled (place_with_done a x p)
 with-done-rolled None a rolled p new r = r
 with-done-rolled (Some d) a rolled p new r = where-rolled (d.client == a) rolled d.job d.answer p (new d refl) r
 
-move-rolled : (here : Bool) (a : ℕ) (worker : WorkerState) (move : WorkerMove) (rolled : Epochs) (p : JobPlace)
+move-rolled : (here : Bool) (a : ℕ) (worker : WorkerState) (move : WorkerMove) (rolled : EpochSet) (p : JobPlace)
     → (here ≡ true → (d : DoneJob) → job_done worker move ≡ Some d → JobRolled rolled d.job)
     → PlaceRolled rolled p → PlaceRolled rolled (place_after_move here a worker move p)
 move-rolled true a worker move rolled p new r = with-done-rolled (job_done worker move) a rolled p (new refl) r
 move-rolled false a worker move rolled p new r = r
 
-call-rolled : (own : Bool) (mail : ℕ) (call : ClientCall) (rolled : Epochs) (p : JobPlace) → PlaceRolled rolled p
+call-rolled : (own : Bool) (mail : ℕ) (call : ClientCall) (rolled : EpochSet) (p : JobPlace) → PlaceRolled rolled p
     → PlaceRolled rolled (place_after_call mail own call p)
 call-rolled own mail (Post other job) rolled p r = post-rolled (other == mail) own
   where
@@ -270,7 +270,7 @@ one-epoch : (h : Option Snapshot) (j k : ℕ) → IsSomeAnd h (λ x. (x.own ≡ 
 one-epoch None j k x y = absurd x
 one-epoch (Some s) j k x y = sym x.1 ∙ y.1
 
-answered-rolled : (o : Opening) (a mail k : ℕ) (job : CoreJob) (s : ClientState) (lse : ℕ) (rolled : Epochs) → kind_of job ≡ RollsBack
+answered-rolled : (o : Opening) (a mail k : ℕ) (job : CoreJob) (s : ClientState) (lse : ℕ) (rolled : EpochSet) → kind_of job ≡ RollsBack
     → JobFits o a job s lse → JobRolled rolled job → OwnsWriter a k s → rolled k ≡ true
 answered-rolled o a mail k (Append cube epoch rows) s lse rolled kind f r owns = absurd (false≢true (ap is_rolling kind))
 answered-rolled o a mail k (DropBox cube epoch box) s lse rolled kind f r owns = absurd (false≢true (ap is_rolling kind))
@@ -294,7 +294,7 @@ post-rolls-done : (ended : Bool) (o : Opening) (es : List CoreEvent) (a mail oth
 post-rolls-done true o es a mail other job s k before kind owns has = absurd (false≢true has)
 post-rolls-done false o es a mail other job s k before kind owns has = before k kind owns has
 
-desk-rolls-done : (ends : Bool) (o : Opening) (es : List CoreEvent) (a mail : ℕ) (call : DeskCall) (s : ClientState) (k : ℕ)
+desk-rolls-done : (ends : Bool) (o : Opening) (es : List CoreEvent) (a mail : ℕ) (call : DeskEvent) (s : ClientState) (k : ℕ)
     → ends_group (OnDesk call) ≡ ends → RollsDone o es a mail s → (if ends then no_group else s.group).kind ≡ RollsBack
     → OwnsWriter a k (client_after_call o true a (OnDesk call) s)
     → has_number (mails_of (if ends then no_group else s.group).answers) mail ≡ true → rolled_back mail es k ≡ true
@@ -309,7 +309,7 @@ fetch-rolls-done : (here : Bool) (o : Opening) (es : List CoreEvent) (a mail oth
 fetch-rolls-done true o es a mail other k s is new before kind owns has = new refl kind owns
 fetch-rolls-done false o es a mail other k s is new before kind owns has = before k kind owns has
 
-fetched-rolled : (o : Opening) (es : List CoreEvent) (a mail other : ℕ) (answer : JobAnswer) (k : ℕ) → IsCoreRun o es
+fetched-rolled : (o : Opening) (es : List CoreEvent) (a mail other : ℕ) (answer : JobOutcome) (k : ℕ) → IsCoreRun o es
     → reply_for other a es ≡ Some answer → other ≡ mail → (client_state o a es).group.kind ≡ RollsBack
     → OwnsWriter a k (client_state o a es) → rolled_back mail es k ≡ true
 fetched-rolled o es a mail other answer k run held same kind owns =

@@ -3,11 +3,11 @@ use Rattle.std.proofs.Common.{◌≡◌, ◌⊎◌, ◌∙◌, ℕ, ◌%◌, ◌
 use Rattle.std.proofs.lemmas.Bool.{false≢true, eqb-false}
 use Rattle.std.proofs.lemmas.Bool.Decides.{leb_tells}
 use Rattle.core_events.specs.ShardView.{BrickEntry, RowRun, RowMark}
-use Rattle.core_events.specs.Jobs.{CoreJob, Append, DropBox, Scan, Delta, Rollback, Purge, CopyRound, Flush, JobAnswer, Done, ShardFull, Found, Compared, Copied, StoreLost, OutOfMemory, is_refusal}
-use Rattle.core_events.specs.Events.{Opening, IsSession, flusher, DeskCall, OpenWrite, OpenRead, Commit, AbortEnd, CloseRead, TakeNote, CreateCube, FindCube, CubesFrom, CountersNow, RoundOpen, RoundClose, StoreFailed, ClientCall, OnDesk, OnNames, Post, Fetch, CloseMail, NoChange, WorkerMove, Take, NoJob, Work, Reply, CoreEvent, By, At}
+use Rattle.core_events.specs.Jobs.{CoreJob, Append, DropBox, Scan, Delta, Rollback, Purge, CopyRound, Flush, JobOutcome, Done, ShardFull, Found, Compared, Copied, StoreLost, OutOfMemory, is_refusal}
+use Rattle.core_events.specs.Events.{Opening, IsSession, flusher, DeskEvent, OpenWrite, OpenRead, Commit, AbortEnd, CloseRead, TakeNote, CreateCube, FindCube, CubesFrom, CountersNow, RoundOpen, RoundClose, StoreFailed, ClientCall, OnDesk, OnNames, Post, Fetch, CloseMail, NoChange, WorkerMove, Take, NoJob, Work, Reply, CoreEvent, By, At}
 use Rattle.core_events.specs.Groups.{no_group, has_ended, has_refusal}
 use Rattle.core_events.specs.Clients.{ClientState, client_state, client_after_call, held_under, ends_group}
-use Rattle.core_events.specs.Cells.{counters_of_run, view_of, rows_of_brick, box_has_brick, WorkerState, Free, Took, Worked, worker_of, queue_of, reply_for}
+use Rattle.core_events.specs.Cells.{counters_of_run, shard_view_of, rows_of_brick, box_has_brick, WorkerState, Free, Took, Worked, worker_of, queue_of, reply_for}
 use Rattle.core_events.specs.Fitting.{FitsCall, OwnsWriter, FitsWork, FitsReply, RoundProgress, round_progress}
 use Rattle.core_events.specs.Runs.{IsCoreRun, MoveSays, ShardSays}
 use Rattle.core_mails.specs.Histories.{DoneJob, job_done}
@@ -105,7 +105,7 @@ own-fetch true o cube brick e posted told p new f = new refl
 own-fetch false o cube brick e posted told p new f = f
 
 -- A call that ends a group, and leaves the writer.
-ends-clean : (o : Opening) (a e : ℕ) (call : DeskCall) (k : ClientState) → IsSession o a → FitsCall o a (OnDesk call) k
+ends-clean : (o : Opening) (a e : ℕ) (call : DeskEvent) (k : ClientState) → IsSession o a → FitsCall o a (OnDesk call) k
     → ends_group (OnDesk call) ≡ true → OwnsWriter a e (client_after_call o true a (OnDesk call) k) → IsClean k.group
 ends-clean o a e (OpenWrite statement epoch deps) k session f ends owns = ready-clean o.shards k.group f.ready
 ends-clean o a e (OpenRead number statement epoch) k session f ends owns = ready-clean o.shards k.group f.ready
@@ -126,7 +126,7 @@ ends-clean o a e (StoreFailed failed) k session f ends owns = absurd (false≢tr
 pub low-or-high : (e ec : ℕ) → (e < ec) ⊎ (ec ≤ e)
 low-or-high e ec = elim (leb_tells ec e) [ inl high ↦ inr high.1 | inr low ↦ inl low.1 ]
 
-desk-posted : (ends : Bool) (o : Opening) (es : List CoreEvent) (a e cube brick : ℕ) (call : DeskCall) → IsCoreRun o (By a (OnDesk call) ∷ es)
+desk-posted : (ends : Bool) (o : Opening) (es : List CoreEvent) (a e cube brick : ℕ) (call : DeskEvent) → IsCoreRun o (By a (OnDesk call) ∷ es)
     → ends_group (OnDesk call) ≡ ends → IsSession o a
     → OwnsWriter a e (client_after_call o true a (OnDesk call) (client_state o a es)) → PostedFits o es a e cube brick
     → IsClean (if ends then no_group else (client_state o a es).group)
@@ -232,8 +232,8 @@ call-posted false o es a b e cube brick call is run before session owns clean =
 -- A move at the brick's own shard.
 
 -- What a job that is done gives, by its answer.
-written : (o : Opening) (es : List CoreEvent) (mail cube brick e : ℕ) (job : CoreJob) (answer : JobAnswer) (told posted : List BrickEntry)
-    → ShardSays o mail (view_of o es) job answer
+written : (o : Opening) (es : List CoreEvent) (mail cube brick e : ℕ) (job : CoreJob) (answer : JobOutcome) (told posted : List BrickEntry)
+    → ShardSays o mail (shard_view_of o es) job answer
     → entries_of_epoch e posted ≡ entries_of_epoch e (entries_of_job o cube brick job) ++ entries_of_epoch e told
     → (is_write job && is_refusal answer) ≡ false
     → entries_of_epoch e posted ≡ entries_of_epoch e (told_after_move o true cube brick (Work job answer) told)
@@ -263,27 +263,27 @@ written o es mail cube brick e job OutOfMemory told posted says f fine =
 written o es mail cube brick e job (Found rows) told posted says f fine =
     f ∙ ap (λ xs. xs ++ entries_of_epoch e told) (unwritten job says)
   where
-    unwritten : (j : CoreJob) → ShardSays o mail (view_of o es) j (Found rows) → entries_of_epoch e (entries_of_job o cube brick j) ≡ []
+    unwritten : (j : CoreJob) → ShardSays o mail (shard_view_of o es) j (Found rows) → entries_of_epoch e (entries_of_job o cube brick j) ≡ []
     unwritten (Append c epoch more) x = absurd x
     unwritten (DropBox c epoch box) x = absurd x
     unwritten j x = refl
 written o es mail cube brick e job (Compared came went) told posted says f fine =
     f ∙ ap (λ xs. xs ++ entries_of_epoch e told) (unwritten job says)
   where
-    unwritten : (j : CoreJob) → ShardSays o mail (view_of o es) j (Compared came went) → entries_of_epoch e (entries_of_job o cube brick j) ≡ []
+    unwritten : (j : CoreJob) → ShardSays o mail (shard_view_of o es) j (Compared came went) → entries_of_epoch e (entries_of_job o cube brick j) ≡ []
     unwritten (Append c epoch more) x = absurd x
     unwritten (DropBox c epoch box) x = absurd x
     unwritten j x = refl
 written o es mail cube brick e job (Copied view) told posted says f fine =
     f ∙ ap (λ xs. xs ++ entries_of_epoch e told) (unwritten job says)
   where
-    unwritten : (j : CoreJob) → ShardSays o mail (view_of o es) j (Copied view) → entries_of_epoch e (entries_of_job o cube brick j) ≡ []
+    unwritten : (j : CoreJob) → ShardSays o mail (shard_view_of o es) j (Copied view) → entries_of_epoch e (entries_of_job o cube brick j) ≡ []
     unwritten (Append c epoch more) x = absurd x
     unwritten (DropBox c epoch box) x = absurd x
     unwritten j x = refl
 
 -- A job of another transaction.
-pub other-told : (o : Opening) (cube brick e : ℕ) (job : CoreJob) (answer : JobAnswer) (told : List BrickEntry) → IsOtherEpoch e job
+pub other-told : (o : Opening) (cube brick e : ℕ) (job : CoreJob) (answer : JobOutcome) (told : List BrickEntry) → IsOtherEpoch e job
     → entries_of_epoch e (told_after_move o true cube brick (Work job answer) told) ≡ entries_of_epoch e told
 other-told o cube brick e job Done told out =
     ap (entries_of_epoch e) (told-job o cube brick job told)
@@ -296,8 +296,8 @@ other-told o cube brick e job (Copied view) told out = refl
 other-told o cube brick e job StoreLost told out = refl
 other-told o cube brick e job OutOfMemory told out = refl
 
-work-posted : (own : Bool) (o : Opening) (es : List CoreEvent) (mail cube brick e : ℕ) (job : CoreJob) (answer : JobAnswer)
-    (posted told : List BrickEntry) (p : JobPlace) → ShardSays o mail (view_of o es) job answer
+work-posted : (own : Bool) (o : Opening) (es : List CoreEvent) (mail cube brick e : ℕ) (job : CoreJob) (answer : JobOutcome)
+    (posted told : List BrickEntry) (p : JobPlace) → ShardSays o mail (shard_view_of o es) job answer
     → (own ≡ true → p ≡ Asked job) → (own ≡ false → IsOtherEpoch e job) → PlacePosted o cube brick e posted told p
     → PlacePosted o cube brick e posted (told_after_move o true cube brick (Work job answer) told) (place_where own (Answered job answer) p)
 work-posted true o es mail cube brick e job answer posted told p says asked other f =
@@ -306,7 +306,7 @@ work-posted false o es mail cube brick e job answer posted told p says asked oth
     place-same o cube brick e posted told posted (told_after_move o true cube brick (Work job answer) told) p refl
     (other-told o cube brick e job answer told (other refl)) f
 
-flush-posted : (own : Bool) (o : Opening) (cube brick e : ℕ) (q : RoundProgress) (lost : Bool) (job : CoreJob) (said : JobAnswer)
+flush-posted : (own : Bool) (o : Opening) (cube brick e : ℕ) (q : RoundProgress) (lost : Bool) (job : CoreJob) (said : JobOutcome)
     (posted told : List BrickEntry) (p : JobPlace) → FitsReply q lost job said → (own ≡ true → p ≡ Asked job)
     → PlacePosted o cube brick e posted told p → PlacePosted o cube brick e posted told (place_where own (Answered job said) p)
 flush-posted true o cube brick e q lost job said posted told p fits asked f =

@@ -5,13 +5,8 @@ ghost use Rattle.outside.specs.Counts.{Rose};
 ghost use Rattle.outside_disk.specs.Views.{IsSynced, LeavesOnly};
 ghost use Rattle.gate_writes.specs.Gates.{EndsShut, EndsOpen, Appending};
 
+use crate::gate::OPEN_GATE;
 use outside_disk::{Disk, Failed, write_through};
-
-/// A gate that is open.
-pub const OPEN_GATE: u8 = 0xa5;
-
-/// A gate that is shut, as it is written.
-pub(crate) const SHUT_GATE: u8 = 0;
 
 /// Writes bytes behind the gate that is shut at a place, and then opens this gate. A crash at any
 /// moment leaves the file up to the gate as it was: with a gate that is shut, or one that is open with

@@ -6,7 +6,7 @@ ghost use Rattle.outside_disk.specs.Views.{IsSynced, AnyMoment, LeavesOnly};
 ghost use Rattle.cube_rounds.specs.Headers.{open_gate};
 ghost use Rattle.gate_writes.specs.Gates.{has_shut_gate, Filling, HasAnyFront, with_shut_front};
 
-use crate::append::{OPEN_GATE, SHUT_GATE};
+use crate::gate::{OPEN_GATE, SHUT_GATE};
 use outside_disk::{Disk, Failed, replace_from, write_through};
 
 /// Shuts the first gate of a file, or makes one that is shut where the file is empty.

@@ -3,8 +3,10 @@
 
 mod append;
 mod fill;
+mod gate;
 mod replace;
 
-pub use append::{OPEN_GATE, append_bytes};
+pub use append::append_bytes;
 pub use fill::{fill_file, shut_front};
+pub use gate::{OPEN_GATE, has_shut_gate};
 pub use replace::replace_file;

@@ -1,5 +1,5 @@
-//! Work on rows: folded, appended to a brick, scanned and left in it, and written and read as a round; and the
-//! plain work that it is held against.
+//! Work on rows: folded, appended to a brick, scanned and left in it, and written and read as a round; a store
+//! opened; and the plain work that these are held against.
 #![tactic(auto)]
 
 mod bricks;
@@ -10,6 +10,7 @@ mod plain;
 mod round_made;
 mod rounds;
 mod scans;
+mod stores;
 
 pub use bricks::measure_append;
 pub use groups::Fold;
@@ -17,3 +18,4 @@ pub use kept::Keep;
 pub use plain::{Copies, Sum};
 pub use rounds::{Digest, ReadRound, measure_write};
 pub use scans::{Count, Scan};
+pub use stores::{measure_store_open, measure_store_read};

@@ -2,6 +2,8 @@
 
 ghost use Rattle.std.specs.Prelude.{◌<◌};
 
+use cube_gen::cubes_text;
+use gate_writes::OPEN_GATE;
 use rand_pcg::Pcg32;
 use round_fields::digest_of;
 use std::alloc::{AllocError, Global};
@@ -106,5 +108,27 @@ pub fn round_of(alloc: Global, items: u32) -> Result<Vec<u8>, AllocError> {
     let digest = digest_of(out.as_slice());
     out.extend_from_slice(&digest)?;
     out.push(0)?;
+    Ok(out)
+}
+
+/// The header of a store for the generator's cube, of generation 1, without a gate behind it.
+fn header(alloc: Global) -> Result<Vec<u8>, AllocError> {
+    let text = cubes_text();
+    let mut head = Vec::from_slice(alloc, b"CUBRICK")?;
+    put_four(&mut head, 2)?;
+    put_four(&mut head, u32::try_from(text.len()).unwrap_or(u32::MAX))?;
+    put_eight(&mut head, 1)?;
+    head.extend_from_slice(text.as_bytes())?;
+    let mut out = Vec::from_slice(alloc, &[OPEN_GATE])?;
+    out.extend_from_slice(head.as_slice())?;
+    out.extend_from_slice(&digest_of(head.as_slice()))?;
+    Ok(out)
+}
+
+/// The file of a store with that round.
+pub fn store_of(alloc: Global, items: u32) -> Result<Vec<u8>, AllocError> {
+    let mut out = header(alloc)?;
+    out.push(OPEN_GATE)?;
+    out.extend_from_slice(round_of(alloc, items)?.as_slice())?;
     Ok(out)
 }

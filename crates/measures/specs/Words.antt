@@ -2,7 +2,7 @@
 use Rattle.std.specs.Prelude.{◌≡◌, ℕ, ◌<◌, ◌^◌, Bool, true, false, ◌&&◌, nat_le, List, [], ◌∷◌, Option, Some, None, bytes_eq, codes, if◌then◌else◌}
 use Rattle.std.specs.Str.Parse.{IsNumeral, digits_value, without_leading_plus}
 use Rattle.measures.specs.declared.request.HotPath.{HotPath}
-use Rattle.measures.specs.declared.request.HotPath.TheVariants.{Split, Encode, Lookup, Known, Visible, Plan, Fold, Mail, Desk, Lock, Call, Cells, Records, LoadStep, Digest, RoundWrite, RoundRead, Copy, BrickAppend, Sum, BrickScan, BrickCount, BrickKeep}
+use Rattle.measures.specs.declared.request.HotPath.TheVariants.{Split, Encode, Lookup, Known, Visible, Plan, Fold, Mail, Desk, Lock, Call, Cells, Records, LoadStep, Digest, RoundWrite, RoundRead, StoreRead, StoreOpen, Copy, BrickAppend, Sum, BrickScan, BrickCount, BrickKeep}
 use Rattle.measures.specs.declared.request.Request.{Request}
 
 -- The path of a name among those over rounds and bricks.
@@ -11,6 +11,8 @@ row_path_of word =
     if bytes_eq word (codes "digest") then Some Digest
     else if bytes_eq word (codes "round_write") then Some RoundWrite
     else if bytes_eq word (codes "round_read") then Some RoundRead
+    else if bytes_eq word (codes "store_read") then Some StoreRead
+    else if bytes_eq word (codes "store_open") then Some StoreOpen
     else if bytes_eq word (codes "copy") then Some Copy
     else if bytes_eq word (codes "brick_append") then Some BrickAppend
     else if bytes_eq word (codes "sum") then Some Sum
@@ -57,6 +59,8 @@ most_of LoadStep = 10_000_000
 most_of Digest = 100_000_000
 most_of RoundWrite = 100_000_000
 most_of RoundRead = 100_000_000
+most_of StoreRead = 10_000_000
+most_of StoreOpen = 10_000_000
 most_of Copy = 1_000_000_000
 most_of BrickAppend = 1_000_000_000
 most_of Sum = 1_000_000_000
@@ -83,6 +87,8 @@ done_of LoadStep = codes "records loaded"
 done_of Digest = codes "rows of a round digested"
 done_of RoundWrite = codes "rows written in a round"
 done_of RoundRead = codes "rows read in a round"
+done_of StoreRead = codes "rows of a store's file read"
+done_of StoreOpen = codes "rows opened in a store"
 done_of Copy = codes "rows copied"
 done_of BrickAppend = codes "rows appended to a brick"
 done_of Sum = codes "numbers summed"

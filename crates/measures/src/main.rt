@@ -20,7 +20,8 @@ use line::Line;
 use loads::{LoadStep, Records};
 use mails::Deliver;
 use measured_rows::{
-    Copies, Count, Digest, Fold, Keep, ReadRound, Scan, Sum, measure_append, measure_write,
+    Copies, Count, Digest, Fold, Keep, ReadRound, Scan, Sum, measure_append, measure_store_open,
+    measure_store_read, measure_write,
 };
 use names::{Encode, Lookup};
 use request::{HotPath, Request, asked_for};
@@ -40,7 +41,7 @@ mod tests;
 
 const USAGE: &str = "usage: measures [--time] \
     split|encode|lookup|known|visible|plan|fold|mail|desk|lock|call|cells|records|load_step|\
-    digest|round_write|round_read|copy|brick_append|sum|brick_scan|brick_count|brick_keep N";
+    digest|round_write|round_read|store_read|store_open|copy|brick_append|sum|brick_scan|brick_count|brick_keep N";
 
 /// The words after the program's name, and none where a word is not UTF-8. The error is want of memory.
 fn words<R: Env + AllocGlobal>(rt: &R) -> io::Result<Vec<String>> {
@@ -75,6 +76,8 @@ fn ran<R: Clock + AllocGlobal + Threads + Wait + Sync>(
         HotPath::Digest => measure::<Digest, R>(rt, rt.alloc(), items),
         HotPath::RoundWrite => measure_write(rt, rt.alloc(), items),
         HotPath::RoundRead => measure::<ReadRound, R>(rt, rt.alloc(), items),
+        HotPath::StoreRead => measure_store_read(rt, rt.alloc(), items),
+        HotPath::StoreOpen => measure_store_open(rt, rt.alloc(), items),
         HotPath::Copy => measure::<Copies, R>(rt, rt.alloc(), items),
         HotPath::BrickAppend => measure_append(rt, rt.alloc(), items),
         HotPath::Sum => measure::<Sum, R>(rt, rt.alloc(), items),

@@ -40,6 +40,10 @@ pub(crate) enum HotPath {
     RoundWrite,
     /// `read_round` of the same.
     RoundRead,
+    /// `read_disk` of the file of a store with that round, beside which the next stands.
+    StoreRead,
+    /// `open_store` of that store.
+    StoreOpen,
     /// A plain copy of batches of rows, beside which the next stands.
     Copy,
     /// `Brick::append` of batches of a thousand rows.
@@ -86,6 +90,8 @@ impl HotPath {
             "digest" => Some(HotPath::Digest),
             "round_write" => Some(HotPath::RoundWrite),
             "round_read" => Some(HotPath::RoundRead),
+            "store_read" => Some(HotPath::StoreRead),
+            "store_open" => Some(HotPath::StoreOpen),
             "copy" => Some(HotPath::Copy),
             "brick_append" => Some(HotPath::BrickAppend),
             "sum" => Some(HotPath::Sum),
@@ -119,6 +125,8 @@ impl HotPath {
             HotPath::Digest => 100_000_000,
             HotPath::RoundWrite => 100_000_000,
             HotPath::RoundRead => 100_000_000,
+            HotPath::StoreRead => 10_000_000,
+            HotPath::StoreOpen => 10_000_000,
             HotPath::Copy => 1_000_000_000,
             HotPath::BrickAppend => 1_000_000_000,
             HotPath::Sum => 1_000_000_000,
@@ -150,6 +158,8 @@ impl HotPath {
             HotPath::Digest => "rows of a round digested",
             HotPath::RoundWrite => "rows written in a round",
             HotPath::RoundRead => "rows read in a round",
+            HotPath::StoreRead => "rows of a store's file read",
+            HotPath::StoreOpen => "rows opened in a store",
             HotPath::Copy => "rows copied",
             HotPath::BrickAppend => "rows appended to a brick",
             HotPath::Sum => "numbers summed",

@@ -12,7 +12,8 @@ use crate::request::{HotPath, Request, asked_for};
 use crate::scripts::Split;
 use crate::vectors::{Plan, Visible};
 use measured_rows::{
-    Copies, Count, Digest, Fold, Keep, ReadRound, Scan, Sum, measure_append, measure_write,
+    Copies, Count, Digest, Fold, Keep, ReadRound, Scan, Sum, measure_append, measure_store_open,
+    measure_store_read, measure_write,
 };
 use std::alloc::{AllocError, Global};
 use std::test::Fail;
@@ -117,6 +118,11 @@ fn checksums(rt: HostRuntime) -> Result<(), Fail> {
     assert_eq!(rt; checksum::<Digest>(rt.alloc())?, 21);
     assert_eq!(rt; measure_write(&rt, rt.alloc(), 1_000)?.checksum, 18_633);
     assert_eq!(rt; checksum::<ReadRound>(rt.alloc())?, 18_633);
+    assert_eq!(rt;
+        measure_store_read(&rt, rt.alloc(), 1_000)?.checksum,
+        18_754
+    );
+    assert_eq!(rt; measure_store_open(&rt, rt.alloc(), 1_000)?.checksum, 1);
     assert_eq!(rt; checksum::<Copies>(rt.alloc())?, 2_000);
     assert_eq!(rt; measure_append(&rt, rt.alloc(), 1_000)?.checksum, 1_000);
     assert_eq!(rt; checksum::<Sum>(rt.alloc())?, 504_293);

@@ -126,10 +126,12 @@ impl PackedRows {
             (λ k. slice_index numbers.new k ≡ number_in_rows self.now.rows (from + k) i) }
     {
         let _rows = self.len();
-        let start = self.bits_before(i);
-        'rows: for k in 0..numbers.len() {
-            numbers[k] = self.number_behind(from + k as u64, i, start);
+        if numbers.is_empty() {
+            return;
         }
+        let place = from * self.width + self.bits_before(i);
+        self.bits
+            .read_each(place, self.width, self.widths[i], numbers);
     }
 
     // How many bits of a row stand before number `i`.

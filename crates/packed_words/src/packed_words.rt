@@ -1,10 +1,10 @@
 //! Bits in words, as a list to which numbers of a few bits are put.
 
-ghost use Rattle.std.specs.Prelude.{◌≡◌, ℕ, ◌+◌, ◌*◌, ◌^◌, ◌<◌, ◌≤◌, false, [], ◌++◌, length, take, drop, max, IsOk, OnOk, OnErr};
+ghost use Rattle.std.specs.Prelude.{◌≡◌, ℕ, ◌+◌, ◌*◌, ◌^◌, ◌<◌, ◌≤◌, false, [], ◌++◌, length, take, drop, max, slice_index, EachIndex, IsOk, OnOk, OnErr};
 ghost use Rattle.cube_values.specs.BitRows.{is_set, bits_of, word_count};
 ghost use Rattle.packed_words.specs.Numbers.{number_of_bits, low_bits};
 
-use crate::word_bits::{cut_bits, push_bits, put_bits, read_bits};
+use crate::word_bits::{cut_bits, push_bits, put_bits, read_bits, read_each};
 use std::alloc::{AllocError, Global};
 use std::marker::Model;
 
@@ -94,6 +94,19 @@ impl PackedWords {
         ensures { result ≡ number_of_bits (take width (drop place self.now.bits)) }
     {
         read_bits(self.words.as_slice(), place, width)
+    }
+
+    /// Writes the numbers in the `width` bits from `place` on, and each time `step` bits further, over the
+    /// items of a list.
+    pub fn read_each(&self, place: u64, step: u64, width: u64, numbers: &mut [u32])
+        requires width { width ≤ 32 }
+        requires within { (k : ℕ) → k < length numbers.old
+            → place + k * step + width ≤ length self.now.bits }
+        ensures { EachIndex numbers.new (λ k. slice_index numbers.new k
+            ≡ number_of_bits (take width (drop (place + k * step) self.now.bits))) }
+    {
+        let _bits = self.len();
+        read_each(self.words.as_slice(), place, step, width, numbers);
     }
 
     /// Copies the `count` bits from `from` on to the places from `to` on, which lie no higher.

@@ -1,6 +1,6 @@
 //! Numbers of a few bits in a list of words, which may cross from one word into the next.
 
-ghost use Rattle.std.specs.Prelude.{◌≡◌, ℕ, ◌+◌, ◌-◌, ◌*◌, ◌%◌, ◌^◌, ◌<◌, ◌≤◌, ◌⊎◌, false, length, vec_len, vec_capacity};
+ghost use Rattle.std.specs.Prelude.{◌≡◌, ℕ, ◌+◌, ◌-◌, ◌*◌, ◌%◌, ◌^◌, ◌<◌, ◌≤◌, ◌⊎◌, false, length, slice_index, EachIndex, vec_len, vec_capacity};
 ghost use Rattle.cube_values.specs.BitRows.{has_bit, is_set, word_count};
 ghost use Rattle.packed_words.specs.Words.{IsAppended, IsReplaced, IsCut};
 
@@ -41,6 +41,22 @@ pub fn read_bits(words: &[u64], place: u64, width: u64) -> u64
         return 0;
     }
     low_part(word_at(words, place, width), width)
+}
+
+/// Writes the numbers in the `width` bits from `place` on, and each time `step` bits further, over the items
+/// of a list.
+pub fn read_each(words: &[u64], place: u64, step: u64, width: u64, numbers: &mut [u32])
+    requires width { width ≤ 32 }
+    requires within { (k : ℕ) → k < length numbers.old
+        → place + k * step + width ≤ 64 * length words.now }
+    requires small { (k : ℕ) → k < length numbers.old → place + k * step < 2 ^ 64 }
+    ensures bits { (k bit : ℕ) → k < length numbers.new → bit < width
+        → has_bit (slice_index numbers.new k) bit ≡ is_set words.now (place + k * step + bit) }
+    ensures below { EachIndex numbers.new (λ k. slice_index numbers.new k < 2 ^ width) }
+{
+    'numbers: for k in 0..numbers.len() {
+        numbers[k] = read_bits(words, place + k as u64 * step, width) as u32;
+    }
 }
 
 // A word whose lowest `width` bits are those from `place` on.

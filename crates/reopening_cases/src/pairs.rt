@@ -1,8 +1,8 @@
 //! Pairs of files: what they keep, or their first fault.
 
-mod bytes;
-
-use bytes::{FOUND, GENERATION_2, KEPT, LAST_GENERATION, SPENT_GENERATION, STORE_1, STORE_2};
+use crate::bytes::{
+    FOUND, GENERATION_2, KEPT, LAST_GENERATION, SPENT_GENERATION, STORE_1, STORE_2,
+};
 use cube_values::CallError;
 use std::alloc::{AllocError, Global};
 use std::test::*;

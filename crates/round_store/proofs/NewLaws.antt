@@ -20,7 +20,7 @@ use Rattle.store_reading.specs.Pairs.{pair_content, file_of, StandsAt}
 use Rattle.store_reading.proofs.FrontsRead.{begins_open}
 use Rattle.store_reading.proofs.PairsRead.{stands_begin}
 use Rattle.round_store.specs.Counts.{counts_of}
-use Rattle.round_store.specs.Creation.{StandForNone, AreCreating, shut_where_some, IsShutNow}
+use Rattle.round_store.specs.Creation.{StandForNone, AreCreating, with_any_front_shut, IsShutNow}
 use Rattle.round_store.specs.States.{StoreState, whole_place, IsStoreOf, AreFilesOf, IsAt}
 use Rattle.round_store.specs.Wholes.{IsBegun}
 use Rattle.round_store.proofs.AroundLaws.{Told}
@@ -36,7 +36,7 @@ none_of_closed : (first second : List ℕ) → IsClosed first → IsClosed secon
 none_of_closed first second a b kept (inl current) = not_closed kept first second current a
 none_of_closed first second a b kept (inr current) = not_closed kept second first current b
 
-shut_closed : (g : List ℕ) → IsClosed (shut_where_some g)
+shut_closed : (g : List ℕ) → IsClosed (with_any_front_shut g)
 shut_closed [] = inl (omega arith)
 shut_closed (gate ∷ rest) = closed_by_gate shut_gate rest (λ e. zero_apart e)
   where
@@ -121,8 +121,8 @@ second_creating (Some f) (Some g) old new list moves =
 -- A second file whose gate is shut is closed.
 closed_now : (g : List ℕ) (old new : View) → old.told ≡ Some g → IsShutNow old new → (d : List ℕ) → new.image d → IsClosed d
 closed_now g old new is shut d image =
-    let told : new.told ≡ Some (shut_where_some g) = subst (λ (o : Option (List ℕ)). IfSome o (λ f. new.told ≡ Some (shut_where_some f))) is shut.told in
-    let only : (c : List ℕ) → new.image c → c ≡ shut_where_some g = subst (λ (o : Option (List ℕ)). IfSome o (λ h. (c : List ℕ) → new.image c → c ≡ h)) told shut.synced in
+    let told : new.told ≡ Some (with_any_front_shut g) = subst (λ (o : Option (List ℕ)). IfSome o (λ f. new.told ≡ Some (with_any_front_shut f))) is shut.told in
+    let only : (c : List ℕ) → new.image c → c ≡ with_any_front_shut g = subst (λ (o : Option (List ℕ)). IfSome o (λ h. (c : List ℕ) → new.image c → c ≡ h)) told shut.synced in
     subst IsClosed (sym (only d image)) (shut_closed g)
 
 pub first_creating : (a b : Option (List ℕ)) (v1 n1 v2 n2 : View) (text : List ℕ) (list : List Decl) (bytes : List ℕ) → IsCanonical text list → FitsHeader 1 text → IsBegun 1 text bytes → v2.told ≡ b
@@ -141,15 +141,15 @@ first_creating (Some f) (Some g) v1 n1 v2 n2 text list bytes can fits begun is n
 
 -- The files of a new store.
 pub new_files : (a b x y : Option (List ℕ)) (s : StoreState) (text : List ℕ) (list : List Decl) (bytes : List ℕ) → IsCanonical text list → FitsHeader 1 text → IsBegun 1 text bytes
-    → s.place ≡ whole_place false 1 bytes → (IsSome a ↔ IsSome x) → (IsSome b ↔ IsSome y) → IfSome a (λ f. x ≡ Some (open_gate ∷ bytes)) → IfSome b (λ g. y ≡ Some (shut_where_some g))
-    → IfSome b (λ g. has_shut_gate (shut_where_some g) ≡ s.shut) → Told x y (λ f g. AreFilesOf s (kept_of_cubes list) (file_of s.place.second f g) (file_of s.place.second g f))
+    → s.place ≡ whole_place false 1 bytes → (IsSome a ↔ IsSome x) → (IsSome b ↔ IsSome y) → IfSome a (λ f. x ≡ Some (open_gate ∷ bytes)) → IfSome b (λ g. y ≡ Some (with_any_front_shut g))
+    → IfSome b (λ g. has_shut_gate (with_any_front_shut g) ≡ s.shut) → Told x y (λ f g. AreFilesOf s (kept_of_cubes list) (file_of s.place.second f g) (file_of s.place.second g f))
 new_files a b None y s text list bytes can fits begun place tells-a tells-b first second gate = tt
 new_files None b (Some c) y s text list bytes can fits begun place tells-a tells-b first second gate = let told = tells-a.1 refl in absurd cc
 new_files (Some f) None (Some c) None s text list bytes can fits begun place tells-a tells-b first second gate = tt
 new_files (Some f) None (Some c) (Some d) s text list bytes can fits begun place tells-a tells-b first second gate = let told = tells-b.1 refl in absurd cc
 new_files (Some f) (Some g) (Some c) y s text list bytes can fits begun place tells-a tells-b first second gate =
     let kept = kept_of_cubes list in
-    let other = shut_where_some g in
+    let other = with_any_front_shut g in
     let stands = new_file text list bytes other can fits begun (shut_closed g) in
     let files : AreFilesOf s kept (open_gate ∷ bytes) other = record {
       stands = subst (λ (p : StorePlace). StandsAt sha256 (pair_content kept p) (open_gate ∷ bytes) other) (sym place) stands;
@@ -171,13 +171,13 @@ beside_of old s b kept is store = record {
   long = store.long;
 }
 
-gate_beside : (b : Option (List ℕ)) (shut now : Bool) → now ≡ shut → IfSome b (λ g. has_shut_gate (shut_where_some g) ≡ shut) → IfSome b (λ g. has_shut_gate (shut_where_some g) ≡ now)
-gate_beside b shut now is gate = subst (λ (x : Bool). IfSome b (λ g. has_shut_gate (shut_where_some g) ≡ x)) (sym is) gate
+gate_beside : (b : Option (List ℕ)) (shut now : Bool) → now ≡ shut → IfSome b (λ g. has_shut_gate (with_any_front_shut g) ≡ shut) → IfSome b (λ g. has_shut_gate (with_any_front_shut g) ≡ now)
+gate_beside b shut now is gate = subst (λ (x : Bool). IfSome b (λ g. has_shut_gate (with_any_front_shut g) ≡ x)) (sym is) gate
 
 -- A new store, once both files are written.
 pub new_at : (v1 n1 v2 n2 : View) (old s : StoreState) (b : Bool) (text : List ℕ) (list : List Decl) (bytes : List ℕ) → IsCanonical text list → FitsHeader 1 text → IsBegun 1 text bytes
     → s ≡ record old { shut = b } → IsStoreOf old (kept_of_cubes list) → old.place ≡ whole_place false 1 bytes → (IsSome v1.told ↔ IsSome v2.told) → (IsSome v1.told ↔ IsSome n1.told)
-    → IsSynced n1 → IfSome v1.told (λ f. n1.told ≡ Some (open_gate ∷ bytes)) → IsShutNow v2 n2 → IfSome v2.told (λ g. has_shut_gate (shut_where_some g) ≡ b) → IsAt s (kept_of_cubes list) n1 n2
+    → IsSynced n1 → IfSome v1.told (λ f. n1.told ≡ Some (open_gate ∷ bytes)) → IsShutNow v2 n2 → IfSome v2.told (λ g. has_shut_gate (with_any_front_shut g) ≡ b) → IsAt s (kept_of_cubes list) n1 n2
 new_at v1 n1 v2 n2 old s b text list bytes can fits begun is store place both tells synced written shut gate = record {
   store = beside_of old s b (kept_of_cubes list) is store;
   first_synced = synced;

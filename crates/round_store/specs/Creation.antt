@@ -24,12 +24,12 @@ AreCreating cubes old_first old_second first second =
     ⊎ (AreOld old_first old_second first second ⊎ Stands sha256 (kept_of_cubes cubes) first second)
 
 -- A file with a shut gate for its first byte, where it has one.
-abbrev pub shut_where_some : List ℕ → List ℕ
-shut_where_some [] = []
-shut_where_some (gate ∷ rest) = shut_gate ∷ rest
+abbrev pub with_any_front_shut : List ℕ → List ℕ
+with_any_front_shut [] = []
+with_any_front_shut (gate ∷ rest) = shut_gate ∷ rest
 
 -- The first gate of a file that has one was shut, and this is safe.
 pub record IsShutNow (old new : View) : Type 0 where
-  pub told : IfSome old.told (λ f. new.told ≡ Some (shut_where_some f))
+  pub told : IfSome old.told (λ f. new.told ≡ Some (with_any_front_shut f))
   pub tells : IsSome old.told ↔ IsSome new.told
   pub synced : IsSynced new

@@ -1,11 +1,14 @@
 -- What opening a store answers.
 -- Source: this project's own.
-use Rattle.std.specs.Prelude.{◌≡◌, Result, Ok, Err}
+use Rattle.std.specs.Prelude.{◌≡◌, ℕ, List, Option, Result, Ok, Err}
+use Rattle.cube_language.specs.declared.decl.Decl.{Decl}
 use Rattle.cube_rounds.specs.Stands.{Kept}
 use Rattle.cube_values.specs.declared.call_error.CallError.{CallError}
 use Rattle.cube_values.specs.declared.call_error.CallError.TheVariants.{Fault, NoMemory}
 use Rattle.store_reading.specs.declared.fault.PairFault.{PairFault}
-use Rattle.store_reading.specs.Pairs.{PairContent, pair_content}
+use Rattle.round_fields.specs.Canonical.{TellsCubes}
+use Rattle.sha2.specs.Sha256.{sha256}
+use Rattle.store_reading.specs.Pairs.{PairContent, pair_content, pair_from}
 use Rattle.round_store.specs.declared.fault.OpenFault.{OpenFault}
 use Rattle.round_store.specs.declared.fault.OpenFault.TheVariants.{Pair, Disk}
 use Rattle.round_store.specs.States.{StoreState}
@@ -16,6 +19,11 @@ OpensAs (Ok opened) read = read ≡ Ok (pair_content opened.1 opened.0.place)
 OpensAs (Err (Fault (Pair fault))) read = read ≡ Err fault
 OpensAs (Err (Fault Disk)) read = Unit {0}
 OpensAs (Err NoMemory) read = Unit {0}
+
+-- An answer is what reading these two files gives, unless a disk failed or memory ran out.
+abbrev pub OpensFilesAs : Result (StoreState × Kept) (CallError OpenFault) → List ℕ → List ℕ → Type 0
+OpensFilesAs result first second =
+    (told : List ℕ → Option (List Decl)) → TellsCubes told → OpensAs result (pair_from sha256 told first second)
 
 -- What is answered besides refusals of the files: that memory ran out or a disk failed.
 abbrev pub IsNoRefusal : CallError OpenFault → Type 0

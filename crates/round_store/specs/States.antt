@@ -12,6 +12,7 @@ use Rattle.sha2.specs.Sha256.{sha256}
 use Rattle.store_reading.specs.declared.pair.StorePlace.{StorePlace}
 use Rattle.store_reading.specs.Pairs.{pair_content, file_of, StandsAt}
 use Rattle.round_store.specs.Counts.{counts_of}
+use Rattle.round_store.specs.declared.store.TheConstants.{FILE_ROUNDS}
 use Rattle.gate_writes.specs.Gates.{has_shut_gate}
 
 -- The cubes, of which the header has so many; the number of rounds in the current file; the numbers of names; where
@@ -24,10 +25,10 @@ pub record StoreState : Type 0 where
   pub place : StorePlace
   pub shut : Bool
 
--- The next round is whole, and goes to the other file: the current one has version 1, or 64 rounds and a generation
+-- The next round is whole, and goes to the other file: the current one has version 1, or FILE_ROUNDS rounds and a generation
 -- that another one may follow.
 abbrev pub wants_whole : StoreState → Bool
-wants_whole s = s.place.generation == 0 || (nat_le 64 s.rounds && nat_lt s.place.generation (2 ^ 61))
+wants_whole s = s.place.generation == 0 || (nat_le FILE_ROUNDS s.rounds && nat_lt s.place.generation (2 ^ 61))
 
 -- The header's cubes.
 abbrev pub header_cubes : Kept → List Decl

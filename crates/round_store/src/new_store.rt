@@ -10,7 +10,7 @@ ghost use Rattle.gate_writes.specs.Gates.{Filling, HasAnyFront, has_shut_gate};
 ghost use Rattle.outside.specs.Counts.{Rose};
 ghost use Rattle.outside_disk.specs.Reads.{IsUntouched};
 ghost use Rattle.outside_disk.specs.Views.{IsSynced, AnyMoment, LeavesOnly};
-ghost use Rattle.round_store.specs.Creation.{AreCreating, shut_where_some, IsShutNow};
+ghost use Rattle.round_store.specs.Creation.{AreCreating, with_any_front_shut, IsShutNow};
 ghost use Rattle.round_store.specs.States.{whole_place, IsStoreOf, IsAt, WhereTold};
 ghost use Rattle.round_store.specs.Wholes.{IsBegun};
 
@@ -57,12 +57,12 @@ fn is_empty<D: Disk>(disk: &mut D) -> Result<bool, Failed>
 }
 
 /// Shuts the first gate of a file that is not empty, and answers whether there is one.
-fn shut_where_some<D: Disk>(disk: &mut D) -> Result<bool, Failed>
+fn shut_any_front<D: Disk>(disk: &mut D) -> Result<bool, Failed>
     requires synced { IsSynced (D.view disk.old) }
     ensures any_moment { AnyMoment HasAnyFront (D.view disk.old) (D.view disk.new) }
     ensures shut { OnOk result (IsShutNow (D.view disk.old) (D.view disk.new)) }
     ensures answer { IfSome (D.view disk.old).told (λ f.
-        IfOk result (λ some. has_shut_gate (shut_where_some f) ≡ some)) }
+        IfOk result (λ some. has_shut_gate (with_any_front_shut f) ≡ some)) }
     ensures failed { OnErr result (Rose (D.view disk.old).faults (D.view disk.new).faults) }
 {
     if is_empty(disk)? {
@@ -103,14 +103,14 @@ fn begin_files<D: Disk>(disk: &mut D, other: &mut D, bytes: &[u8]) -> Result<boo
     ensures tells { IsSome (D.view disk.old).told ↔ IsSome (D.view disk.new).told }
     ensures shut { OnOk result (IsShutNow (D.view other.old) (D.view other.new)) }
     ensures answer { IfSome (D.view other.old).told (λ g.
-        IfOk result (λ some. has_shut_gate (shut_where_some g) ≡ some)) }
+        IfOk result (λ some. has_shut_gate (with_any_front_shut g) ≡ some)) }
     ensures synced { OnOk result (IsSynced (D.view disk.new)) }
     ensures order { OnErr result ((disk.new ≡ disk.old)
         ⊎ IsShutNow (D.view other.old) (D.view other.new)) }
     ensures failed { OnErr result (Rose (D.view disk.old).faults (D.view disk.new).faults
         ⊎ Rose (D.view other.old).faults (D.view other.new).faults) }
 {
-    let some = shut_where_some(other)?;
+    let some = shut_any_front(other)?;
     begin_first(disk, bytes)?;
     Ok(some)
 }

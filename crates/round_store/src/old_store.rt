@@ -1,18 +1,15 @@
 //! Opening of a store.
 
-ghost use Rattle.std.specs.Prelude.{◌≡◌, ◌⊎◌, ◌↔◌, ℕ, List, Option, length, IfOk, IfSome, IsSome, IsErrOf, MatchResult};
-ghost use Rattle.cube_language.specs.declared.decl.Decl.{Decl};
+ghost use Rattle.std.specs.Prelude.{◌≡◌, ◌⊎◌, ◌↔◌, ℕ, List, length, IfOk, IfSome, IsSome, IsErrOf, MatchResult};
 ghost use Rattle.cube_rounds.specs.Stands.{Kept as KeptData, Stands};
 ghost use Rattle.cube_values.specs.declared.call_error.CallError.TheVariants.{Fault, NoMemory};
-ghost use Rattle.gate_writes.specs.Gates.{has_shut_gate};
 ghost use Rattle.outside.specs.Counts.{Rose};
 ghost use Rattle.outside_disk.specs.Reads.{IsUntouched};
 ghost use Rattle.outside_disk.specs.Views.{IsSynced};
-ghost use Rattle.round_fields.specs.Canonical.{TellsCubes};
 ghost use Rattle.sha2.specs.Sha256.{sha256};
-ghost use Rattle.store_reading.specs.Pairs.{pair_from, file_of};
+ghost use Rattle.store_reading.specs.Pairs.{file_of};
 ghost use Rattle.round_store.specs.Counts.{counts_of};
-ghost use Rattle.round_store.specs.Opening.{OpensAs, IsNoRefusal};
+ghost use Rattle.round_store.specs.Opening.{OpensFilesAs, IsNoRefusal};
 ghost use Rattle.round_store.specs.States.{IsStoreOf, AreFilesOf, IsAt, WhereTold};
 ghost use Rattle.round_store.specs.declared.fault.OpenFault.TheVariants.{Disk as DiskFault};
 
@@ -21,7 +18,7 @@ use crate::fault::OpenFault;
 use crate::store::Store;
 use cube_schema::copy_cubes;
 use cube_values::CallError;
-use gate_writes::OPEN_GATE;
+use gate_writes::has_shut_gate;
 use outside_disk::{Disk, read_disk};
 use std::alloc::{AllocError, Global};
 use store_reading::{Kept, StorePlace, read_pair};
@@ -55,16 +52,6 @@ pub(crate) fn store_of(
     })
 }
 
-/// Whether a file is not empty and its first byte is not that of an open gate.
-fn has_shut_gate(file: &[u8]) -> bool
-    ensures { result ≡ has_shut_gate file.now }
-{
-    match file {
-        [] => false,
-        [gate, ..] => *gate != OPEN_GATE,
-    }
-}
-
 /// The store that two files stand for.
 fn store_of_files(
     alloc: Global,
@@ -77,8 +64,7 @@ fn store_of_files(
         (file_of x.0.place.second second.now first.now)) }
     ensures only { (kept : KeptData) → Stands sha256 kept first.now second.now
         → MatchResult result (λ x. x.1 ≡ kept) (λ e. e ≡ NoMemory) }
-    ensures exact { (told : List ℕ → Option (List Decl)) → TellsCubes told
-        → OpensAs result (pair_from sha256 told first.now second.now) }
+    ensures exact { OpensFilesAs result first.now second.now }
     ensures never { IsErrOf result (Fault DiskFault) → ⊥ }
 {
     match read_pair(alloc, first, second) {
@@ -113,7 +99,7 @@ fn file_of_disk<D: Disk>(alloc: Global, disk: &mut D) -> Result<Vec<u8>, CallErr
 /// files, or neither does. The disks stay as they are.
 ///
 /// What the two files stand for is answered, and where they stand for nothing the first fault of the
-/// reading of both. `Disk` comes only where a disk's count rose. It takes time by the number of bytes.
+/// reading of both; from disks that do not tell their files, what reading some two files gives. `Disk` comes only where a disk's count rose. It takes time by the number of bytes.
 pub fn open_store<D: Disk>(
     alloc: Global,
     disk: &mut D,
@@ -127,8 +113,8 @@ pub fn open_store<D: Disk>(
         (kept : KeptData) → Stands sha256 kept f g
         → MatchResult result (λ x. x.1 ≡ kept) IsNoRefusal) }
     ensures exact { WhereTold (D.view disk.old) (D.view other.old) (λ f g.
-        (told : List ℕ → Option (List Decl)) → TellsCubes told
-        → OpensAs result (pair_from sha256 told f g)) }
+        OpensFilesAs result f g) }
+    ensures reads { (f : List ℕ) × (g : List ℕ) × OpensFilesAs result f g }
     ensures first_untouched { IsUntouched (D.view disk.old) (D.view disk.new) }
     ensures second_untouched { IsUntouched (D.view other.old) (D.view other.new) }
     ensures failed { IsErrOf result (Fault DiskFault)

@@ -12,7 +12,7 @@ use std::marker::Model;
 use store_reading::StorePlace;
 
 /// How many rounds a file has before another one is begun.
-const FILE_ROUNDS: u64 = 64;
+pub const FILE_ROUNDS: u64 = 64;
 
 /// A store of two files: where its current file ends, and what it has to know of its cubes.
 #[derive(Drop)]

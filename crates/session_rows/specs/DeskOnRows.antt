@@ -9,7 +9,7 @@ use Rattle.plain_rows.specs.HeldRows.{no_rows, with_rows_back, with_rows_kept}
 use Rattle.std.specs.Prelude.{ℕ, length, map}
 use Rattle.session_desk.specs.declared.session.Session.{Session}
 use Rattle.session_desk.specs.Executed.{ExecutesAtDesk}
-use Rattle.session_desk.specs.Moves.{KeepsOpen, MovesOn}
+use Rattle.session_desk.specs.Moves.{MovesOn}
 use Rattle.session_rows.specs.CubesAtDesk.{IsAtCubes}
 use Rattle.session_rows.specs.declared.cubes.Cubes.{Cubes}
 

@@ -1,7 +1,9 @@
 -- Statements at the desk of the session's cubes.
-use Rattle.std.proofs.Common.{◌≡◌, ◌∙◌, ◌++◌, ◌∷◌, [], List, None, sym, ap}
-use Rattle.cube_language.specs.declared.decl.Decl.{Decl}
-use Rattle.cube_run.specs.RunRecords.{Sentence}
+use Rattle.std.proofs.Common.{◌≡◌, ◌∙◌, None, Some, sym}
+use Rattle.cube_language.specs.declared.statement.Statement.{Statement}
+use Rattle.cube_journal.specs.declared.refusal.Refusal.{Refusal}
+use Rattle.cube_run.specs.RunRecords.{Says, Sentence}
+use Rattle.cube_run.specs.StepOutcomes.{refused_by_mode}
 use Rattle.aosi_desk.specs.Desks.{DeskState}
 use Rattle.session_replies.specs.Modes.{mode_of}
 use Rattle.session_desk.specs.declared.answered.Answered.{Answered}
@@ -66,3 +68,37 @@ answered_commits (Replied said) sentence desk session cubes new_desk now h x sam
     desk_commits sentence desk session cubes new_desk now said (record { at = h; executed = x; moves = moves }) same
     turns
 answered_commits Stopped sentence desk session cubes new_desk now h x same moves turns = tt
+
+-- ---- refusals of any statement
+
+pub each_stays : (answered : Answered) (desk : DeskState) (session : Session) (cubes : Cubes) (new_desk : DeskState)
+    (now : Session) → IsAtCubes desk session cubes
+    → IfReplied answered (λ said. (each : Sentence) → ExecutesAtDesk each desk session new_desk now said)
+    → new_desk.cubes ≡ desk.cubes → MovesOn None desk new_desk → OpenStays desk session now
+    → IfReplied answered (λ said. (each : Sentence) → ExecutesOnRows each desk session cubes new_desk now cubes said)
+each_stays (Replied said) desk session cubes new_desk now h x same moves turns = λ each.
+    desk_stays each desk session cubes new_desk now said (record { at = h; executed = x each; moves = moves }) same
+    turns
+each_stays Stopped desk session cubes new_desk now h x same moves turns = tt
+
+pub refused_stays : (answered : Answered) (refusal : Refusal) (desk : DeskState) (session : Session) (cubes : Cubes)
+    (new_desk : DeskState) (now : Session) → IsAtCubes desk session cubes
+    → IfReplied answered (λ said. (s : Statement) → refused_by_mode (mode_of session.mode) s ≡ Some refusal
+    → ExecutesAtDesk (Says s) desk session new_desk now said)
+    → new_desk.cubes ≡ desk.cubes → MovesOn None desk new_desk → OpenStays desk session now
+    → IfReplied answered (λ said. (s : Statement) → refused_by_mode (mode_of session.mode) s ≡ Some refusal
+    → ExecutesOnRows (Says s) desk session cubes new_desk now cubes said)
+refused_stays (Replied said) refusal desk session cubes new_desk now h x same moves turns = λ s refused.
+    desk_stays (Says s) desk session cubes new_desk now said
+    (record { at = h; executed = x s refused; moves = moves }) same turns
+refused_stays Stopped refusal desk session cubes new_desk now h x same moves turns = tt
+
+-- The refusal is of the statement that the mode refuses so.
+pub refused_one : (answered : Answered) (refusal : Refusal) (s : Statement) (desk : DeskState) (session : Session)
+    (cubes : Cubes) (new_desk : DeskState) (now : Session)
+    → IfReplied answered (λ said. (each : Statement) → refused_by_mode (mode_of session.mode) each ≡ Some refusal
+    → ExecutesOnRows (Says each) desk session cubes new_desk now cubes said)
+    → refused_by_mode (mode_of session.mode) s ≡ Some refusal
+    → IfReplied answered (ExecutesOnRows (Says s) desk session cubes new_desk now cubes)
+refused_one (Replied said) refusal s desk session cubes new_desk now x is = x s is
+refused_one Stopped refusal s desk session cubes new_desk now x is = tt

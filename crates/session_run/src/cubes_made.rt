@@ -6,14 +6,27 @@ ghost use Rattle.cube_run.specs.RunRecords.{Says};
 ghost use Rattle.cube_run.specs.StepOutcomes.{refused_by_mode};
 ghost use Rattle.session_replies.specs.Modes.{mode_of};
 ghost use Rattle.session_desk.specs.Executed.{IfReplied};
+ghost use Rattle.session_run.specs.RowsMade.{HasPlaceFor, rows_after_create};
 ghost use Rattle.session_rows.specs.CubesAtDesk.{ExecutesOnRows, IsAtCubes};
 
 use aosi_desk::Desk;
 use cube_journal::Reply;
 use cube_language::{Decl, MOST_STATEMENTS};
-use session_desk::{Answered, Session};
+use plain_rows::PlainRows;
+use session_desk::{Answered, Session, cubes_of_a_desk_are_named_apart};
 use session_rows::Cubes;
 use std::alloc::Global;
+
+/// Adds the cube that was made, if one was, without rows.
+fn add_made(rows: &mut PlainRows, answered: &Answered, dims: usize, metrics: usize)
+    requires { HasPlaceFor answered.now rows.old }
+    ensures { rows.new ≡ rows_after_create rows.old dims metrics answered.now }
+{
+    match answered {
+        Answered::Replied(Reply::Created { .. }) => rows.add_cube(dims, metrics),
+        _ => {}
+    }
+}
 
 /// CREATE CUBE: makes the cube, without rows, if it can be stored, none has its name and there is a place for it.
 pub fn create_cube(
@@ -31,11 +44,11 @@ pub fn create_cube(
     ensures executed { IfReplied result (ExecutesOnRows (Says (statement.CreateCube decl))
         desk.old session.old cubes.old desk.new session.new cubes.new) }
 {
+    cubes_of_a_desk_are_named_apart();
     let dims = decl.dims.len();
     let metrics = decl.metrics.len();
-    let answered = session_desk::create_cube(alloc, desk, session, &mut cubes.schemas, decl);
-    if let Answered::Replied(Reply::Created { .. }) = &answered {
-        cubes.rows.add_cube(dims, metrics);
-    }
+    let answered = session_desk::create_cube(alloc, desk, &mut cubes.schemas, session, decl);
+    desk.is_in_order();
+    add_made(&mut cubes.rows, &answered, dims, metrics);
     answered
 }

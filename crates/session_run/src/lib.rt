@@ -4,7 +4,11 @@
 mod cubes_made;
 mod desk_forms;
 mod endings;
+mod executing;
 
 pub use cubes_made::create_cube;
-pub use desk_forms::{begin, flush, purge, refuse_by_mode, refuse_memory, refuse_syntax, show_epochs};
+pub use desk_forms::{
+    begin, flush, purge, refuse_by_mode, refuse_memory, refuse_syntax, show_epochs,
+};
 pub use endings::{commit, rollback};
+pub use executing::exec;

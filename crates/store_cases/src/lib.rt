@@ -2,8 +2,16 @@
 #![tactic(auto)]
 
 #[cfg(test)]
+mod extremes;
+#[cfg(test)]
 mod making;
 #[cfg(test)]
 mod plain;
+#[cfg(test)]
+mod plain_copies;
+#[cfg(test)]
+mod plain_lines;
+#[cfg(test)]
+mod steps;
 #[cfg(test)]
 mod worked;

@@ -1,9 +1,10 @@
 //! Bricks and queries for the tests, and the rows that a reader finds.
 
+ghost use Rattle.std.specs.List.{AllByRecursion};
 ghost use Rattle.std.specs.Prelude.{◌≡◌, ◌∷◌, [], ◌+◌, ◌<◌, ◌≤◌, ◌^◌, IfOk, IfSome, IsTrue, All, length};
 ghost use Rattle.cube_values.specs.Queries.{IsSoundItem, IsSoundQuery};
 ghost use Rattle.cube_values.specs.Shapes.{bricks_of, IsSoundShape, IsSoundSize};
-ghost use Rattle.cube_values.specs.Spans.{IsSoundPart};
+ghost use Rattle.cube_values.specs.Spans.{IsSoundPart, Rises};
 ghost use Rattle.brick_address.specs.Addresses.{AreCoords, LieIn};
 ghost use Rattle.brick_columns.specs.Rows.{rows_between};
 ghost use Rattle.brick_store.specs.Bricks.{IsRowOf};
@@ -18,18 +19,17 @@ use cube_values::{
 use std::alloc::{AllocError, Global};
 use std::process::Abort;
 
-/// A cube of x below five and y below four, in ranges of two.
-pub fn shape(alloc: Global) -> Result<Shape, AllocError> {
-    let x = Size {
-        cardinality: 5,
-        range: 2,
-    };
-    let y = Size {
-        cardinality: 4,
-        range: 2,
-    };
+/// A cube of dimensions with these cardinalities and range sizes.
+pub fn shape_of(alloc: Global, sizes: &[(u32, u32)]) -> Result<Shape, AllocError> {
+    let mut made = Vec::new(alloc);
+    for (cardinality, range) in sizes {
+        made.push(Size {
+            cardinality: *cardinality,
+            range: *range,
+        })?;
+    }
     Ok(Shape {
-        sizes: Sizes::from_vec(vec![in alloc; x, y]?),
+        sizes: Sizes::from_vec(made),
     })
 }
 
@@ -194,40 +194,68 @@ fn is_sound(query: &BoundQuery, dims: usize, metrics: usize) -> bool
     all_sound(query.items.as_slice(), query.group.as_slice(), metrics)
 }
 
-// Whether the part is no list.
-fn is_plain(part: &Part) -> bool
+// Whether a coordinate is below all of some.
+fn is_below(coord: u32, coords: &[u32]) -> bool
+    ensures { IsTrue result → AllByRecursion (λ c. coord < c) coords.now }
+{
+    let [first, rest @ ..] = coords else {
+        return true;
+    };
+    coord < *first && is_below(coord, rest)
+}
+
+// Whether coordinates rise strictly.
+fn rise(coords: &[u32]) -> bool
+    ensures { IsTrue result → Rises coords.now }
+{
+    let [first, rest @ ..] = coords else {
+        return true;
+    };
+    is_below(*first, rest) && rise(rest)
+}
+
+// Whether the part is sound.
+fn is_sound_part(part: &Part) -> bool
     ensures { IsTrue result → IsSoundPart part.now }
 {
     match part {
         Part::All => true,
         Part::Between(..) => true,
-        Part::Listed(_) => false,
+        Part::Listed(coords) => rise(coords.as_slice()),
     }
 }
 
-// Whether no part is a list.
-fn are_plain(parts: &[Part]) -> bool
+// Whether each part is sound.
+fn are_sound_parts(parts: &[Part]) -> bool
     ensures { IsTrue result → All IsSoundPart parts.now }
 {
     let [part, rest @ ..] = parts else {
         return true;
     };
-    is_plain(part) && are_plain(rest)
+    is_sound_part(part) && are_sound_parts(rest)
 }
 
-/// For each x its number of rows and their sum, of the rows that lie in the parts.
-pub fn by_x(alloc: Global, x: Part, y: Part) -> Result<BoundQuery, AllocError> {
+/// For each combination of coordinates in some dimensions what is asked, of the rows that lie in the parts.
+pub fn query(
+    alloc: Global,
+    parts: Vec<Part>,
+    group: &[u32],
+    asked: &[BoundItem],
+) -> Result<BoundQuery, AllocError> {
+    let mut dims = Vec::new(alloc);
+    let mut items = Vec::new(alloc);
+    for dim in group {
+        dims.push(*dim)?;
+        items.push(BoundItem::Group(*dim))?;
+    }
+    items.extend_from_slice(asked)?;
     Ok(BoundQuery {
         cube: 0,
         span: Span {
-            parts: Parts::from_vec(vec![in alloc; x, y]?),
+            parts: Parts::from_vec(parts),
         },
-        group: Coords::from_vec(vec![in alloc; 0]?),
-        items: BoundItems::from_vec(vec![in alloc;
-            BoundItem::Group(0),
-            BoundItem::Count,
-            BoundItem::Sum(0),
-        ]?),
+        group: Coords::from_vec(dims),
+        items: BoundItems::from_vec(items),
     })
 }
 
@@ -239,17 +267,17 @@ pub fn table(
     shape: &Shape,
     query: &BoundQuery,
     snapshot: &Snapshot,
+    names: &NameLists,
 ) -> Result<Table, AllocError>
     requires shape { brick.now.home.sizes ≡ shape.now.sizes }
     requires metrics { brick.now.home.metrics ≡ 1 }
 {
     let mut partial = Partial::new(alloc);
     assert!(rt; is_sound(query, shape.sizes.len(), 1));
-    assert!(rt; are_plain(query.span.parts.as_slice()));
+    assert!(rt; are_sound_parts(query.span.parts.as_slice()));
     assert!(rt; brick.len() < 1 << 62);
     brick.scan(query, snapshot, &mut partial)?;
-    let names = NameLists::new(alloc);
-    partial.finish(query, &names)
+    partial.finish(query, names)
 }
 
 /// A reader at an epoch.
@@ -261,8 +289,8 @@ pub fn reader(epoch: u64) -> Snapshot {
     }
 }
 
-// Whether a field is this number.
-fn is_number(field: &Field, number: i128) -> bool {
+/// Whether a field is this number.
+pub fn is_number(field: &Field, number: i128) -> bool {
     match field {
         Field::Whole(whole) => *whole == number,
         _ => false,
@@ -290,17 +318,34 @@ pub fn has_line(table: &Table, at: usize, numbers: &[i128]) -> bool {
     }
 }
 
-/// A batch of rows of an x, a y and a metric.
+/// A batch without rows of one metric, with room for so many.
+pub fn empty_batch(alloc: Global, dims: usize, rows: usize) -> Result<CodedRows, AllocError>
+    ensures { IfOk result (λ made. made.width ≡ 1) }
+{
+    let mut batch = CodedRows::new(alloc, dims, 1);
+    batch.reserve(rows)?;
+    Ok(batch)
+}
+
+/// Puts a row at the end of a batch.
+pub fn put(rt: &impl Abort, batch: &mut CodedRows, coords: &[u32], metric: i64)
+    requires { batch.old.width ≡ 1 }
+    ensures { batch.new.width ≡ 1 }
+{
+    assert!(rt; batch.len() < batch.room() && batch.dims() == coords.len());
+    batch.push(coords, &[metric]);
+}
+
+/// A batch of rows of coordinates and a metric.
 pub fn batch_of(
     rt: &impl Abort,
     alloc: Global,
-    rows: &[(u32, u32, i64)],
+    dims: usize,
+    rows: &[(&[u32], i64)],
 ) -> Result<CodedRows, AllocError> {
-    let mut batch = CodedRows::new(alloc, 2, 1);
-    batch.reserve(rows.len())?;
-    'rows: for (x, y, metric) in rows {
-        assert!(rt; batch.len() < batch.room());
-        batch.push(&[*x, *y], &[*metric]);
+    let mut batch = empty_batch(alloc, dims, rows.len())?;
+    'rows: for (coords, metric) in rows {
+        put(rt, &mut batch, coords, *metric);
     }
     Ok(batch)
 }

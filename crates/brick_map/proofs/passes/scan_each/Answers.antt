@@ -1,6 +1,7 @@
 use Rattle.std.proofs.Common.{All, ap, subst, sym, arith}
 use Rattle.std.proofs.lemmas.List.{take_all}
 use Rattle.std.proofs.lemmas.List.Elements.{All-get_or, All-more, All-nil}
+use Rattle.epochs_vector.specs.Seen.{seen_rows}
 use Rattle.brick_store.proofs.Folds.{gains_none, gains_same}
 use Rattle.brick_map.specs.Births.{rows_found}
 use Rattle.brick_map.specs.Lists.{IsAsked, OwnsRows}
@@ -24,14 +25,14 @@ pub scan-requires-clause-room : goal.scan-requires-clause-room
 scan-requires-clause-room c =
     let l = c.loop-brick in
     let b = c.brick-item.result in
-    room_for_next c.args.query.now c.args.snapshot.now c.args.bricks.now l.brick-index b c.args.into.now.groups l.into.groups (omega arith) c.brick-item.is c.requires.room l.invariant.found
+    room_for_next c.args.query.now (seen_rows c.args.snapshot.now) c.args.bricks.now l.brick-index b c.args.into.now.groups l.into.groups (omega arith) c.brick-item.is c.requires.room l.invariant.found
 
 pub loop-brick-preserved : goal.loop-brick-preserved
 loop-brick-preserved c =
     let l = c.loop-brick in
     let b = c.brick-item.result in
     record {
-      found = found_more c.args.query.now c.args.snapshot.now c.args.bricks.now l.brick-index b c.args.into.now.groups l.into.groups c.scan.new.into.groups (omega arith) c.brick-item.is l.invariant.found c.in_ok-scan.ensures;
+      found = found_more c.args.query.now (seen_rows c.args.snapshot.now) c.args.bricks.now l.brick-index b c.args.into.now.groups l.into.groups c.scan.new.into.groups (omega arith) c.brick-item.is l.invariant.found c.in_ok-scan.ensures;
       own = All-more OwnsRows c.args.bricks.now l.brick-index b (omega arith) l.invariant.own (subst OwnsRows c.brick-item.is c.len-rows.ensures.sound);
     }
 

@@ -1,0 +1,4 @@
+pub mod OffCells
+pub mod OwnEntries
+pub mod EntrySteps
+pub mod OwnKnowledge

@@ -1,0 +1,3 @@
+pub mod DeskCalls
+pub mod NamesCalls
+pub mod MailCalls

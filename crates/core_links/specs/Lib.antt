@@ -1,0 +1,3 @@
+pub mod DeskEvents
+pub mod NamesEvents
+pub mod MailEvents

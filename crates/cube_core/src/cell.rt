@@ -1,0 +1,67 @@
+//! The cells, and the calls on them.
+
+ghost use Rattle.cube_core.specs.CoreSteps.{CanTake, CoreStep};
+
+use crate::jobs::{Job, JobAnswer};
+use crate::shard::{ShardAnswer, ShardCall, ShardCell};
+use aosi_desk::Desk;
+use core_cells::{
+    DeskAnswer, DeskCall, MailAnswer, MailCall, NamesAnswer, NamesCall, call_desk, call_mail,
+    call_names,
+};
+use mail_cell::Mail;
+use names_dict::Dicts;
+use std::alloc::Global;
+
+/// A cell. What is large lies on the heap.
+#[derive(Drop)]
+pub enum CoreCell<S> {
+    /// The desk, with the allocator for what it answers.
+    Desk { desk: Desk, alloc: Global },
+    Names(Dicts),
+    Shard(S),
+    Mail(Mail<Job, JobAnswer>),
+}
+
+/// A call on a cell.
+#[derive(Drop)]
+pub enum CoreCall {
+    Desk(DeskCall),
+    Names(NamesCall),
+    Shard(ShardCall),
+    Mail(MailCall<Job, JobAnswer>),
+}
+
+/// What a cell answers.
+#[derive(Drop)]
+pub enum CoreAnswer {
+    Desk(DeskAnswer),
+    Names(NamesAnswer),
+    Shard(ShardAnswer),
+    Mail(MailAnswer<Job, JobAnswer>),
+}
+
+/// Makes a call on a cell of its kind.
+pub fn apply<S: ShardCell>(cell: &mut CoreCell<S>, call: CoreCall) -> CoreAnswer
+    requires { CanTake S.ShardCell.can cell.old call }
+    ensures { CoreStep S.ShardCell.step cell.old call result cell.new }
+{
+    match call {
+        CoreCall::Desk(call) => match cell {
+            CoreCell::Desk { desk, alloc } => CoreAnswer::Desk(call_desk(*alloc, desk, call)),
+            _ => unreachable!(),
+        },
+        CoreCall::Names(call) => match cell {
+            CoreCell::Names(names) => CoreAnswer::Names(call_names(names, call)),
+            _ => unreachable!(),
+        },
+        CoreCall::Shard(call) => match cell {
+            CoreCell::Shard(shard) => CoreAnswer::Shard(shard.call(call)),
+            _ => unreachable!(),
+        },
+        CoreCall::Mail(call) => match cell {
+            CoreCell::Mail(mail) => CoreAnswer::Mail(call_mail(mail, call)),
+            _ => unreachable!(),
+        },
+    }
+}

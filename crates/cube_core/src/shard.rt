@@ -1,0 +1,81 @@
+//! The calls on a shard.
+
+ghost use Rattle.cube_core.specs.declared.shard.ShardAnswer.{ShardAnswer};
+ghost use Rattle.cube_core.specs.declared.shard.ShardCall.{ShardCall};
+
+use agg_fold::Partial;
+use cube_rounds::RoundBricks;
+use cube_values::{BoundQuery, CodedRows, CubeShape, Snapshot, Span};
+use standing_query::Change;
+
+/// A call on a shard. One that speaks of a cube bears the cube's shape.
+#[derive(Drop)]
+pub enum ShardCall {
+    /// A transaction puts rows.
+    Append {
+        cube: u32,
+        shape: CubeShape,
+        epoch: u64,
+        rows: CodedRows,
+    },
+    /// A transaction deletes the rows of a box.
+    DropBox {
+        cube: u32,
+        shape: CubeShape,
+        epoch: u64,
+        span: Span,
+    },
+    /// The rows of a query that a snapshot sees.
+    Scan {
+        shape: CubeShape,
+        query: BoundQuery,
+        snapshot: Snapshot,
+    },
+    /// The rows of a query that came and went from one reader to another.
+    Delta {
+        shape: CubeShape,
+        query: BoundQuery,
+        from: u64,
+        to: u64,
+    },
+    /// What a transaction wrote is taken back.
+    Rollback {
+        epoch: u64,
+    },
+    /// What no snapshot needs is taken out.
+    Purge {
+        epoch: u64,
+    },
+    /// What a round has of the shard.
+    CopyRound {
+        from: u64,
+        to: u64,
+    },
+}
+
+/// What a shard answers.
+#[derive(Drop)]
+pub enum ShardAnswer {
+    Done,
+    /// The shard has so many rows, and those of the call are too many besides; nothing changed.
+    ShardFull { rows: u64 },
+    Scanned(Partial),
+    Changed(Change),
+    Copied(RoundBricks),
+    /// Memory ran out; nothing changed.
+    NoMemory,
+}
+
+/// What keeps a shard's bricks.
+pub trait ShardCell {
+    /// The shard can take the call.
+    ghost can: { Self → ShardCall → Type 0 };
+
+    /// The shard before a call, the call, its answer, and the shard that it leaves.
+    ghost step: { Self → ShardCall → ShardAnswer → Self → Type 0 };
+
+    /// Makes the call.
+    fn call(&mut self, call: ShardCall) -> ShardAnswer
+        requires { can self.old call }
+        ensures { step self.old call result self.new };
+}

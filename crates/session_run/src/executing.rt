@@ -1,0 +1,97 @@
+//! A statement, by its form.
+
+ghost use Rattle.std.specs.Prelude.{◌≡◌, ◌+◌, ◌<◌, None};
+ghost use Rattle.cube_run.specs.RunRecords.{Says};
+ghost use Rattle.cube_run.specs.StepOutcomes.{refused_by_mode};
+ghost use Rattle.session_replies.specs.Modes.{mode_of};
+ghost use Rattle.session_desk.specs.Executed.{IfReplied};
+ghost use Rattle.session_rows.specs.CubesAtDesk.{ExecutesOnRows, IsAtCubes};
+ghost use Rattle.session_run.specs.Forms.{IsOnRows, IsPlayable};
+
+use crate::cubes_made::create_cube;
+use crate::desk_forms::{begin, flush, purge, refuse_by_mode, show_epochs};
+use crate::endings::{commit, rollback};
+use aosi_desk::Desk;
+use cube_language::{MOST_STATEMENTS, Statement};
+use row_changes::{delete, insert};
+use row_queries::select;
+use session_desk::{Answered, Session};
+use session_rows::Cubes;
+use std::alloc::Global;
+
+/// A SELECT, an INSERT or a DELETE.
+fn exec_on_rows(
+    alloc: Global,
+    desk: &mut Desk,
+    session: &mut Session,
+    cubes: &mut Cubes,
+    statement: &Statement,
+) -> Answered
+    requires at { IsAtCubes desk.old session.old cubes.old }
+    requires few { session.old.statements < MOST_STATEMENTS }
+    requires form { IsOnRows statement.now }
+    requires may { refused_by_mode (mode_of session.old.mode) statement.now ≡ None }
+    ensures at { IsAtCubes desk.new session.new cubes.new }
+    ensures number { session.new.statements ≡ session.old.statements + 1 }
+    ensures executed { IfReplied result (ExecutesOnRows (Says statement.now)
+        desk.old session.old cubes.old desk.new session.new cubes.new) }
+{
+    match statement {
+        Statement::Select { .. } => select(alloc, desk, session, cubes, statement),
+        Statement::Insert { .. } => insert(alloc, desk, session, cubes, statement),
+        Statement::Delete { .. } => delete(alloc, desk, session, cubes, statement),
+        _ => unreachable!(),
+    }
+}
+
+/// A statement that its session's mode does not refuse.
+fn exec_allowed(
+    alloc: Global,
+    desk: &mut Desk,
+    session: &mut Session,
+    cubes: &mut Cubes,
+    statement: Statement,
+) -> Answered
+    requires at { IsAtCubes desk.old session.old cubes.old }
+    requires few { session.old.statements < MOST_STATEMENTS }
+    requires form { IsPlayable statement }
+    requires may { refused_by_mode (mode_of session.old.mode) statement ≡ None }
+    ensures at { IsAtCubes desk.new session.new cubes.new }
+    ensures number { session.new.statements ≡ session.old.statements + 1 }
+    ensures executed { IfReplied result (ExecutesOnRows (Says statement)
+        desk.old session.old cubes.old desk.new session.new cubes.new) }
+{
+    match statement {
+        Statement::Begin => begin(desk, session, cubes),
+        Statement::Commit => commit(desk, session, cubes),
+        Statement::Rollback => rollback(desk, session, cubes),
+        Statement::Flush => flush(desk, session, cubes),
+        Statement::Purge => purge(desk, session, cubes),
+        Statement::ShowEpochs => show_epochs(desk, session, cubes),
+        Statement::CreateCube { decl } => create_cube(alloc, desk, session, cubes, decl),
+        other => exec_on_rows(alloc, desk, session, cubes, &other),
+    }
+}
+
+/// Executes a statement, and answers it: each form but LOAD, WATCH and SHOW WATCH. What the session's mode refuses is
+/// refused so.
+pub fn exec(
+    alloc: Global,
+    desk: &mut Desk,
+    session: &mut Session,
+    cubes: &mut Cubes,
+    statement: Statement,
+) -> Answered
+    requires at { IsAtCubes desk.old session.old cubes.old }
+    requires few { session.old.statements < MOST_STATEMENTS }
+    requires form { IsPlayable statement }
+    ensures at { IsAtCubes desk.new session.new cubes.new }
+    ensures number { session.new.statements ≡ session.old.statements + 1 }
+    ensures executed { IfReplied result (ExecutesOnRows (Says statement)
+        desk.old session.old cubes.old desk.new session.new cubes.new) }
+{
+    match session_replies::refused_by_mode(&session.mode, &statement) {
+        Some(refusal) => refuse_by_mode(desk, session, cubes, refusal),
+        None => exec_allowed(alloc, desk, session, cubes, statement),
+    }
+}

@@ -1,0 +1,116 @@
+-- What a round has of a brick, in the core's words.
+use Rattle.std.proofs.Common.{◌≡◌, ℕ, ◌+◌, ◌-◌, ◌<◌, ◌≤◌, Bool, true, false, cond, List, [], ◌∷◌, ◌++◌, length, take, drop, filter, fold, refl, sym, ap, ◌∙◌, arith, append_assoc, append-nil}
+use Rattle.std.proofs.lemmas.List.{length-append, length-drop, length-take-le, take_all}
+use Rattle.std.proofs.Math.Seq.{drop-append_seam}
+use Rattle.cube_values.specs.declared.entry.Entry.{Entry}
+use Rattle.cube_values.specs.declared.entry.Entry.TheVariants.{Run, Mark}
+use Rattle.cube_values.specs.declared.row.CodedRow.{CodedRow}
+use Rattle.cube_values.specs.EpochsVector.{Leads, rows_of, vector_with_entry, with_rows_after}
+use Rattle.cube_rounds.specs.Bricks.{EntryRows, entries_with_rows}
+use Rattle.epochs_vector.proofs.Ends.{lead_more, rows_led}
+use Rattle.epochs_vector.proofs.VisibleRows.{lead_up}
+use Rattle.brick_store.specs.Copies.{entries_of_epochs, is_of_epochs, rows_of_entries, vector_with_rows}
+use Rattle.brick_map.specs.Copied.{round_part_with}
+use Rattle.core_events.specs.ShardView.{BrickEntry, RowRun, RowMark, ShowAlike, entries_of_round}
+use Rattle.shard_views.specs.Views.{CopiesTheSame, brick_entry, brick_view, entries_newest_first, part_view}
+use Rattle.shard_views.proofs.Alike.{alike_newest, alike_same, alike_then, joined_alike, leads_push, view_from, view_push}
+use Rattle.shard_views.proofs.Grown.{view_more}
+
+-- a run has rows, and a mark has none
+abbrev HasRows : Entry → List CodedRow → Type 0
+HasRows (Run k end) rows = 0 < length rows
+HasRows (Mark k at) rows = rows ≡ []
+
+abbrev HaveRows : List EntryRows → Type 0
+HaveRows [] = Unit {0}
+HaveRows (e ∷ entries) = HasRows e.entry e.rows × HaveRows entries
+
+entries_have : (es : List Entry) (n to : ℕ) (rows : List CodedRow) → Leads n es to → to ≤ length rows → HaveRows (entries_with_rows n rows es)
+entries_have [] n to rows l m = tt
+entries_have (Run k end ∷ es) n to rows l m =
+    let up = lead_up end es to l.1 in
+    let left = length-drop n rows in
+    let long = length-take-le (end - n) (drop n rows) (omega (arith, up, left, m)) in
+    (omega (arith, long, l.0), entries_have es end to rows l.1 m)
+entries_have (Mark k at ∷ es) n to rows l m = (refl, entries_have es n to rows l.1 m)
+
+filter_have : (test : EntryRows → Bool) (entries : List EntryRows) → HaveRows entries → HaveRows (filter test entries)
+filter_have test [] h = tt
+filter_have test (e ∷ entries) h = by_test (test e) (filter_have test entries h.1) where
+  by_test : (t : Bool) → HaveRows (filter test entries) → HaveRows (cond t (e ∷ filter test entries) (filter test entries))
+  by_test true rest = (h.0, rest)
+  by_test false rest = rest
+
+-- one entry more, with its rows
+one_alike : (entry : Entry) (more : List CodedRow) (xs : List Entry) (rows : List CodedRow) → HasRows entry more → Leads 0 xs (length rows) → ShowAlike (view_from [] 0 (rows ++ more) (vector_with_entry xs (with_rows_after entry (rows_of xs + length more)))) (brick_entry entry more ∷ view_from [] 0 rows xs)
+one_alike (Run k end) more xs rows some l =
+    let n : ℕ = length rows in
+    let to : ℕ = rows_of xs + length more in
+    let new : Entry = Run k to in
+    let all : List CodedRow = rows ++ more in
+    let led = rows_led 0 xs n l in
+    let part : take (to - n) (drop n all) ≡ more = ap (take (to - n)) (drop-append_seam rows more) ∙ take_all (to - n) more (omega (arith, led)) in
+    let before = view_more xs rows more 0 n [] l (omega arith) in
+    alike_then (view_from [] 0 all (vector_with_entry xs new)) (view_from [] 0 all (xs ++ new ∷ [])) (RowRun k more ∷ view_from [] 0 rows xs)
+    (joined_alike xs new all 0 to [] (leads_push xs new 0 n to l (omega (arith, led, some), refl)))
+    (alike_same (view_from [] 0 all (xs ++ new ∷ [])) (RowRun k more ∷ view_from [] 0 rows xs) (view_push xs new all 0 n [] l ∙ (λ t. RowRun k (part t) ∷ before t)))
+one_alike (Mark k at) more xs rows none l =
+    let n : ℕ = length rows in
+    let here : ℕ = rows_of xs + length more in
+    let new : Entry = Mark k here in
+    let all : List CodedRow = rows ++ more in
+    let led = rows_led 0 xs n l in
+    let zero_long = ap length none in
+    let before = view_more xs rows more 0 n [] l (omega arith) in
+    alike_then (view_from [] 0 all (vector_with_entry xs new)) (view_from [] 0 all (xs ++ new ∷ [])) (RowMark k ∷ view_from [] 0 rows xs)
+    (joined_alike xs new all 0 n [] (leads_push xs new 0 n n l (omega (arith, led, zero_long), refl)))
+    (alike_same (view_from [] 0 all (xs ++ new ∷ [])) (RowMark k ∷ view_from [] 0 rows xs) (view_push xs new all 0 n [] l ∙ ap (λ v. RowMark k ∷ v) before))
+
+one_leads : (entry : Entry) (more : List CodedRow) (xs : List Entry) (rows : List CodedRow) → HasRows entry more → Leads 0 xs (length rows) → Leads 0 (vector_with_entry xs (with_rows_after entry (rows_of xs + length more))) (length (rows ++ more))
+one_leads (Run k end) more xs rows some l =
+    let led = rows_led 0 xs (length rows) l in
+    let long = length-append rows more in
+    lead_more xs (Run k (rows_of xs + length more)) 0 (length rows) (length (rows ++ more)) l (omega (arith, led, some), omega (arith, led, long))
+one_leads (Mark k at) more xs rows none l =
+    let led = rows_led 0 xs (length rows) l in
+    let long = length-append rows more in
+    let zero_long = ap length none in
+    lead_more xs (Mark k (rows_of xs + length more)) 0 (length rows) (length (rows ++ more)) l (omega (arith, led, zero_long), omega (arith, long, zero_long))
+
+all_alike : (es : List EntryRows) (xs : List Entry) (rows : List CodedRow) → HaveRows es → Leads 0 xs (length rows) → ShowAlike (view_from [] 0 (rows ++ rows_of_entries es) (fold vector_with_rows xs es)) (entries_newest_first (view_from [] 0 rows xs) es)
+all_alike [] xs rows h l = alike_same (view_from [] 0 (rows ++ []) xs) (view_from [] 0 rows xs) (ap (λ r. view_from [] 0 r xs) (append-nil rows))
+all_alike (e ∷ es) xs rows h l =
+    let next : List Entry = vector_with_rows xs e in
+    let all : List CodedRow = rows ++ e.rows in
+    let rest = all_alike es next all h.1 (one_leads e.entry e.rows xs rows h.0 l) in
+    let one = one_alike e.entry e.rows xs rows h.0 l in
+    let last : List BrickEntry = entries_newest_first (brick_entry e.entry e.rows ∷ view_from [] 0 rows xs) es in
+    alike_then (view_from [] 0 (rows ++ (e.rows ++ rows_of_entries es)) (fold vector_with_rows next es)) (view_from [] 0 (all ++ rows_of_entries es) (fold vector_with_rows next es)) last
+    (alike_same (view_from [] 0 (rows ++ (e.rows ++ rows_of_entries es)) (fold vector_with_rows next es)) (view_from [] 0 (all ++ rows_of_entries es) (fold vector_with_rows next es)) (ap (λ r. view_from [] 0 r (fold vector_with_rows next es)) (sym (append_assoc rows e.rows (rows_of_entries es)))))
+    (alike_then (view_from [] 0 (all ++ rows_of_entries es) (fold vector_with_rows next es)) (entries_newest_first (view_from [] 0 all next) es) last rest
+    (alike_newest es (view_from [] 0 all next) (brick_entry e.entry e.rows ∷ view_from [] 0 rows xs) one))
+
+-- the entries of a round's epochs
+module _ (from to : ℕ) where
+  one_of_round : (entry : Entry) (rows : List CodedRow) (older : List BrickEntry) → entries_of_round from to (brick_entry entry rows ∷ older) ≡ cond (is_of_epochs from to entry) (brick_entry entry rows ∷ entries_of_round from to older) (entries_of_round from to older)
+  one_of_round (Run k end) rows older = refl
+  one_of_round (Mark k at) rows older = refl
+
+  all_of_round : (es : List EntryRows) (older : List BrickEntry) → entries_newest_first (entries_of_round from to older) (entries_of_epochs from to es) ≡ entries_of_round from to (entries_newest_first older es)
+  all_of_round [] older = refl
+  all_of_round (e ∷ es) older =
+      by_test (is_of_epochs from to e.entry)
+      ∙ ap (λ v. entries_newest_first v (entries_of_epochs from to es)) (sym (one_of_round e.entry e.rows older))
+      ∙ all_of_round es (brick_entry e.entry e.rows ∷ older) where
+        by_test : (t : Bool) → entries_newest_first (entries_of_round from to older) (cond t (e ∷ entries_of_epochs from to es) (entries_of_epochs from to es)) ≡ entries_newest_first (cond t (brick_entry e.entry e.rows ∷ entries_of_round from to older) (entries_of_round from to older)) (entries_of_epochs from to es)
+        by_test true = refl
+        by_test false = refl
+
+pub copies_the_same : CopiesTheSame
+copies_the_same from to number c v =
+    let all : List EntryRows = entries_with_rows 0 c.rows c.entries in
+    let some : List EntryRows = entries_of_epochs from to all in
+    let have = filter_have (λ e. is_of_epochs from to e.entry) all (entries_have c.entries 0 (length c.rows) c.rows v.leads (omega arith)) in
+    alike_then (part_view (round_part_with from to number c)) (entries_newest_first [] some) (entries_of_round from to (brick_view c))
+    (all_alike some [] [] have refl)
+    (alike_same (entries_newest_first [] some) (entries_of_round from to (brick_view c)) (all_of_round from to all []))
