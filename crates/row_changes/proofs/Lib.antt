@@ -5,6 +5,7 @@ pub mod ApartNames
 pub mod InRuns
 pub mod Inserting
 pub mod Answering
+pub mod AnsweringInserts
 pub mod CutNames
 pub mod Dropping
 pub mod Deleting

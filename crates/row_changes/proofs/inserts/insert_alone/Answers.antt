@@ -1,6 +1,6 @@
 use Rattle.std.proofs.Common.{List, ap, length}
 use Rattle.cube_values.specs.declared.value.Value.{Value}
-use Rattle.row_changes.proofs.Answering.{alone_answered}
+use Rattle.row_changes.proofs.AnsweringInserts.{alone_answered}
 use Rattle.row_changes.proofs.Inserting.{may_come}
 use Rattle.row_changes.proofs.inserts.insert_alone.Goals as goal
 

@@ -1,7 +1,7 @@
 use Rattle.std.proofs.Common.{List, ap, length, refl}
 use Rattle.cube_values.specs.declared.value.Value.{Value}
 use Rattle.session_desk.proofs.Replying.{counted}
-use Rattle.row_changes.proofs.Answering.{inside_answered}
+use Rattle.row_changes.proofs.AnsweringInserts.{inside_answered}
 use Rattle.row_changes.proofs.Inserting.{may_come}
 use Rattle.row_changes.proofs.inserts.insert_inside.Goals as goal
 

@@ -1,4 +1,5 @@
-use Rattle.row_changes.proofs.Answering.{at_cubes, lacking_answered}
+use Rattle.row_changes.proofs.Answering.{at_cubes}
+use Rattle.row_changes.proofs.AnsweringInserts.{lacking_answered}
 use Rattle.row_changes.proofs.refused.refuse_lacking.Goals as goal
 
 pub returns-clause-at : goal.returns-clause-at
