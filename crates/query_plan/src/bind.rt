@@ -35,9 +35,9 @@ fn check_fit(cube: &Schema, statement: &Statement) -> Result<(), CallError<BindF
     }
 }
 
-/// The place of the cube that a statement needs and fits.
+/// The place of the cube that a statement needs and fits. It is refused as `bind_delete` says.
 #[tactic(auto, using(crate::proofs::Cubes::lacks_cube, crate::proofs::Cubes::unfit_at, crate::proofs::Cubes::bound_at))]
-fn bound_place(cubes: &[Schema], statement: &Statement) -> Result<u32, CallError<BindFault>>
+pub fn bound_place(cubes: &[Schema], statement: &Statement) -> Result<u32, CallError<BindFault>>
     requires { IsSome (cube_needed statement.now) }
     ensures bound { IfOk result (IsBoundAt cubes.now statement.now) }
     ensures within { IfOk result (λ place. place < length cubes.now) }

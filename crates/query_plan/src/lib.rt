@@ -10,7 +10,7 @@ mod resolve;
 mod rows;
 mod top;
 
-pub use bind::{bind_delete, bind_rows, bind_select, span_of};
+pub use bind::{bind_delete, bind_rows, bind_select, bound_place, span_of};
 pub use cube_language::Misfit;
 pub use fault::BindFault;
 pub use law::{bindings_have_all_parts, statements_are_bound_to_what_they_ask};

@@ -26,6 +26,11 @@ pub record HasNotes (statement : ℕ) (old new : DeskState) : Type 0 where
   pub desk_is : new
       ≡ desk_with_entries old (entry.Flushed 1 statement ∷ entry.Purged 1 statement epoch ∷ [])
 
+-- A desk has gained the refusal of a statement.
+pub record HasRefusal (statement : ℕ) (old new : DeskState) : Type 0 where
+  pub code : ℕ
+  pub desk_is : new ≡ desk_with_entries old (entry.Refused 1 statement code ∷ [])
+
 -- What a commit has after it: a round where one is due, or nothing.
 abbrev pub FollowsCommit : ℕ → JournalState → Bool → List JournalEntry → Type 0
 FollowsCommit statement s true added = RoundAfter statement s added

@@ -22,6 +22,7 @@ pub use law::{
     cubes_of_a_desk_are_named_apart, statements_find_their_cubes, statements_on_rows_are_executed,
 };
 pub use refusals::{refuse_by_mode, refuse_memory, refuse_syntax};
+pub use refusing::refuse;
 pub use requests::{flush, purge, show_epochs};
 pub use rounds::follow_commit;
 pub use session::Session;

@@ -30,8 +30,8 @@ pub(crate) fn note_refusal(desk: &mut Desk, statement: u32, code: u32) -> Result
     Ok(())
 }
 
-/// Adds the entry of such a refusal, and answers it.
-pub(crate) fn refuse(desk: &mut Desk, statement: u32, refusal: Refusal) -> Answered
+/// Adds the entry of a refusal that neither the list of cubes nor the store is the cause of, and answers it.
+pub fn refuse(desk: &mut Desk, statement: u32, refusal: Refusal) -> Answered
     requires cubes { is_cube_code (code refusal) ≡ false }
     requires store { code refusal ≢ 17 }
     ensures said { IfReplied result (λ said. said ≡ reply.Refused refusal) }

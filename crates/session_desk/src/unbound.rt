@@ -8,6 +8,7 @@ ghost use Rattle.query_plan.specs.Bindings.{FailsOnCube, IsBindFault, LacksCube}
 ghost use Rattle.aosi_desk.specs.Desks.{desk_with_entry};
 ghost use Rattle.session_replies.specs.Modes.{mode_of};
 ghost use Rattle.session_desk.specs.AtDesk.{IsAtDesk};
+ghost use Rattle.session_desk.specs.Entries.{HasRefusal};
 ghost use Rattle.session_desk.specs.Executed.{ExecutesAtDesk, IfReplied};
 
 use crate::answered::Answered;
@@ -47,6 +48,10 @@ fn refuse_unknown(
     ensures at { IsAtDesk desk.new session.new }
     ensures number { session.new.statements ≡ session.old.statements + 1 }
     ensures cubes { desk.new.cubes ≡ desk.old.cubes }
+    ensures counted { session.new
+        ≡ record session.old { statements = session.old.statements + 1 } }
+    ensures refused { IfReplied result
+        (λ said. HasRefusal session.new.statements desk.old desk.new) }
     ensures executed { IfReplied result
         (ExecutesAtDesk (Says statement.now) desk.old session.old desk.new session.new) }
 {
@@ -73,6 +78,10 @@ fn refuse_unfit(
     ensures at { IsAtDesk desk.new session.new }
     ensures number { session.new.statements ≡ session.old.statements + 1 }
     ensures cubes { desk.new.cubes ≡ desk.old.cubes }
+    ensures counted { session.new
+        ≡ record session.old { statements = session.old.statements + 1 } }
+    ensures refused { IfReplied result
+        (λ said. HasRefusal session.new.statements desk.old desk.new) }
     ensures executed { IfReplied result
         (ExecutesAtDesk (Says statement.now) desk.old session.old desk.new session.new) }
 {
@@ -96,6 +105,10 @@ pub fn refuse_unbound(
     ensures at { IsAtDesk desk.new session.new }
     ensures number { session.new.statements ≡ session.old.statements + 1 }
     ensures cubes { desk.new.cubes ≡ desk.old.cubes }
+    ensures counted { session.new
+        ≡ record session.old { statements = session.old.statements + 1 } }
+    ensures refused { IfReplied result
+        (λ said. HasRefusal session.new.statements desk.old desk.new) }
     ensures executed { IfReplied result
         (ExecutesAtDesk (Says statement.now) desk.old session.old desk.new session.new) }
 {

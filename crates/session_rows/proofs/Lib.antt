@@ -5,3 +5,4 @@ pub mod NamesCome
 pub mod RowsStay
 pub mod RowsJoin
 pub mod RowsAreRead
+pub mod RunsEnd

@@ -38,7 +38,7 @@ texts_of_names dictionaries place k =
     ap (λ (lists : List (List (List ℕ))). texts_at lists k) (lists_are dictionaries place)
     ∙ texts_are (dictionaries_of dictionaries place) k
 
-names_are : (dictionaries : List (List Dictionary)) (cube place : ℕ)
+pub names_are : (dictionaries : List (List Dictionary)) (cube place : ℕ)
     → names_at (names_of dictionaries) cube place ≡ (dictionary_at dictionaries cube place).names
 names_are dictionaries cube place =
     at_place (names_of dictionaries) cube place ∙ texts_of_names dictionaries cube place
@@ -124,7 +124,7 @@ abbrev is_absent : Option Decl → Bool
 is_absent None = true
 is_absent (Some d) = false
 
-none_past : (ds : List Decl) (k : ℕ) → slice_get ds k ≡ None → length ds ≤ k
+pub none_past : (ds : List Decl) (k : ℕ) → slice_get ds k ≡ None → length ds ≤ k
 none_past [] k is = omega arith
 none_past (d ∷ ds) zero is = absurd (false≢true (ap is_absent is))
 none_past (d ∷ ds) (suc k) is = let l = none_past ds k is in omega (arith, l)

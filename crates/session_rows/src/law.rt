@@ -9,12 +9,14 @@ ghost use Rattle.cube_journal.specs.declared.reply.Reply.{Reply};
 ghost use Rattle.cube_run.specs.RunRecords.{RunRecord, Sentence};
 ghost use Rattle.names_dict.specs.Dictionaries.{Dictionary, names_of};
 ghost use Rattle.one_session.specs.Changes.{AllStandForValues};
-ghost use Rattle.one_session.specs.Pasts.{Beginning, GoesOn, SessionPast, nothing_behind};
+ghost use Rattle.one_session.specs.Pasts.{Beginning, EndsWithMore, GoesOn, SessionPast, nothing_behind};
 ghost use Rattle.aosi_register.specs.State.{state_of};
+ghost use Rattle.row_encoding.specs.DictsAsEncoder.{MayEndWith};
 ghost use Rattle.plain_rows.specs.HeldRows.{HeldRows};
 ghost use Rattle.session_replies.specs.Modes.{mode_of};
 ghost use Rattle.session_desk.specs.AtDesk.{IsServing};
 ghost use Rattle.session_desk.specs.Executed.{HasExecuted};
+ghost use Rattle.session_desk.specs.Standing.{StandsBehind, World};
 ghost use Rattle.session_rows.specs.Coded.{CodedOperation};
 ghost use Rattle.session_rows.specs.CubesAtDesk.{AllAreNamed, AreItsNames, GainsNames, HaveCome};
 ghost use Rattle.session_rows.specs.RowsBehind.{HasRows, RowWorld, world_of};
@@ -93,6 +95,16 @@ pub fn names_come_to_the_cubes()
 {
     dictionaries_may_end_as_they_are();
 }
+
+/// Dictionaries that are those of the desk's cubes may end with the names of each run that goes on and ends with theirs or
+/// more.
+pub fn dictionaries_may_end_as_runs_do()
+    ensures { (beginning : Beginning) (past : SessionPast) (now : World) (run : RunRecord)
+        (dictionaries : List (List Dictionary))
+        → StandsBehind beginning past now → GoesOn beginning past run
+        → AreItsNames now.desk.cubes dictionaries → EndsWithMore run (names_of dictionaries)
+        → MayEndWith dictionaries run.names }
+{}
 
 /// Rows that come are named as those that are there, and rows that go leave none unnamed.
 pub fn changed_rows_are_named()
