@@ -16,3 +16,4 @@ pub mod FindingCubes
 pub mod Changing
 pub mod OpenBegun
 pub mod SettledAtDesk
+pub mod Moving

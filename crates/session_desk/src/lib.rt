@@ -25,6 +25,6 @@ pub use refusals::{refuse_by_mode, refuse_memory, refuse_syntax};
 pub use refusing::refuse;
 pub use requests::{flush, purge, show_epochs};
 pub use rounds::follow_commit;
-pub use session::Session;
+pub use session::{SESSION, Session};
 pub use transactions::{begin, commit, rollback};
 pub use unbound::refuse_unbound;

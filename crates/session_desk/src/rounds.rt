@@ -1,6 +1,6 @@
 //! Rounds without a store: nothing is written, and LSE advances all the same.
 
-ghost use Rattle.std.specs.Prelude.{◌≡◌, true, OnOk, OnErr};
+ghost use Rattle.std.specs.Prelude.{◌≡◌, true, None, OnOk, OnErr};
 ghost use Rattle.std.specs.Bool.{OnTrue};
 ghost use Rattle.cube_journal.specs.Legal.{MayAskRound, WasFlushed, WasSafe};
 ghost use Rattle.aosi_register.specs.State.{state_of};
@@ -8,6 +8,7 @@ ghost use Rattle.cube_journal.specs.declared.journal_entry.JournalEntry.TheVaria
 ghost use Rattle.aosi_desk.specs.Desks.{desk_with_entry};
 ghost use Rattle.session_desk.specs.AtDesk.{KeepsServing, desk_with_entries};
 ghost use Rattle.session_desk.specs.Entries.{HasFollowed, HasNotes, round_entries};
+ghost use Rattle.session_desk.specs.Moves.{MovesOn};
 
 use crate::refusing::note_refusal;
 use crate::session::SESSION;
@@ -22,6 +23,7 @@ pub(crate) fn make_round(desk: &mut Desk) -> Result<(), AllocError>
         ≡ desk_with_entries desk.old (round_entries (state_of desk.old.register))) }
     ensures same { OnErr result (desk.new ≡ desk.old) }
     ensures cubes { desk.new.cubes ≡ desk.old.cubes }
+    ensures moves { MovesOn None desk.old desk.new }
 {
     match desk.round_open()? {
         RoundAnswer::Nothing { .. } => {}
@@ -35,6 +37,7 @@ fn note_no_memory(desk: &mut Desk, statement: u32) -> bool
     ensures noted { OnTrue result (desk.new
         ≡ desk_with_entry desk.old (entry.Refused 1 statement 16)) }
     ensures kept { KeepsServing desk.old desk.new }
+    ensures moves { MovesOn None desk.old desk.new }
 {
     match note_refusal(desk, statement, Refusal::NoMemory.code()) {
         Ok(()) => true,
@@ -48,6 +51,7 @@ fn note_purge(desk: &mut Desk, statement: u32, epoch: u64) -> bool
     ensures noted { OnTrue result (desk.new
         ≡ desk_with_entry desk.old (entry.Purged 1 statement epoch)) }
     ensures kept { KeepsServing desk.old desk.new }
+    ensures moves { MovesOn None desk.old desk.new }
 {
     let purged = Note::Purged {
         session: SESSION,
@@ -65,6 +69,7 @@ fn note_round(desk: &mut Desk, statement: u32) -> bool
     requires { WasFlushed 1 desk.old.register.journal }
     ensures noted { OnTrue result (HasNotes statement desk.old desk.new) }
     ensures kept { KeepsServing desk.old desk.new }
+    ensures moves { MovesOn None desk.old desk.new }
 {
     let flushed = Note::Flushed {
         session: SESSION,
@@ -81,6 +86,7 @@ fn round_after_commit(desk: &mut Desk, statement: u32) -> bool
     requires { MayAskRound (state_of desk.old.register) }
     ensures followed { OnTrue result (HasFollowed statement true desk.old desk.new) }
     ensures kept { KeepsServing desk.old desk.new }
+    ensures moves { MovesOn None desk.old desk.new }
 {
     match make_round(desk) {
         Ok(()) => note_round(desk, statement),
@@ -93,6 +99,7 @@ pub fn follow_commit(desk: &mut Desk, statement: u32, is_due: bool) -> bool
     requires { MayAskRound (state_of desk.old.register) }
     ensures followed { OnTrue result (HasFollowed statement is_due desk.old desk.new) }
     ensures kept { KeepsServing desk.old desk.new }
+    ensures moves { MovesOn None desk.old desk.new }
 {
     if is_due {
         round_after_commit(desk, statement)

@@ -16,4 +16,4 @@ pub struct Session {
 }
 
 /// The number of the one session.
-pub(crate) const SESSION: u32 = 1;
+pub const SESSION: u32 = 1;

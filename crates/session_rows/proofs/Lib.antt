@@ -6,3 +6,6 @@ pub mod RowsStay
 pub mod RowsJoin
 pub mod RowsAreRead
 pub mod RunsEnd
+pub mod DeskOnRows
+pub mod WholeCubes
+pub mod PlayedStatements

@@ -322,7 +322,7 @@ stands_with_more cubes d names coded h =
     }) coded h
 
 -- It is the last one, or was there.
-place_of_more : (cubes : List Decl) (d : Decl) (place : ℕ) (P : Type 0) → place < length (cubes ++ d ∷ [])
+pub place_of_more : (cubes : List Decl) (d : Decl) (place : ℕ) (P : Type 0) → place < length (cubes ++ d ∷ [])
     → (place < length cubes → P) → (place ≡ length cubes → P) → P
 place_of_more cubes d place P l was is = at (nat_lt place (length cubes)) refl
   where

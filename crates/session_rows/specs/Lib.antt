@@ -3,3 +3,5 @@ pub mod Coded
 pub mod RowsBehind
 pub mod RowsExecuted
 pub mod RowsRead
+pub mod DeskOnRows
+pub mod PlayedOnRows

@@ -1,24 +1,32 @@
 //! What holds of the rows of a session by what stands behind it.
 
-ghost use Rattle.std.specs.Prelude.{◌≡◌, ◌++◌, ℕ, Bool, List, Some, filter, slice_get};
+ghost use Rattle.std.specs.Prelude.{◌≡◌, ◌++◌, ◌∷◌, ◌≤◌, [], ℕ, Bool, List, Some, None, filter, length, slice_get};
 ghost use Rattle.cube_values.specs.declared.query.BoundQuery.{BoundQuery};
 ghost use Rattle.cube_values.specs.declared.row.CodedRow.{CodedRow};
+ghost use Rattle.cube_language.specs.CubesText.{cubes_limit};
 ghost use Rattle.cube_language.specs.declared.decl.Decl.{Decl};
 ghost use Rattle.cube_language.specs.declared.statement.Statement.{Statement};
 ghost use Rattle.cube_journal.specs.declared.reply.Reply.{Reply};
 ghost use Rattle.cube_run.specs.RunRecords.{RunRecord, Sentence};
 ghost use Rattle.names_dict.specs.Dictionaries.{Dictionary, names_of};
-ghost use Rattle.one_session.specs.Changes.{AllStandForValues};
+ghost use Rattle.cube_run.specs.SessionStates.{fresh_session};
+ghost use Rattle.one_session.specs.Changes.{AllStandForValues, AreNamedApart};
 ghost use Rattle.one_session.specs.Pasts.{Beginning, EndsWithMore, GoesOn, SessionPast, nothing_behind};
 ghost use Rattle.aosi_register.specs.State.{state_of};
 ghost use Rattle.row_encoding.specs.DictsAsEncoder.{MayEndWith};
 ghost use Rattle.plain_rows.specs.HeldRows.{HeldRows};
 ghost use Rattle.session_replies.specs.Modes.{mode_of};
 ghost use Rattle.session_desk.specs.AtDesk.{IsServing};
+ghost use Rattle.session_desk.specs.declared.session.Session.{Session};
 ghost use Rattle.session_desk.specs.Executed.{HasExecuted};
-ghost use Rattle.session_desk.specs.Standing.{StandsBehind, World};
+ghost use Rattle.session_desk.specs.Moves.{IsClosed, epoch_in};
+ghost use Rattle.aosi_desk.specs.Desks.{DeskState};
+ghost use Rattle.session_desk.specs.Standing.{StandsBehind, World, session_state};
 ghost use Rattle.session_rows.specs.Coded.{CodedOperation};
-ghost use Rattle.session_rows.specs.CubesAtDesk.{AllAreNamed, AreItsNames, GainsNames, HaveCome};
+ghost use Rattle.session_rows.specs.CubesAtDesk.{AllAreNamed, AreItsNames, AreWholeCubes, ExecutesOnRows, GainsNames, HaveCome, row_world};
+ghost use Rattle.session_rows.specs.DeskOnRows.{GainsCube, IsDoneAtDesk, StaysOpen, cubes_back, cubes_kept};
+ghost use Rattle.session_rows.specs.declared.cubes.Cubes.{Cubes};
+ghost use Rattle.session_rows.specs.PlayedOnRows.{HasPlayedOnRows};
 ghost use Rattle.session_rows.specs.RowsBehind.{HasRows, RowWorld, world_of};
 ghost use Rattle.session_rows.specs.RowsExecuted.{ChangesAlone, ChangesInside, Commits, Creates, HasExecutedOnRows, RollsBack, Stays};
 ghost use Rattle.session_rows.specs.RowsRead.{AsksRowsOf, BeginsEmpty, IsAnswerNow, table_now};
@@ -114,4 +122,55 @@ pub fn changed_rows_are_named()
     ensures go { (d : Decl) (lists : List (List (List ℕ))) (keeps : CodedRow → Bool)
         (rows : List CodedRow)
         → AllStandForValues d lists rows → AllStandForValues d lists (filter keeps rows) }
+{}
+
+/// A statement that is executed at the desk is executed on rows: where nothing that is open ends the rows stay, where none
+/// is open afterwards they go back, and a commit keeps them; a cube that is made has none.
+pub fn statements_at_the_desk_are_executed_on_rows()
+    ensures stays { (sentence : Sentence) (desk : DeskState) (session : Session) (cubes : Cubes)
+        (new_desk : DeskState) (now : Session) (said : Reply)
+        → IsDoneAtDesk sentence None desk session cubes new_desk now said
+        → new_desk.cubes ≡ desk.cubes → StaysOpen desk session now
+        → ExecutesOnRows sentence desk session cubes new_desk now cubes said }
+    ensures rolled_back { (sentence : Sentence) (desk : DeskState) (session : Session)
+        (cubes : Cubes) (new_desk : DeskState) (now : Session) (said : Reply)
+        → IsDoneAtDesk sentence None desk session cubes new_desk now said
+        → new_desk.cubes ≡ desk.cubes → IsClosed (mode_of now.mode)
+        → ExecutesOnRows sentence desk session cubes new_desk now (cubes_back cubes) said }
+    ensures committed { (sentence : Sentence) (desk : DeskState) (session : Session)
+        (cubes : Cubes) (new_desk : DeskState) (now : Session) (said : Reply)
+        → IsDoneAtDesk sentence (epoch_in (mode_of session.mode)) desk session cubes new_desk now said
+        → new_desk.cubes ≡ desk.cubes → IsClosed (mode_of now.mode)
+        → ExecutesOnRows sentence desk session cubes new_desk now (cubes_kept cubes) said }
+    ensures created { (sentence : Sentence) (d : Decl) (desk : DeskState) (session : Session)
+        (cubes : Cubes) (new_desk : DeskState) (now : Session) (new_cubes : Cubes) (said : Reply)
+        → IsDoneAtDesk sentence None desk session cubes new_desk now said
+        → new_desk.cubes ≡ desk.cubes ++ d ∷ [] → StaysOpen desk session now
+        → GainsCube d cubes new_cubes
+        → ExecutesOnRows sentence desk session cubes new_desk now new_cubes said }
+{}
+
+/// Cubes stay whole where their rows go back or are kept, and where one more is made that has neither rows nor names.
+pub fn cubes_stay_whole()
+    ensures back { (cubes : Cubes) → AreWholeCubes cubes → AreWholeCubes (cubes_back cubes) }
+    ensures kept { (cubes : Cubes) → AreWholeCubes cubes → AreWholeCubes (cubes_kept cubes) }
+    ensures more { (d : Decl) (old new : Cubes) → AreWholeCubes old → GainsCube d old new
+        → AreNamedApart new.schemas.items → length new.schemas.items ≤ cubes_limit
+        → AreWholeCubes new }
+{}
+
+/// A script is played on rows statement by statement: before the first nothing is, and one that is executed joins those
+/// before it.
+pub fn a_script_is_played_on_rows()
+    ensures none { (beginning : Beginning) (desk : DeskState) (session : Session) (cubes : Cubes)
+        → HasRows beginning (nothing_behind beginning) (row_world desk session cubes [])
+        → session_state session ≡ fresh_session
+        → HasPlayedOnRows beginning [] [] desk session cubes }
+    ensures next { (beginning : Beginning) (script : List Sentence) (replies : List Reply)
+        (sentence : Sentence) (desk : DeskState) (session : Session) (cubes : Cubes)
+        (new_desk : DeskState) (now : Session) (new_cubes : Cubes) (said : Reply)
+        → HasPlayedOnRows beginning script replies desk session cubes
+        → ExecutesOnRows sentence desk session cubes new_desk now new_cubes said
+        → HasPlayedOnRows beginning (script ++ sentence ∷ []) (replies ++ said ∷ []) new_desk now
+        new_cubes }
 {}

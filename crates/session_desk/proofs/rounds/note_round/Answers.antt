@@ -1,9 +1,10 @@
-use Rattle.std.proofs.Common.{ap, [], ◌∷◌}
+use Rattle.std.proofs.Common.{ap, [], ◌∷◌, None}
 use Rattle.cube_journal.specs.declared.counters.Counters.{Counters}
 use Rattle.cube_journal.specs.declared.journal_entry.JournalEntry.TheVariants as entry
 use Rattle.session_desk.specs.Entries.{HasNotes}
 use Rattle.session_desk.proofs.Asking.{purge_fits}
 use Rattle.session_desk.proofs.Following.{if_true, keeps_through, notes_of, purge_fits_after}
+use Rattle.session_desk.proofs.Moving.{moves_flushed, moves_same, moves_then}
 use Rattle.session_desk.proofs.RoundEntries.{keeps}
 use Rattle.session_desk.proofs.rounds.note_round.Goals as goal
 
@@ -26,3 +27,11 @@ returns-in-Ok-clause-kept c =
     (keeps c.args.desk.now c.note.new.self (entry.Flushed 1 c.args.statement ∷ []) c.in-Ok.ensures.desk
     (λ safe mode h. h))
     c.note_purge.ensures.kept
+
+pub returns-in-Ok-clause-moves : goal.returns-in-Ok-clause-moves
+returns-in-Ok-clause-moves c =
+    moves_then None c.args.desk.now c.note.new.self c.note_purge.new.desk
+    (moves_flushed c.args.statement c.args.desk.now c.note.new.self c.in-Ok.ensures.desk) c.note_purge.ensures.moves
+
+pub returns-in-Err-clause-moves : goal.returns-in-Err-clause-moves
+returns-in-Err-clause-moves c = moves_same c.args.desk.now c.note.new.self c.in-Err.ensures.same

@@ -1,9 +1,10 @@
-use Rattle.std.proofs.Common.{ap, true}
+use Rattle.std.proofs.Common.{ap, true, None}
 use Rattle.aosi_register.specs.State.{state_of}
 use Rattle.aosi_desk.specs.Desks.{DeskState}
 use Rattle.session_desk.specs.Entries.{HasFollowed}
 use Rattle.session_desk.proofs.Asking.{flush_fits}
 use Rattle.session_desk.proofs.Following.{if_true, keeps_round, keeps_through, refusal_followed, round_followed_if}
+use Rattle.session_desk.proofs.Moving.{moves_then}
 use Rattle.session_desk.proofs.RoundEntries.{keeps_same}
 use Rattle.session_desk.proofs.rounds.round_after_commit.Goals as goal
 
@@ -34,3 +35,13 @@ pub returns-in-Err-clause-kept : goal.returns-in-Err-clause-kept
 returns-in-Err-clause-kept c =
     keeps_through c.args.desk.now c.make_round.new.desk c.note_no_memory.new.desk
     (keeps_same c.args.desk.now c.make_round.new.desk c.in-Err.ensures.same) c.note_no_memory.ensures.kept
+
+pub returns-in-Ok-clause-moves : goal.returns-in-Ok-clause-moves
+returns-in-Ok-clause-moves c =
+    moves_then None c.args.desk.now c.make_round.new.desk c.note_round.new.desk c.make_round.ensures.moves
+    c.note_round.ensures.moves
+
+pub returns-in-Err-clause-moves : goal.returns-in-Err-clause-moves
+returns-in-Err-clause-moves c =
+    moves_then None c.args.desk.now c.make_round.new.desk c.note_no_memory.new.desk c.make_round.ensures.moves
+    c.note_no_memory.ensures.moves

@@ -1,0 +1,18 @@
+use Rattle.std.proofs.Common.{List, ap, length}
+use Rattle.cube_values.specs.declared.value.Value.{Value}
+use Rattle.row_changes.proofs.Answering.{alone_answered}
+use Rattle.row_changes.proofs.Inserting.{may_come}
+use Rattle.row_changes.proofs.inserts.insert_alone.Goals as goal
+
+pub append_and_keep-requires-clause-come : goal.append_and_keep-requires-clause-come
+append_and_keep-requires-clause-come c =
+    may_come c.args.cubes.now c.args.statement.now c.args.place c.args.batch.now
+    c.dictionaries_may_end_as_they_are.ensures c.requires.at.whole c.requires.encoded
+
+pub returns-in-Ok-clause-executed : goal.returns-in-Ok-clause-executed
+returns-in-Ok-clause-executed c =
+    alone_answered c.args.statement.now c.stored_answer.result c.in-Ok.committed (length c.inserted_rows.result.now)
+    c.args.desk.now c.args.session.now c.commit_alone.new.desk c.commit_alone.new.session c.args.cubes.now
+    c.append_and_keep.new.cubes c.args.place c.args.batch.now c.requires.at c.requires.form c.requires.encoded
+    c.in-Ok.ensures.committed c.append_and_keep.ensures
+    (ap (λ (rows : List (List Value)). length rows) c.inserted_rows.ensures) c.stored_answer.ensures

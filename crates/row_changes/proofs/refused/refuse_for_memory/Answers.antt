@@ -1,0 +1,13 @@
+use Rattle.row_changes.proofs.Answering.{at_cubes, memory_executes}
+use Rattle.row_changes.proofs.refused.refuse_for_memory.Goals as goal
+
+pub returns-clause-at : goal.returns-clause-at
+returns-clause-at c =
+    at_cubes c.args.desk.now c.args.session.now c.refuse_next.new.desk c.refuse_next.new.session
+    c.args.cubes.now c.requires.at c.refuse_next.ensures.at c.refuse_next.ensures.cubes
+
+pub returns-clause-executed : goal.returns-clause-executed
+returns-clause-executed c =
+    memory_executes c.args.statement.now c.refuse_next.result c.args.desk.now c.args.session.now
+    c.refuse_next.new.desk c.refuse_next.new.session c.args.cubes.now c.requires.at
+    c.refuse_next.ensures.said c.refuse_next.ensures.noted

@@ -1,0 +1,13 @@
+use Rattle.row_changes.proofs.Answering.{at_cubes, lacking_answered}
+use Rattle.row_changes.proofs.refused.refuse_lacking.Goals as goal
+
+pub returns-clause-at : goal.returns-clause-at
+returns-clause-at c =
+    at_cubes c.args.desk.now c.args.session.now c.refuse_next.new.desk c.refuse_next.new.session
+    c.args.cubes.now c.requires.at c.refuse_next.ensures.at c.refuse_next.ensures.cubes
+
+pub returns-clause-executed : goal.returns-clause-executed
+returns-clause-executed c =
+    lacking_answered c.args.statement.now c.refuse_next.result c.args.desk.now c.args.session.now
+    c.refuse_next.new.desk c.refuse_next.new.session c.args.cubes.now c.args.place c.args.text c.requires.at
+    c.requires.form c.requires.may c.requires.lacking c.refuse_next.ensures.said c.refuse_next.ensures.noted

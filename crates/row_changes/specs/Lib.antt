@@ -1,0 +1,4 @@
+pub mod MayCome
+pub mod EncodedForms
+pub mod ChangedCubes
+pub mod AnswersGiven
