@@ -37,7 +37,7 @@ pub record EndsThere (run : RunRecord) (place : ℕ) (d : Decl) (dictionaries : 
   pub may : MayEndWith dictionaries run.names
   pub numbers : NumbersHaveNoNames d (lists_at run.names place)
 
-there_in_run : (beginning : Beginning) (past : SessionPast) (now : World) (run : RunRecord) (place : ℕ) (d : Decl)
+pub there_in_run : (beginning : Beginning) (past : SessionPast) (now : World) (run : RunRecord) (place : ℕ) (d : Decl)
     → StandsBehind beginning past now → GoesOn beginning past run → slice_get now.desk.cubes place ≡ Some d
     → slice_get (catalog_of run).cubes place ≡ Some d
 there_in_run beginning past now run place d h g is =

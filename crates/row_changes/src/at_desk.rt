@@ -20,7 +20,7 @@ use session_replies::{SessionMode, round_follows};
 use std::alloc::AllocError;
 
 /// Refuses the next statement.
-pub(crate) fn refuse_next(desk: &mut Desk, session: &mut Session, refusal: Refusal) -> Answered
+pub fn refuse_next(desk: &mut Desk, session: &mut Session, refusal: Refusal) -> Answered
     requires at { IsAtDesk desk.old session.old }
     requires few { session.old.statements < MOST_STATEMENTS }
     requires cubes { is_cube_code (code refusal) ≡ false }
@@ -37,7 +37,7 @@ pub(crate) fn refuse_next(desk: &mut Desk, session: &mut Session, refusal: Refus
 }
 
 /// The epoch of the transaction that is open, if one is.
-pub(crate) fn epoch_in(mode: &SessionMode) -> Option<u64>
+pub fn epoch_in(mode: &SessionMode) -> Option<u64>
     ensures { result ≡ epoch_in (mode_of mode.now) }
 {
     match mode {
@@ -48,10 +48,7 @@ pub(crate) fn epoch_in(mode: &SessionMode) -> Option<u64>
 
 /// Commits a transaction of the next statement's own, and a round follows where one is due. The answer is its epoch, or
 /// None where the journal had no memory for a note of that round. The error is out of memory, and then nothing is changed.
-pub(crate) fn commit_alone(
-    desk: &mut Desk,
-    session: &mut Session,
-) -> Result<Option<u64>, AllocError>
+pub fn commit_alone(desk: &mut Desk, session: &mut Session) -> Result<Option<u64>, AllocError>
     requires at { IsAtDesk desk.old session.old }
     requires few { session.old.statements < MOST_STATEMENTS }
     requires idle { mode_of session.old.mode ≡ Idle }

@@ -13,7 +13,7 @@ use session_rows::Cubes;
 use std::alloc::AllocError;
 
 /// Makes room for so many rows more of a cube. The error is out of memory.
-pub(crate) fn make_room(cubes: &mut Cubes, place: u32, more: usize) -> Result<(), AllocError>
+pub fn make_room(cubes: &mut Cubes, place: u32, more: usize) -> Result<(), AllocError>
     requires whole { AreWholeCubes cubes.old }
     requires within { place < length cubes.old.schemas.items }
     ensures stayed { HaveStayed cubes.old cubes.new }
@@ -23,7 +23,7 @@ pub(crate) fn make_room(cubes: &mut Cubes, place: u32, more: usize) -> Result<()
 }
 
 /// Puts rows, for which there is room, into the cube at a place.
-pub(crate) fn append(cubes: &mut Cubes, place: u32, rows: &CodedRows)
+pub fn append(cubes: &mut Cubes, place: u32, rows: &CodedRows)
     requires whole { AreWholeCubes cubes.old }
     requires come { MayCome cubes.old place rows.now }
     requires room { length rows.now.rows ≤ (rows_at cubes.old.rows place).spare }

@@ -22,7 +22,7 @@ use session_desk::{Answered, Session, refuse_unbound};
 use session_rows::Cubes;
 
 /// Refuses a statement that is bound to no cube.
-pub(crate) fn refuse_bind(
+pub fn refuse_bind(
     desk: &mut Desk,
     session: &mut Session,
     cubes: &Cubes,
@@ -42,7 +42,7 @@ pub(crate) fn refuse_bind(
 }
 
 /// Refuses a statement for which memory ran out.
-pub(crate) fn refuse_for_memory(
+pub fn refuse_for_memory(
     desk: &mut Desk,
     session: &mut Session,
     cubes: &Cubes,

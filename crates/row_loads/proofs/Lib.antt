@@ -1,0 +1,6 @@
+pub mod JoinedBatches
+pub mod NamedRows
+pub mod TakenBatches
+pub mod GrownCubes
+pub mod LoadFronts
+pub mod LookedAtInRuns

@@ -1,0 +1,2 @@
+pub mod LoadedSoFar
+pub mod LookedRecords
