@@ -80,13 +80,13 @@ insert_of ShowWatch form = absurd form
 
 -- ---- rows that come
 
-stored_of : (name : List ℕ) (lists : List (List (List ℕ))) (coded : List CodedRow)
+pub stored_of : (name : List ℕ) (lists : List (List (List ℕ))) (coded : List CodedRow)
     → map (stored_for name lists) coded ≡ rows_of_cube name (map (row_for lists) coded)
 stored_of name lists [] = refl
 stored_of name lists (row ∷ coded) =
     ap (λ (rest : List StoredRow). stored_for name lists row ∷ rest) (stored_of name lists coded)
 
-all_named : (d : Decl) (lists : List (List (List ℕ))) (rows : List CodedRow) → NumbersHaveNoNames d lists
+pub all_named : (d : Decl) (lists : List (List (List ℕ))) (rows : List CodedRow) → NumbersHaveNoNames d lists
     → All (HasCoords d) rows → All (λ row. HaveNames d lists row.coords) rows → AllStandForValues d lists rows
 all_named d lists [] numbers coords names = tt
 all_named d lists (row ∷ rows) numbers coords names = (

@@ -1,5 +1,5 @@
 -- What comes to the cubes of a session, one batch after the other.
-use Rattle.std.proofs.Common.{◌≡◌, ◌∙◌, ℕ, ◌≤◌, All, Bool, true, false, ◌==◌, List, [], ◌∷◌, ◌++◌, length, take, refl, sym, ap, subst, arith, append_assoc, take-take, if◌then◌else◌}
+use Rattle.std.proofs.Common.{◌≡◌, ◌∙◌, ℕ, ◌≤◌, All, Bool, true, false, ◌==◌, List, [], ◌∷◌, ◌++◌, length, take, refl, sym, ap, subst, arith, append_assoc, take-take, length-append, ◌-◌, if◌then◌else◌}
 use Rattle.std.proofs.lemmas.List.{append-nil, length-take}
 use Rattle.std.proofs.lemmas.List.Elements.{All-nil, All-append}
 use Rattle.cube_values.specs.declared.row.CodedRow.{CodedRow}
@@ -20,6 +20,7 @@ use Rattle.session_rows.specs.CubesAtDesk.{AreWholeCubes}
 use Rattle.session_rows.specs.RowsExecuted.{IsChanged, OfEachCube, StaysHeld}
 use Rattle.session_rows.specs.declared.cubes.Cubes.{Cubes}
 use Rattle.row_changes.specs.ChangedCubes.{HaveBecome, HaveChanged, HaveGained, HaveStayed}
+use Rattle.row_changes.proofs.HeldChanges.{changed_here}
 use Rattle.row_loads.specs.LoadedSoFar.{HasLoaded, HasTaken, HaveGrown, MayEndLater, rows_come}
 use Rattle.row_loads.proofs.JoinedBatches.{batches_join, goes_both}
 
@@ -34,7 +35,7 @@ come_both a b c first second = λ cube place.
     ∙ ap (λ (names : List (List ℕ)). take (length (names_at a cube place)) names) (second cube place)
     ∙ first cube place
 
-come_none : (a : List (List (List (List ℕ)))) → NamesOnlyCome a a
+pub come_none : (a : List (List (List (List ℕ)))) → NamesOnlyCome a a
 come_none a = λ cube place. take_whole (names_at a cube place)
   where
     take_whole : (names : List (List ℕ)) → take (length names) names ≡ names
@@ -163,3 +164,13 @@ loaded_both place allowed old mid new start load next before bad more ended h k 
             ∙ come_more (place == p) (rows_at old.rows p).now h.rows k.rows;
       };
     }
+
+-- How many rows came.
+pub count_is : (place : ℕ) (rows : List CodedRow) (old new : List HeldRows) (before after : ℕ)
+    → OfEachCube (λ p. IsChanged p (rows_come place rows)) old new → before ≡ length (rows_at old place).now
+    → after ≡ length (rows_at new place).now → after - before ≡ length rows
+count_is place rows old new before after changed was is =
+    let now = ap (λ (rs : List CodedRow). length rs)
+    ((changed place).now ∙ sym (changed_here place (Come rows) (rows_at old place).now)) in
+    let both = length-append (rows_at old place).now rows in
+    omega (arith, was, is, now, both)

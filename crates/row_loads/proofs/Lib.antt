@@ -4,3 +4,9 @@ pub mod TakenBatches
 pub mod GrownCubes
 pub mod LoadFronts
 pub mod LookedAtInRuns
+pub mod FilesBehind
+pub mod LoadedRuns
+pub mod LoadsExecute
+pub mod Unloaded
+pub mod LoadsEnded
+pub mod FilesOpened

@@ -1,6 +1,6 @@
 -- What a LOAD has of the records of its file, one batch after the other, and what came of them to the cubes of its session.
 -- Source: Cubrick (VLDB 2016), dictionary encoding of text dimensions; that rows come in batches is this project's own.
-use Rattle.std.specs.Prelude.{◌≡◌, ℕ, ◌+◌, ◌<◌, ◌≤◌, List, slice_get, All, Some, length}
+use Rattle.std.specs.Prelude.{◌≡◌, ℕ, ◌+◌, ◌<◌, ◌≤◌, List, slice_get, All, Option, Some, None, length}
 use Rattle.cube_values.specs.Batches.{Batch}
 use Rattle.cube_values.specs.declared.row.CodedRow.{CodedRow}
 use Rattle.names_dict.specs.Dictionaries.{Dictionary, names_of}
@@ -83,3 +83,11 @@ pub record HasLoaded (place allowed : ℕ) (old new : Cubes) (start load : LoadS
   pub taken : HasTaken place allowed new.names start load before bad rows ended
   pub grown : HaveGrown old new
   pub changed : OfEachCube (λ p. IsChanged p (rows_come place rows)) old.rows new.rows
+
+-- A load has stopped, and so many rows came; or none is to stay, since one bad record more than are allowed was found.
+abbrev pub BringsRows : ℕ → ℕ → Cubes → Cubes → LoadState → LoadState → BadRecords → BadRecords → Option ℕ → Type 0
+BringsRows place allowed old new start load before bad (Some rows) =
+    (h : HasLoaded place allowed old new start load before bad batch_is.End)
+    × (rows ≡ length h.rows) × (bad.count ≤ allowed)
+BringsRows place allowed old new start load before bad None =
+    HasLoaded place allowed old new start load before bad batch_is.TooMany × (bad.count ≡ allowed + 1)

@@ -4,7 +4,7 @@ ghost use Rattle.std.specs.Prelude.{◌≡◌, IfOk, OnOk};
 ghost use Rattle.session_rows.specs.CubesAtDesk.{AreWholeCubes};
 ghost use Rattle.row_changes.specs.ChangedCubes.{HaveGained};
 ghost use Rattle.row_changes.specs.MayCome.{MayCome};
-ghost use Rattle.row_loads.specs.LoadedSoFar.{HasComeTo, HasFewerLeft, HasLoaded, HasStopped, HasTaken, HaveGrown, IsForLoad, IsLoading, MayEndLater};
+ghost use Rattle.row_loads.specs.LoadedSoFar.{BringsRows, HasComeTo, HasFewerLeft, HasLoaded, HasStopped, HasTaken, HaveGrown, IsForLoad, IsLoading, MayEndLater};
 
 use csv_load::Loader;
 use cube_values::CodedRows;
@@ -80,7 +80,7 @@ fn load_batch(
 
 /// Loads the records of a file into the cube at a place, of which it looks at no more than a LOAD does that
 /// allows so many bad ones. The error is out of memory, and after it the load is to be dropped.
-pub(crate) fn load_batches(
+fn load_batches(
     alloc: Global,
     cubes: &mut Cubes,
     place: u32,
@@ -105,3 +105,29 @@ pub(crate) fn load_batches(
         }
     }
 }
+
+/// Brings the rows among the records of a file to the cube at a place. The answer is how many they are, or None where
+/// more records are bad than are allowed. The error is out of memory, and after it the load is to be dropped.
+pub(crate) fn bring_rows(
+    alloc: Global,
+    cubes: &mut Cubes,
+    place: u32,
+    load: &mut Loader,
+    allowed: u64,
+    bad: &mut BadRecords,
+) -> Result<Option<u64>, AllocError>
+    requires whole { AreWholeCubes cubes.old }
+    requires loading { IsLoading cubes.old place allowed load.old bad.old }
+    ensures grown { HaveGrown cubes.old cubes.new }
+    ensures brought { IfOk result
+        (BringsRows place allowed cubes.old cubes.new load.old load.new bad.old bad.new) }
+{
+    let before = cubes.rows.len(place);
+    let ended = load_batches(alloc, cubes, place, load, allowed, bad)?;
+    match ended {
+        BatchEnd::End => Ok(Some((cubes.rows.len(place) - before) as u64)),
+        BatchEnd::TooMany => Ok(None),
+        BatchEnd::Full => unreachable!(),
+    }
+}
+
