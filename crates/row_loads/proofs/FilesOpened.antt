@@ -1,29 +1,25 @@
 -- What holds of a LOAD by what its file gave.
-use Rattle.std.proofs.Common.{◌≡◌, ◌∙◌, inl, inr, ℕ, List, [], Option, Some, None, Ok, Err, refl, sym, ap, subst}
+use Rattle.std.proofs.Common.{◌≡◌, inl, inr, ℕ, None, Ok, Err, refl, subst}
 use Rattle.cube_values.specs.declared.call_error.CallError.{CallError}
 use Rattle.cube_values.specs.declared.call_error.CallError.TheVariants.{Fault, NoMemory}
 use Rattle.cube_language.specs.declared.decl.Decl.{Decl}
 use Rattle.cube_language.specs.declared.statement.Statement.{Statement}
-use Rattle.cube_language.specs.declared.statement.Statement.TheVariants.{Load}
 use Rattle.cube_journal.specs.declared.journal_entry.AbortCause.TheVariants as abort
-use Rattle.cube_journal.specs.declared.refusal.Refusal.TheVariants as refusal
-use Rattle.cube_run.specs.RunRecords.{LoadedFile, Says}
+use Rattle.cube_run.specs.RunRecords.{Says}
 use Rattle.cube_run.specs.SessionStates.{Mode, Idle, Open, Aborted}
 use Rattle.cube_run.specs.StepOutcomes.{refused_by_mode}
 use Rattle.names_dict.specs.Dictionaries.{names_of}
 use Rattle.query_plan.specs.Bindings.{IsBoundTo}
-use Rattle.outside.specs.Given.{Given, whole}
 use Rattle.outside.specs.declared.reading.FileFault.{FileFault}
 use Rattle.outside.specs.declared.reading.FileFault.TheVariants.{Absent, TooLong, Failed}
-use Rattle.csv_load.specs.Loads.{BeginsLoad, LoadState}
-use Rattle.loaded_files.specs.LoadedFiles.{LoadAnswer, OpensLoad, loaded_file}
+use Rattle.csv_load.specs.Loads.{LoadState}
+use Rattle.loaded_files.specs.LoadedFiles.{OpensLoad, loaded_file}
 use Rattle.aosi_desk.specs.Desks.{DeskState}
 use Rattle.session_replies.specs.Modes.{mode_of}
 use Rattle.session_desk.specs.declared.answered.Answered.{Answered}
 use Rattle.session_desk.specs.declared.answered.Answered.TheVariants.{Replied, Stopped}
 use Rattle.session_desk.specs.declared.session.Session.{Session}
 use Rattle.session_desk.specs.Executed.{IfReplied}
-use Rattle.session_desk.specs.Moves.{epoch_in}
 use Rattle.session_rows.specs.CubesAtDesk.{AreWholeCubes, ExecutesOnRows, IsAtCubes}
 use Rattle.session_rows.specs.declared.cubes.Cubes.{Cubes}
 use Rattle.row_entries.proofs.Inside.{leaves_open_abort}
@@ -31,7 +27,7 @@ use Rattle.row_entries.proofs.Lone.{leaves_refusal}
 use Rattle.row_changes.specs.ChangedCubes.{ExecutesWithNames}
 use Rattle.row_loads.specs.LoadEnds.{EndsUnopened, IsLive}
 use Rattle.row_loads.specs.LoadsDone.{LoadsItsBytes, LoadsOnRows, LoadsWith}
-use Rattle.row_loads.specs.LoadsFromShelf.{CountsLoad, LoadsFromShelf, LoadsItsFile, RefusesUnopened, ShelfSeen, path_loaded}
+use Rattle.row_loads.specs.LoadsFromShelf.{CountsLoad, LoadsFromShelf, LoadsItsFile, ShelfSeen, path_loaded}
 use Rattle.row_loads.proofs.GrownCubes.{come_none}
 use Rattle.row_loads.proofs.LoadedRuns.{load_of}
 use Rattle.row_loads.proofs.Unloaded.{aborts_unread, forgets_at_once, refuses_missing, refuses_too_long, refuses_unread}

@@ -1,10 +1,10 @@
 -- What comes to the cubes of a session, one batch after the other.
-use Rattle.std.proofs.Common.{◌≡◌, ◌∙◌, ℕ, ◌≤◌, All, Bool, true, false, ◌==◌, List, [], ◌∷◌, ◌++◌, length, take, refl, sym, ap, subst, arith, append_assoc, take-take, length-append, ◌-◌, if◌then◌else◌}
+use Rattle.std.proofs.Common.{◌≡◌, ◌∙◌, ℕ, ◌≤◌, All, Bool, true, false, ◌==◌, List, [], ◌∷◌, ◌++◌, length, take, refl, sym, ap, arith, append_assoc, take-take, length-append, ◌-◌, if◌then◌else◌}
 use Rattle.std.proofs.lemmas.List.{append-nil, length-take}
 use Rattle.std.proofs.lemmas.List.Elements.{All-nil, All-append}
 use Rattle.cube_values.specs.declared.row.CodedRow.{CodedRow}
 use Rattle.cube_run.specs.FinalNames.{names_at}
-use Rattle.names_dict.specs.Dictionaries.{Dictionary, names_of}
+use Rattle.names_dict.specs.Dictionaries.{names_of}
 use Rattle.condition_spans.specs.Codes.{lists_at}
 use Rattle.one_session.specs.Changes.{Come, rows_with_change}
 use Rattle.one_session.specs.Pasts.{NamesOnlyCome}
@@ -17,11 +17,10 @@ use Rattle.row_encoding.specs.declared.load.BatchEnd.{BatchEnd}
 use Rattle.row_encoding.specs.declared.load.BatchEnd.TheVariants as batch_is
 use Rattle.row_encoding.proofs.LoadSteps.{batch_none, goes_nowhere}
 use Rattle.session_rows.specs.CubesAtDesk.{AreWholeCubes}
-use Rattle.session_rows.specs.RowsExecuted.{IsChanged, OfEachCube, StaysHeld}
+use Rattle.session_rows.specs.RowsExecuted.{IsChanged, OfEachCube}
 use Rattle.session_rows.specs.declared.cubes.Cubes.{Cubes}
-use Rattle.row_changes.specs.ChangedCubes.{HaveBecome, HaveChanged, HaveGained, HaveStayed}
 use Rattle.row_changes.proofs.HeldChanges.{changed_here}
-use Rattle.row_loads.specs.LoadedSoFar.{HasLoaded, HasTaken, HaveGrown, MayEndLater, rows_come}
+use Rattle.row_loads.specs.LoadedSoFar.{HasLoaded, HaveGrown, rows_come}
 use Rattle.row_loads.proofs.JoinedBatches.{batches_join, goes_both}
 
 -- ---- names
@@ -53,27 +52,6 @@ grown_none cubes h = record {
   before = λ place. refl;
 }
 
-pub grown_by_names : (old mid : Cubes) → HaveGained old mid → MayEndLater old.names mid.names → HaveGrown old mid
-grown_by_names old mid h later = record {
-  schemas = h.schemas;
-  whole = h.whole;
-  come = h.come;
-  later = later;
-  before = λ place. (h.held place).before;
-}
-
-pub grown_by_rows : (Becomes : ℕ → HeldRows → HeldRows → Type 0) (old mid new : Cubes)
-    → ((place : ℕ) (a b : HeldRows) → Becomes place a b → b.before ≡ a.before) → HaveGrown old mid
-    → HaveBecome Becomes mid new → HaveGrown old new
-grown_by_rows Becomes old mid new keeps h k = record {
-  schemas = k.schemas ∙ h.schemas;
-  whole = k.whole;
-  come =
-      subst (λ (ds : List (List Dictionary)). NamesOnlyCome (names_of old.names) (names_of ds)) (sym k.names) h.come;
-  later = subst (λ (ds : List (List Dictionary)). MayEndLater old.names ds) (sym k.names) h.later;
-  before = λ place. keeps place (rows_at mid.rows place) (rows_at new.rows place) (k.held place) ∙ h.before place;
-}
-
 pub grown_both : (old mid new : Cubes) → HaveGrown old mid → HaveGrown mid new → HaveGrown old new
 grown_both old mid new h k = record {
   schemas = k.schemas ∙ h.schemas;
@@ -81,34 +59,6 @@ grown_both old mid new h k = record {
   come = come_both (names_of old.names) (names_of mid.names) (names_of new.names) h.come k.come;
   later = λ names may. h.later names (k.later names may);
   before = λ place. k.before place ∙ h.before place;
-}
-
--- ---- one batch
-
-pub grown_in_room : (old mid new : Cubes) → HaveGained old mid → MayEndLater old.names mid.names → HaveStayed mid new
-    → HaveGrown old new
-grown_in_room old mid new h later k =
-    grown_by_rows (λ place. StaysHeld) old mid new (λ place a b stays. stays.before) (grown_by_names old mid h later) k
-
-pub batch_loaded : (place allowed : ℕ) (old mid roomy new : Cubes) (start load : LoadState) (before bad : BadRecords)
-    (rows : List CodedRow) (ended : BatchEnd) → HaveGained old mid → MayEndLater old.names mid.names
-    → HasTaken place allowed mid.names start load before bad rows ended → HaveStayed mid roomy
-    → HaveChanged (rows_come place rows) roomy new
-    → HasLoaded place allowed old new start load before bad ended
-batch_loaded place allowed old mid roomy new start load before bad rows ended h later taken k x = record {
-  rows = rows;
-  taken =
-      subst (λ (ds : List (List Dictionary)). HasTaken place allowed ds start load before bad rows ended)
-      (sym (x.names ∙ k.names)) taken;
-  grown =
-      grown_by_rows (λ p. IsChanged p (rows_come place rows)) old roomy new (λ p a b changed. changed.before)
-      (grown_in_room old mid roomy h later k) x;
-  changed = λ p. record {
-    before = (x.held p).before ∙ (k.held p).before ∙ (h.held p).before;
-    now =
-        (x.held p).now
-        ∙ ap (λ (rs : List CodedRow). rows_with_change p rs (rows_come place rows)) ((k.held p).now ∙ (h.held p).now);
-  };
 }
 
 -- ---- one batch after the other

@@ -1,6 +1,6 @@
 -- Batches of a load, one after the other.
-use Rattle.std.proofs.Common.{◌≡◌, ◌∙◌, ℕ, ◌+◌, ◌-◌, ◌<◌, ◌≤◌, zero, suc, List, [], ◌∷◌, ◌++◌, length, map, take, All, Option, Some, None, Result, refl, sym, ap, subst, arith, append_assoc, length-append, take_at}
-use Rattle.std.specs.List.{cons_option, filter_map}
+use Rattle.std.proofs.Common.{◌≡◌, ◌∙◌, ℕ, ◌+◌, ◌-◌, suc, List, [], ◌∷◌, ◌++◌, length, take, Option, Some, None, Result, refl, sym, ap, subst, arith, append_assoc, length-append, take_at}
+use Rattle.std.specs.List.{cons_option}
 use Rattle.std.proofs.lemmas.List.{length-map, map-append}
 use Rattle.std.proofs.lemmas.List.Elements.{All-append, filter_map-append}
 use Rattle.cube_values.specs.declared.row.CodedRow.{CodedRow}
@@ -8,14 +8,14 @@ use Rattle.cube_values.specs.declared.row.Row.{Row}
 use Rattle.cube_language.specs.declared.bad_row.BadRow.{BadRow}
 use Rattle.cube_language.specs.declared.decl.Decl.{Decl}
 use Rattle.cube_journal.specs.declared.reply.Rejection.{Rejection}
-use Rattle.cube_run.specs.LoadedRows.{records_looked_at, rejection_in, row_in, rows_among}
+use Rattle.cube_run.specs.LoadedRows.{rejection_in, row_in, rows_among}
 use Rattle.agg_fold.specs.Coded.{row_for}
 use Rattle.csv_load.specs.FileRecords.{RecordFields}
 use Rattle.csv_load.specs.Loads.{LoadState}
 use Rattle.row_encoding.specs.declared.load.BadRecords.{BadRecords}
 use Rattle.row_encoding.specs.declared.load.BatchEnd.{BatchEnd}
 use Rattle.row_encoding.specs.declared.load.BatchEnd.TheVariants as batch_is
-use Rattle.row_encoding.specs.CodedValues.{HaveNames, NumbersHaveNoNames}
+use Rattle.row_encoding.specs.CodedValues.{HaveNames}
 use Rattle.row_encoding.specs.CodedLoads.{GoesOn, TakesBatch, Tell, final_record, final_records, looked_at_later, records_between, rejections_from}
 
 -- ---- records

@@ -4,7 +4,6 @@ pub mod TakenBatches
 pub mod GrownCubes
 pub mod LoadFronts
 pub mod LookedAtInRuns
-pub mod FilesBehind
 pub mod LoadedRuns
 pub mod LoadsExecute
 pub mod Unloaded

@@ -1,5 +1,5 @@
 -- A load between two batches.
-use Rattle.std.proofs.Common.{◌≡◌, ◌∙◌, ℕ, ◌<◌, List, length, slice_get, Some, get_or, ap}
+use Rattle.std.proofs.Common.{◌≡◌, ◌∙◌, ℕ, length, ap}
 use Rattle.cube_values.specs.Batches.{Batch}
 use Rattle.cube_language.specs.declared.decl.Decl.{Decl}
 use Rattle.csv_load.specs.Loads.{LoadState}

@@ -1,12 +1,10 @@
 -- What a LOAD meets in each run that goes on, by the rows that it brought.
-use Rattle.std.proofs.Common.{◌≡◌, ◌∙◌, ℕ, ◌+◌, Bool, true, false, ◌==◌, List, [], ◌∷◌, ◌++◌, length, map, take, Some, None, refl, sym, ap, subst, arith, if◌then◌else◌}
+use Rattle.std.proofs.Common.{◌≡◌, ◌∙◌, ℕ, ◌+◌, Bool, true, ◌==◌, List, [], ◌∷◌, ◌++◌, length, map, Some, refl, sym, ap, subst, arith, if◌then◌else◌}
 use Rattle.std.specs.Prelude.{slice_get}
 use Rattle.std.proofs.lemmas.Bool.Decides.{nat_tests}
-use Rattle.std.proofs.lemmas.List.{length-map, length_push}
+use Rattle.std.proofs.lemmas.List.{length_push}
 use Rattle.cube_values.specs.declared.operation.Operation.TheVariants.{Put}
 use Rattle.cube_values.specs.declared.row.CodedRow.{CodedRow}
-use Rattle.cube_values.specs.declared.row.Row.{Row}
-use Rattle.cube_values.specs.declared.row.StoredRow.{StoredRow}
 use Rattle.cube_language.specs.declared.decl.Decl.{Decl}
 use Rattle.cube_language.specs.declared.statement.Statement.{Statement}
 use Rattle.cube_language.specs.declared.statement.Statement.TheVariants.{Select, Insert, Load, Delete, Begin, Commit, Rollback, Flush, Purge, ShowEpochs, CreateCube, Watch, ShowWatch}
@@ -18,7 +16,7 @@ use Rattle.agg_fold.specs.Coded.{row_for}
 use Rattle.condition_spans.specs.Codes.{lists_at}
 use Rattle.query_plan.specs.Bindings.{IsBoundTo}
 use Rattle.query_plan.specs.Ties.{stored_for}
-use Rattle.one_session.specs.Changes.{AllStandForValues, AreNamedApart, ComeFor, Come}
+use Rattle.one_session.specs.Changes.{AllStandForValues, AreNamedApart}
 use Rattle.one_session.specs.Pasts.{Beginning, GoesOn, NamesOnlyCome, SessionPast, last_number}
 use Rattle.one_session.proofs.RowValues.{rows_keep}
 use Rattle.outside.specs.Given.{whole}
@@ -31,7 +29,7 @@ use Rattle.aosi_desk.specs.Desks.{DeskState}
 use Rattle.session_replies.specs.RowSteps.{FitsItsCube}
 use Rattle.session_desk.specs.declared.session.Session.{Session}
 use Rattle.session_desk.specs.RowsDone.{AddsEntries, past_with}
-use Rattle.session_desk.specs.Standing.{StandsBehind, World}
+use Rattle.session_desk.specs.Standing.{World}
 use Rattle.session_desk.proofs.Changing.{one_more_with}
 use Rattle.session_rows.specs.Coded.{CodedOperation, done_operations}
 use Rattle.session_rows.specs.CubesAtDesk.{AreItsNames, IsAtCubes, row_world}
@@ -39,11 +37,11 @@ use Rattle.session_rows.specs.RowsBehind.{HasRows, RowWorld, world_of}
 use Rattle.session_rows.specs.RowsExecuted.{IsNewChange}
 use Rattle.session_rows.specs.declared.cubes.Cubes.{Cubes}
 use Rattle.row_entries.specs.LeftEntries.{row_step}
-use Rattle.row_changes.proofs.InRuns.{MeetsInRun, meets_in_run, there_in_run}
+use Rattle.row_changes.proofs.InRuns.{meets_in_run, there_in_run}
 use Rattle.row_changes.proofs.Inserting.{stored_of}
 use Rattle.row_loads.specs.LoadedSoFar.{HasLoaded, HasStopped, rows_come}
 use Rattle.row_loads.specs.LoadsDone.{LoadsWith}
-use Rattle.row_loads.specs.LookedRecords.{HasReadAll, LooksAtRows}
+use Rattle.row_loads.specs.LookedRecords.{LooksAtRows}
 use Rattle.row_loads.proofs.LookedAtInRuns.{looked_in_run}
 use Rattle.row_loads.proofs.NamedRows.{rows_named}
 

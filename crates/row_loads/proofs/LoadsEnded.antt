@@ -1,14 +1,13 @@
 -- What holds of the answer to a LOAD, by the ways in which it may end.
-use Rattle.std.proofs.Common.{◌≡◌, ◌∙◌, inl, inr, ℕ, ◌<◌, ◌≤◌, List, [], Option, Some, None, refl, sym, ap, subst, arith}
+use Rattle.std.proofs.Common.{◌≡◌, ◌∙◌, inl, inr, ℕ, [], Option, Some, None, ap, arith}
 use Rattle.cube_language.specs.declared.statement.Statement.{Statement}
 use Rattle.cube_journal.specs.declared.journal_entry.AbortCause.TheVariants as abort
 use Rattle.cube_journal.specs.declared.refusal.Refusal.TheVariants as refusal
 use Rattle.cube_run.specs.RunRecords.{Says}
 use Rattle.cube_run.specs.SessionStates.{Idle}
-use Rattle.names_dict.specs.Dictionaries.{Dictionary}
 use Rattle.query_plan.specs.Bindings.{IsBoundTo}
 use Rattle.outside.specs.Given.{whole}
-use Rattle.csv_load.specs.Loads.{BeginsLoad, LoadState}
+use Rattle.csv_load.specs.Loads.{LoadState}
 use Rattle.loaded_files.specs.LoadedFiles.{loaded_file}
 use Rattle.row_encoding.specs.CodedLoads.{Tell}
 use Rattle.row_encoding.specs.declared.load.BadRecords.{BadRecords}
@@ -28,7 +27,7 @@ use Rattle.row_changes.proofs.Answering.{writer_in}
 use Rattle.row_loads.specs.LoadEnds.{AbortsInside, EndsAlone, EndsInside, ForgetsAlone, loaded_reply}
 use Rattle.row_loads.specs.LoadedSoFar.{BringsRows, HaveGrown}
 use Rattle.row_loads.specs.LoadsDone.{LoadsItsBytes, LoadsOnRows, LoadsWith}
-use Rattle.row_loads.proofs.LoadedRuns.{HasBrought, load_of}
+use Rattle.row_loads.proofs.LoadedRuns.{load_of}
 use Rattle.row_loads.proofs.LoadsExecute.{rejects_alone, rejects_inside, stores_alone, stores_inside}
 use Rattle.row_loads.proofs.Unloaded.{forgets_alone, forgets_inside}
 

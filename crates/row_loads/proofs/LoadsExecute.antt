@@ -1,5 +1,5 @@
 -- A LOAD that brought rows is executed on rows, by how it ends.
-use Rattle.std.proofs.Common.{◌≡◌, ◌∙◌, ℕ, ◌+◌, ◌<◌, ◌≤◌, List, [], ◌∷◌, ◌++◌, length, map, take, Some, None, refl, sym, ap, subst, arith}
+use Rattle.std.proofs.Common.{◌≡◌, ◌∙◌, ℕ, ◌<◌, ◌≤◌, List, [], ◌∷◌, ◌++◌, length, map, take, Some, refl, sym, ap, subst}
 use Rattle.std.proofs.lemmas.List.{length-map}
 use Rattle.cube_values.specs.declared.operation.Operation.TheVariants.{Put}
 use Rattle.cube_values.specs.declared.row.CodedRow.{CodedRow}
@@ -7,7 +7,6 @@ use Rattle.cube_values.specs.declared.row.Row.{Row}
 use Rattle.cube_values.specs.declared.snapshot.Snapshot.{Snapshot}
 use Rattle.cube_language.specs.declared.decl.Decl.{Decl}
 use Rattle.cube_language.specs.declared.statement.Statement.{Statement}
-use Rattle.cube_language.specs.declared.statement.Statement.TheVariants.{Load}
 use Rattle.cube_journal.specs.declared.journal_entry.AbortCause.TheVariants as abort
 use Rattle.cube_journal.specs.declared.refusal.Refusal.TheVariants as refusal
 use Rattle.cube_journal.specs.declared.reply.Reply.{Reply}
@@ -15,42 +14,37 @@ use Rattle.cube_journal.specs.declared.reply.Reply.TheVariants as reply
 use Rattle.cube_run.specs.LoadedRows.{rejections_among, rows_among}
 use Rattle.cube_run.specs.RunRecords.{RunRecord, Says}
 use Rattle.cube_run.specs.RunText.{IsReply}
-use Rattle.cube_run.specs.RunTransactions.{DoneOperation, rows_of_cube}
+use Rattle.cube_run.specs.RunTransactions.{rows_of_cube}
 use Rattle.cube_run.specs.SessionStates.{Idle, Open}
 use Rattle.cube_run.specs.SessionSteps.{SessionStep, session_part}
 use Rattle.names_dict.specs.Dictionaries.{names_of}
 use Rattle.agg_fold.specs.Coded.{row_for}
 use Rattle.condition_spans.specs.Codes.{lists_at}
-use Rattle.one_session.specs.Changes.{rows_with_change}
-use Rattle.one_session.specs.Pasts.{Beginning, GoesOn, SessionPast}
+use Rattle.one_session.specs.Pasts.{GoesOn}
 use Rattle.outside.specs.Given.{whole}
 use Rattle.loaded_files.specs.LoadedFiles.{loaded_file}
 use Rattle.row_encoding.specs.declared.load.BadRecords.{BadRecords}
 use Rattle.aosi_register.specs.State.{state_of}
 use Rattle.aosi_desk.specs.Desks.{DeskState}
-use Rattle.plain_rows.specs.HeldRows.{HeldRows, rows_at}
-use Rattle.session_replies.specs.Modes.{mode_of}
 use Rattle.session_replies.specs.RowEntries.{open_abort, own_abort, own_commit}
 use Rattle.session_replies.specs.RowSteps.{FitsItsCube}
 use Rattle.session_replies.specs.StepParts.{IsStep}
 use Rattle.session_replies.proofs.Doing.{load_done_alone, load_done_inside}
 use Rattle.session_replies.proofs.Loading.{loaded_alone, loaded_inside, rejected_alone, rejected_inside}
-use Rattle.session_replies.proofs.Reading.{changed_without_memory_inside}
 use Rattle.session_desk.specs.declared.session.Session.{Session}
 use Rattle.session_desk.specs.RowsDone.{past_with}
-use Rattle.session_rows.specs.Coded.{CodedOperation, done_operations}
+use Rattle.session_rows.specs.Coded.{done_operations}
 use Rattle.session_rows.specs.CubesAtDesk.{row_world}
-use Rattle.session_rows.specs.RowsBehind.{HasRows, RowWorld}
 use Rattle.session_rows.specs.RowsExecuted.{GoesBack, IsChanged, IsChangedAndKept, IsKept, OfEachCube}
 use Rattle.session_rows.specs.declared.cubes.Cubes.{Cubes}
 use Rattle.row_entries.specs.EntryGroups.{LeavesAbort, LeavesCommit, LeavesNothing, LeavesOpenAbort, abort_entries, commit_entries, end_entries}
 use Rattle.row_entries.specs.LeftEntries.{row_step}
+use Rattle.row_entries.proofs.Executing.{aborts_with_file, changes_alone_with_file, changes_inside_with_file, ends_with_file}
 use Rattle.row_loads.specs.LoadEnds.{loaded_reply}
 use Rattle.row_loads.specs.LoadedSoFar.{HaveGrown, rows_come}
 use Rattle.row_loads.specs.LoadsDone.{LoadsOnRows}
 use Rattle.row_loads.specs.LookedRecords.{LooksAtRows}
-use Rattle.row_loads.proofs.FilesBehind.{aborts_with_file, changes_alone_with_file, changes_inside_with_file, ends_with_file}
-use Rattle.row_loads.proofs.LoadedRuns.{HasBrought, IsLoad, LooksInRun, coded_load, looks_in_run, new_load}
+use Rattle.row_loads.proofs.LoadedRuns.{HasBrought, IsLoad, coded_load, looks_in_run, new_load}
 
 -- ---- rows
 

@@ -1,5 +1,5 @@
 -- The records at which a LOAD looks in a run that goes on.
-use Rattle.std.proofs.Common.{◌≡◌, ◌∙◌, ℕ, ◌+◌, ◌-◌, ◌<◌, false, List, [], ◌∷◌, ◌++◌, length, map, All, Option, Some, None, Result, get_or, slice_get, refl, sym, ap, subst, arith}
+use Rattle.std.proofs.Common.{◌≡◌, ◌∙◌, ℕ, ◌+◌, ◌-◌, List, [], ◌++◌, map, Some, Result, slice_get, sym, ap, subst, arith}
 use Rattle.std.proofs.lemmas.List.{append-nil}
 use Rattle.std.proofs.lemmas.Simd.{map-map}
 use Rattle.cube_values.specs.declared.row.CodedRow.{CodedRow}
@@ -9,32 +9,27 @@ use Rattle.cube_language.specs.declared.bad_row.BadRow.{BadRow}
 use Rattle.cube_language.specs.declared.decl.Decl.{Decl}
 use Rattle.cube_language.specs.declared.statement.Statement.{Statement}
 use Rattle.cube_journal.specs.declared.journal_entry.JournalEntry.{JournalEntry}
-use Rattle.cube_journal.specs.declared.reply.Rejection.{Rejection}
-use Rattle.cube_run.specs.LoadedRows.{judged_record, records_looked_at, rows_among}
-use Rattle.cube_run.specs.RunRecords.{LoadedFile, RunRecord, Says}
+use Rattle.cube_run.specs.LoadedRows.{judged_record, records_looked_at}
+use Rattle.cube_run.specs.RunRecords.{RunRecord, Says}
 use Rattle.names_dict.specs.Dictionaries.{Dictionary, names_of}
 use Rattle.agg_fold.specs.Coded.{row_for}
-use Rattle.condition_spans.specs.Codes.{lists_at, texts_at}
+use Rattle.condition_spans.specs.Codes.{lists_at}
 use Rattle.query_plan.specs.Ties.{stored_for}
-use Rattle.csv_load.specs.FileRecords.{RecordFields, records_of}
+use Rattle.csv_load.specs.FileRecords.{records_of}
 use Rattle.csv_load.specs.Loads.{LoadState}
 use Rattle.one_session.specs.Behind.{last_step}
-use Rattle.one_session.specs.Changes.{AllStandForValues, AreNamedApart}
-use Rattle.one_session.specs.Pasts.{Beginning, EndsWithMore, GoesOn, IsOneMore, SessionPast, last_number}
+use Rattle.one_session.specs.Changes.{AllStandForValues}
+use Rattle.one_session.specs.Pasts.{Beginning, EndsWithMore, GoesOn, SessionPast}
 use Rattle.one_session.proofs.Backwards.{goes_on_before}
 use Rattle.one_session.proofs.RowValues.{rows_keep}
-use Rattle.outside.specs.Given.{whole}
-use Rattle.loaded_files.specs.LoadedFiles.{loaded_file}
-use Rattle.row_encoding.specs.CodedLoads.{TakesBatch, Tell, final_record, final_records, looked_at_later, record_result, records_between, rejections_from}
+use Rattle.row_encoding.specs.CodedLoads.{TakesBatch, Tell, final_records, looked_at_later, record_result, records_between, rejections_from}
 use Rattle.row_encoding.specs.declared.load.BadRecords.{BadRecords}
 use Rattle.row_encoding.specs.declared.load.BatchEnd.{BatchEnd}
 use Rattle.row_encoding.specs.declared.load.BatchEnd.TheVariants as batch_is
-use Rattle.session_replies.specs.RowSteps.{final_names}
-use Rattle.session_desk.specs.Standing.{StandsBehind, World, session_state}
+use Rattle.session_desk.specs.Standing.{World, session_state}
 use Rattle.session_desk.proofs.FindingCubes.{finds_its_names}
-use Rattle.session_rows.specs.CubesAtDesk.{AreItsNames}
 use Rattle.row_changes.proofs.InRuns.{ends_there, there_in_run}
-use Rattle.row_loads.specs.LoadedSoFar.{HasStopped, HasTaken}
+use Rattle.row_loads.specs.LoadedSoFar.{HasStopped}
 use Rattle.row_loads.specs.LookedRecords.{HasReadAll, IsLoadBehind, LooksAtRows}
 use Rattle.row_loads.proofs.NamedRows.{rows_named}
 

@@ -1,55 +1,26 @@
 -- The rows that a load has are named by the names so far.
-use Rattle.std.proofs.Common.{◌≡◌, ◌∙◌, ℕ, ◌<◌, ◌≤◌, true, false, zero, suc, List, [], ◌∷◌, ◌++◌, length, map, All, Option, Some, None, Result, Ok, Err, get_or, slice_get, refl, sym, ap, subst, arith}
-use Rattle.std.specs.List.{AllByRecursion, cons_option, filter_map}
-use Rattle.std.proofs.lemmas.List.{get_or_default, length-map}
-use Rattle.std.proofs.lemmas.List.Elements.{recursion_from_All}
+use Rattle.std.proofs.Common.{◌≡◌, ℕ, ◌≤◌, suc, List, [], ◌∷◌, length, Option, Some, None, Result, slice_get, ap, arith}
+use Rattle.std.specs.List.{cons_option, filter_map}
+use Rattle.std.proofs.lemmas.List.{length-map}
 use Rattle.cube_values.specs.declared.row.CodedRow.{CodedRow}
 use Rattle.cube_values.specs.declared.row.Row.{Row}
 use Rattle.cube_language.specs.declared.bad_row.BadRow.{BadRow}
 use Rattle.cube_language.specs.declared.decl.Decl.{Decl}
-use Rattle.cube_language.specs.declared.decl.DimDecl.{DimDecl}
 use Rattle.cube_run.specs.LoadedRows.{row_in}
 use Rattle.names_dict.specs.Dictionaries.{Dictionary, names_of}
 use Rattle.agg_fold.specs.Coded.{row_for}
-use Rattle.condition_spans.specs.Codes.{lists_at, texts_at}
-use Rattle.query_plan.specs.Ties.{StandForValues}
+use Rattle.condition_spans.specs.Codes.{lists_at}
 use Rattle.one_session.specs.Changes.{AllStandForValues}
-use Rattle.csv_load.specs.FileRecords.{RecordFields}
 use Rattle.csv_load.specs.Loads.{LoadState}
-use Rattle.row_encoding.specs.CodedInserts.{HasCoords}
 use Rattle.row_encoding.specs.CodedLoads.{TakesBatch, final_record, final_records, records_between}
-use Rattle.row_encoding.specs.CodedValues.{HaveNames, NumbersHaveNoNames}
-use Rattle.row_encoding.specs.DictsAsEncoder.{MayEndWith}
-use Rattle.row_encoding.specs.FinalCodes.{dim_at}
+use Rattle.row_encoding.specs.CodedValues.{NumbersHaveNoNames}
 use Rattle.row_encoding.specs.declared.load.BadRecords.{BadRecords}
 use Rattle.row_encoding.specs.declared.load.BatchEnd.{BatchEnd}
 use Rattle.row_encoding.proofs.CubeEnds.{may_end_as_they_are}
 use Rattle.session_rows.specs.CubesAtDesk.{AreItsNames}
 use Rattle.session_rows.proofs.NamesCome.{suiting_numbers, suits_some}
+use Rattle.row_changes.proofs.Inserting.{all_named}
 use Rattle.row_loads.specs.LoadedSoFar.{HasTaken}
-
--- ---- rows whose texts have names
-
-row_stands : (d : Decl) (lists : List (List (List ℕ))) (row : CodedRow) → NumbersHaveNoNames d lists → HasCoords d row
-    → HaveNames d lists row.coords → StandForValues d lists row.coords
-row_stands d lists row numbers coords names = record {
-  of_cube = coords;
-  each = λ k e l.
-      let same =
-      ap (λ (dim : DimDecl). dim.text)
-      (get_or_default d.dims k (record { name = []; text = false; cardinality = 0; range = 0 }) e l)
-      in
-      record { number = λ is. numbers k l (same ∙ is); text = λ is. names k (same ∙ is) };
-}
-
-rows_stand : (d : Decl) (lists : List (List (List ℕ))) (rows : List CodedRow) → NumbersHaveNoNames d lists
-    → AllByRecursion (HasCoords d) rows → AllByRecursion (λ row. HaveNames d lists row.coords) rows
-    → AllStandForValues d lists rows
-rows_stand d lists [] numbers coords names = tt
-rows_stand d lists (row ∷ rows) numbers coords names =
-    (row_stands d lists row numbers coords.0 names.0, rows_stand d lists rows numbers coords.1 names.1)
-
--- ---- by the names so far
 
 module _ (cubes : List Decl) (dictionaries : List (List Dictionary)) (place allowed : ℕ) (start load : LoadState)
     (before bad : BadRecords) (rows : List CodedRow) (ended : BatchEnd) (are : AreItsNames cubes dictionaries)
@@ -63,10 +34,7 @@ module _ (cubes : List Decl) (dictionaries : List (List Dictionary)) (place allo
 
   pub rows_named : AllStandForValues start.decl (lists_at (names_of dictionaries) place) rows
   rows_named =
-      rows_stand start.decl (lists_at (names_of dictionaries) place) rows numbers_now
-      (recursion_from_All (HasCoords start.decl) rows taken.inside)
-      (recursion_from_All (λ row. HaveNames start.decl (lists_at (names_of dictionaries) place) row.coords) rows
-      batch_now.names)
+      all_named start.decl (lists_at (names_of dictionaries) place) rows numbers_now taken.inside batch_now.names
 
   no_more : (o : Option Row) (rows : List Row) (n : ℕ) → length rows ≤ n → length (cons_option o rows) ≤ suc n
   no_more None rows n l = omega (arith, l)

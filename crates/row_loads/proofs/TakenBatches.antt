@@ -1,5 +1,5 @@
 -- A batch is taken from a load.
-use Rattle.std.proofs.Common.{◌≡◌, ◌∙◌, ℕ, ◌<◌, ◌≤◌, List, length, All, Some, get_or, slice_get, sym, ap, subst, arith, length-append}
+use Rattle.std.proofs.Common.{◌≡◌, ◌∙◌, ℕ, List, length, All, Some, get_or, slice_get, sym, ap, subst, arith, length-append}
 use Rattle.std.proofs.lemmas.Option.{get_or_from_slice_get}
 use Rattle.cube_values.specs.Batches.{Batch}
 use Rattle.cube_values.specs.declared.row.CodedRow.{CodedRow}
@@ -14,7 +14,6 @@ use Rattle.row_encoding.specs.FinalCodes.{Grow, InTheEnd}
 use Rattle.row_encoding.specs.declared.load.BadRecords.{BadRecords}
 use Rattle.row_encoding.specs.declared.load.BatchEnd.{BatchEnd}
 use Rattle.row_encoding.specs.declared.load.BatchEnd.TheVariants as batch_is
-use Rattle.row_encoding.specs.declared.load.TheConstants.{BATCH_ROWS}
 use Rattle.row_encoding.proofs.CubeEnds.{may_end_as_they_are}
 use Rattle.session_rows.specs.CubesAtDesk.{AreItsNames, AreWholeCubes}
 use Rattle.session_rows.specs.declared.cubes.Cubes.{Cubes}

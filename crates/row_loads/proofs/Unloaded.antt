@@ -1,5 +1,5 @@
 -- A LOAD that brings no rows is executed on rows: its file is not there, is too long or cannot be read, or memory ran out.
-use Rattle.std.proofs.Common.{◌≡◌, ◌∙◌, ℕ, true, List, [], None, refl, sym, ap, subst}
+use Rattle.std.proofs.Common.{◌≡◌, ◌∙◌, ℕ, true, List, None, refl, sym, ap, subst}
 use Rattle.cube_values.specs.declared.snapshot.Snapshot.{Snapshot}
 use Rattle.cube_language.specs.declared.decl.Decl.{Decl}
 use Rattle.cube_language.specs.declared.statement.Statement.{Statement}
@@ -16,7 +16,7 @@ use Rattle.cube_run.specs.StatementEntries.{is_change}
 use Rattle.cube_run.specs.StepOutcomes.{refused_by_mode}
 use Rattle.names_dict.specs.Dictionaries.{names_of}
 use Rattle.query_plan.specs.Bindings.{IsBoundTo}
-use Rattle.one_session.specs.Pasts.{Beginning, GoesOn, SessionPast, last_number}
+use Rattle.one_session.specs.Pasts.{Beginning, GoesOn, SessionPast}
 use Rattle.aosi_desk.specs.Desks.{DeskState}
 use Rattle.session_replies.specs.Modes.{mode_of}
 use Rattle.session_replies.specs.RowEntries.{lone_refusal, open_abort}
@@ -36,12 +36,11 @@ use Rattle.session_rows.specs.declared.cubes.Cubes.{Cubes}
 use Rattle.row_entries.specs.EntryGroups.{LeavesOpenAbort, LeavesRefusal, end_entries, refusal_entries}
 use Rattle.row_entries.specs.LeftEntries.{row_step}
 use Rattle.row_entries.specs.RowCalls.{NotesRefusal}
-use Rattle.row_entries.proofs.Executing.{memory_answers}
+use Rattle.row_entries.proofs.Executing.{ends_with_file, memory_answers, refused_back_with_file, refused_with_file}
 use Rattle.row_entries.proofs.Lone.{leaves_refusal}
-use Rattle.row_changes.proofs.InRuns.{MeetsInRun, meets_in_run}
+use Rattle.row_changes.proofs.InRuns.{meets_in_run}
 use Rattle.row_loads.specs.LoadedSoFar.{HaveGrown}
 use Rattle.row_loads.specs.LoadsDone.{LoadsOnRows}
-use Rattle.row_loads.proofs.FilesBehind.{ends_with_file, refused_back_with_file, refused_with_file}
 use Rattle.row_loads.proofs.GrownCubes.{come_none}
 use Rattle.row_loads.proofs.LoadedRuns.{IsLoad, file_is}
 use Rattle.row_loads.proofs.LoadsExecute.{went_back}

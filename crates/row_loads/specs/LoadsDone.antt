@@ -13,9 +13,9 @@ use Rattle.aosi_desk.specs.Desks.{DeskState}
 use Rattle.session_desk.specs.declared.session.Session.{Session}
 use Rattle.session_rows.specs.Coded.{CodedOperation}
 use Rattle.session_rows.specs.CubesAtDesk.{row_world}
-use Rattle.session_rows.specs.RowsBehind.{HasRows, RowWorld}
-use Rattle.session_rows.specs.RowsExecuted.{HasExecutedOnRows}
+use Rattle.session_rows.specs.RowsBehind.{HasRows}
 use Rattle.session_rows.specs.declared.cubes.Cubes.{Cubes}
+use Rattle.row_entries.specs.ExecutedHere.{HasExecutedWithFile}
 
 -- A statement is a LOAD.
 abbrev pub LoadsRows : Statement → Type 0
@@ -26,11 +26,6 @@ LoadsRows s = ⊥
 abbrev pub LoadsWith : Statement → ℕ → Type 0
 LoadsWith (Load cube path reject) allowed = reject ≡ allowed
 LoadsWith s allowed = ⊥
-
--- A statement is executed on rows, and its file gave this.
-pub record HasExecutedWithFile (beginning : Beginning) (past : SessionPast) (sentence : Sentence) (file : LoadedFile)
-    (old now : RowWorld) (said : Reply) : Type 0 where
-  pub on_rows : HasExecutedOnRows beginning past sentence old now said
 
 -- A statement whose file gives this is executed by the session, whatever is behind it, and answered so.
 abbrev pub LoadsOnRows : LoadedFile → Sentence → DeskState → Session → Cubes → DeskState → Session → Cubes → Reply

@@ -130,4 +130,3 @@ pub(crate) fn bring_rows(
         BatchEnd::Full => unreachable!(),
     }
 }
-

@@ -43,11 +43,7 @@ fn give_rows_back(cubes: &mut Cubes)
 }
 
 /// Aborts a transaction of the next statement's own. The error is out of memory, and then nothing is changed.
-fn abort_alone(
-    desk: &mut Desk,
-    session: &mut Session,
-    cause: AbortCause,
-) -> Result<(), AllocError>
+fn abort_alone(desk: &mut Desk, session: &mut Session, cause: AbortCause) -> Result<(), AllocError>
     requires at { IsAtDesk desk.old session.old }
     requires few { session.old.statements < MOST_STATEMENTS }
     requires idle { mode_of session.old.mode ≡ Idle }
@@ -248,8 +244,18 @@ pub(crate) fn end_inside(
     match rows {
         Some(rows) => store_inside(desk, session, cubes, rows, bad, epoch),
         None => {
-            let refusal = Refusal::TooManyRejected { rejected: bad.count, allowed };
-            abort_inside(desk, session, cubes, epoch, AbortCause::TooManyRejected, refusal)
+            let refusal = Refusal::TooManyRejected {
+                rejected: bad.count,
+                allowed,
+            };
+            abort_inside(
+                desk,
+                session,
+                cubes,
+                epoch,
+                AbortCause::TooManyRejected,
+                refusal,
+            )
         }
     }
 }

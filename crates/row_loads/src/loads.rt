@@ -16,12 +16,12 @@ ghost use Rattle.row_loads.specs.LoadsDone.{LoadsItsBytes, LoadsRows, LoadsWith}
 use crate::batches::bring_rows;
 use crate::ends::{abort_inside, end_alone, end_inside, forget_alone, refuse_unopened};
 use aosi_desk::Desk;
+use csv_load::Loader;
 use cube_journal::{AbortCause, Refusal};
 use cube_language::{MOST_STATEMENTS, Statement};
-use csv_load::Loader;
+use cube_values::CallError;
 use loaded_files::open_load;
 use outside::Shelf;
-use cube_values::CallError;
 use query_plan::bound_place;
 use row_changes::{epoch_in, refuse_bind, refuse_for_memory};
 use row_encoding::BadRecords;
@@ -83,7 +83,14 @@ fn load_inside(
     match bring_rows(alloc, cubes, place, load, allowed, &mut bad) {
         Ok(rows) => end_inside(desk, session, cubes, rows, bad, allowed, epoch),
         Err(_) => {
-            abort_inside(desk, session, cubes, epoch, AbortCause::NoMemory, Refusal::NoMemory)
+            abort_inside(
+                desk,
+                session,
+                cubes,
+                epoch,
+                AbortCause::NoMemory,
+                Refusal::NoMemory,
+            )
         }
     }
 }
@@ -113,7 +120,9 @@ fn load_opened(
     let from = &mut records;
     match epoch_in(&session.mode) {
         Some(epoch) => {
-            load_inside(alloc, desk, session, cubes, statement, place, from, allowed, epoch)
+            load_inside(
+                alloc, desk, session, cubes, statement, place, from, allowed, epoch,
+            )
         }
         None => load_alone(alloc, desk, session, cubes, statement, place, from, allowed),
     }
@@ -154,9 +163,7 @@ fn load_from<S: Shelf>(
     }) statement.now desk.old session.old cubes.old desk.new session.new cubes.new) }
 {
     match open_load(alloc, shelf, path, &cubes.schemas[place as usize]) {
-        Ok(load) => {
-            load_opened(alloc, desk, session, cubes, statement, place, load, allowed)
-        }
+        Ok(load) => { load_opened(alloc, desk, session, cubes, statement, place, load, allowed) }
         Err(fault) => refuse_unopened(desk, session, cubes, fault),
     }
 }
@@ -194,7 +201,9 @@ fn load_bound<S: Shelf>(
     match statement {
         Statement::Load { path, reject, .. } => {
             let from = path.as_str();
-            load_from(alloc, shelf, desk, session, cubes, statement, place, from, *reject)
+            load_from(
+                alloc, shelf, desk, session, cubes, statement, place, from, *reject,
+            )
         }
         _ => unreachable!(),
     }
@@ -236,4 +245,3 @@ pub fn load<S: Shelf>(
         Err(CallError::NoMemory) => refuse_for_memory(desk, session, cubes, statement),
     }
 }
-

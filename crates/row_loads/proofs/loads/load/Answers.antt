@@ -1,5 +1,4 @@
-use Rattle.std.proofs.Common.{refl}
-use Rattle.row_loads.proofs.FilesOpened.{with_file, without_file, without_names}
+use Rattle.row_loads.proofs.FilesOpened.{with_file}
 use Rattle.row_loads.proofs.loads.load.Goals as goal
 
 pub returns-in-Ok-clause-executed : goal.returns-in-Ok-clause-executed
