@@ -1,6 +1,6 @@
 -- How a statement on rows is executed by what it left at the desk, and on rows by what becomes of those.
 -- Source: AOSI (ICDE 2018), commit and abort of a transaction; the rest is this project's own.
-use Rattle.std.specs.Prelude.{◌≡◌, ℕ, ◌++◌, List, [], ◌∷◌, Some}
+use Rattle.std.specs.Prelude.{◌≡◌, ℕ, ◌+◌, ◌++◌, List, [], ◌∷◌, Some}
 use Rattle.cube_journal.specs.declared.journal_entry.JournalEntry.{JournalEntry}
 use Rattle.cube_journal.specs.declared.reply.Reply.{Reply}
 use Rattle.cube_run.specs.RunRecords.{LoadedFile, RunRecord, Sentence}
@@ -8,7 +8,7 @@ use Rattle.cube_run.specs.RunText.{IsReply}
 use Rattle.cube_run.specs.RunTransactions.{DoneOperation}
 use Rattle.names_dict.specs.Dictionaries.{names_of}
 use Rattle.one_session.specs.Behind.{HasDone}
-use Rattle.one_session.specs.Pasts.{Beginning, GoesOn, NamesOnlyCome, SessionPast}
+use Rattle.one_session.specs.Pasts.{Beginning, GoesOn, NamesOnlyCome, SessionPast, last_number}
 use Rattle.aosi_desk.specs.Desks.{DeskState}
 use Rattle.plain_rows.specs.HeldRows.{HeldRows}
 use Rattle.session_desk.specs.declared.session.Session.{Session}
@@ -17,7 +17,7 @@ use Rattle.session_desk.specs.RowsDone.{past_with}
 use Rattle.session_desk.specs.Standing.{StandsBehind}
 use Rattle.session_rows.specs.Coded.{CodedOperation}
 use Rattle.session_rows.specs.RowsBehind.{RowWorld}
-use Rattle.session_rows.specs.RowsExecuted.{GoesBack, IsNewChange, OfEachCube, StaysHeld}
+use Rattle.session_rows.specs.RowsExecuted.{GoesBack, HasExecutedOnRows, IsNewChange, OfEachCube, StaysHeld}
 use Rattle.row_entries.specs.LeftEntries.{row_step}
 
 -- Each run that goes on answers the statement so.
@@ -69,3 +69,9 @@ pub record DoesInRuns (beginning : Beginning) (past : SessionPast) (sentence : S
   pub does : HasDone beginning (past_with past sentence file added (names_of now.dictionaries))
       (row_step past old.session sentence file added (names_of now.dictionaries)) (Some o)
   pub answers : IsAnswered beginning past old.session sentence file added (names_of now.dictionaries) said
+
+-- A statement is executed on rows, and its file gave this.
+pub record HasExecutedWithFile (beginning : Beginning) (past : SessionPast) (sentence : Sentence) (file : LoadedFile)
+    (old now : RowWorld) (said : Reply) : Type 0 where
+  pub on_rows : HasExecutedOnRows beginning past sentence old now said
+  pub gave : on_rows.executed.after.files (last_number past + 1) ≡ file

@@ -1,5 +1,5 @@
 -- A statement on rows is executed where its entries say so.
-use Rattle.std.proofs.Common.{◌≡◌, ◌∙◌, ℕ, ◌+◌, ◌≤◌, Bool, false, ◌==◌, List, [], ◌∷◌, ◌++◌, Option, Some, None, refl, sym, ap, subst, arith, append_assoc, append-nil, if◌then◌else◌}
+use Rattle.std.proofs.Common.{◌≡◌, ◌∙◌, ℕ, ◌+◌, ◌≤◌, Bool, true, false, ◌==◌, List, [], ◌∷◌, ◌++◌, Option, Some, None, refl, sym, ap, subst, arith, append_assoc, append-nil, if◌then◌else◌}
 use Rattle.std.specs.Prelude.{unwrap_or}
 use Rattle.std.specs.List.{filter_map}
 use Rattle.std.proofs.lemmas.Bool.Decides.{nat_tests}
@@ -124,3 +124,25 @@ executes_on_rows beginning past sentence file added desk session new_desk now na
         order = order;
       };
     }
+
+-- The file of the statement is what stands behind the session.
+pub has_its_file : (beginning : Beginning) (past : SessionPast) (sentence : Sentence) (file : LoadedFile)
+    (added : List JournalEntry) (desk : DeskState) (session : Session) (new_desk : DeskState) (now : Session)
+    (names new_names : List (List (List (List ℕ)))) (done : List DoneOperation) (operation : Option DoneOperation)
+    (said : Reply)
+    (h : StandsBehind beginning past (world_of desk names session done))
+    (g : AddsEntries sentence added desk session new_desk now) (come : NamesOnlyCome names new_names)
+    (rise : EpochsRise operation (next_change desk session) (next_change new_desk now)
+    (session_part 1 (past.journal ++ added)))
+    (does : HasDone beginning (past_with past sentence file added new_names)
+    (last_step (past_with past sentence file added new_names) (session_state session) sentence added) operation)
+    (answers : (run : RunRecord) → GoesOn beginning (past_with past sentence file added new_names) run
+    → IsReply run (last_step (past_with past sentence file added new_names) (session_state session) sentence added)
+    said)
+    → (executes_on_rows beginning past sentence file added desk session new_desk now names new_names done operation said
+    h g come rise does answers).after.files (last_number past + 1) ≡ file
+unfolding executes_on_rows
+has_its_file beginning past sentence file added desk session new_desk now names new_names done operation said h g come
+    rise does answers =
+    let same : (last_number past + 1 == last_number past + 1) ≡ true = grind (arith, nat_tests) in
+    ap (λ (b : Bool). if b then file else past.files (last_number past + 1)) same

@@ -207,3 +207,19 @@ changes_inside beginning past sentence c old now said h x s =
             (h.rows place (within old.desk.cubes now.desk.cubes cubes place l)));
       };
     }
+
+-- ---- what was executed
+
+pub alone_executed : (beginning : Beginning) (past : SessionPast) (sentence : Sentence) (c : CodedOperation) (old now : RowWorld)
+    (said : Reply) (h : HasRows beginning past old)
+    (x : HasExecuted beginning past sentence (world_of old) (world_of now) said) (s : ChangesAlone beginning c old now)
+    → (changes_alone beginning past sentence c old now said h x s).executed ≡ x
+unfolding changes_alone
+alone_executed beginning past sentence c old now said h x s = refl
+
+pub inside_executed : (beginning : Beginning) (past : SessionPast) (sentence : Sentence) (c : CodedOperation) (old now : RowWorld)
+    (said : Reply) (h : HasRows beginning past old)
+    (x : HasExecuted beginning past sentence (world_of old) (world_of now) said) (s : ChangesInside beginning c old now)
+    → (changes_inside beginning past sentence c old now said h x s).executed ≡ x
+unfolding changes_inside
+inside_executed beginning past sentence c old now said h x s = refl

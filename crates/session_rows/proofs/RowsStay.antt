@@ -405,3 +405,17 @@ begins_empty beginning now h =
             h.coded);
       };
     }
+
+-- ---- what was executed
+
+pub stays_executed : (beginning : Beginning) (past : SessionPast) (sentence : Sentence) (old now : RowWorld) (said : Reply)
+    (h : HasRows beginning past old) (x : HasExecuted beginning past sentence (world_of old) (world_of now) said)
+    (s : Stays old now) → (stays_on_rows beginning past sentence old now said h x s).executed ≡ x
+unfolding stays_on_rows
+stays_executed beginning past sentence old now said h x s = refl
+
+pub rolls_back_executed : (beginning : Beginning) (past : SessionPast) (sentence : Sentence) (old now : RowWorld) (said : Reply)
+    (h : HasRows beginning past old) (x : HasExecuted beginning past sentence (world_of old) (world_of now) said)
+    (s : RollsBack old now) → (rolls_back_on_rows beginning past sentence old now said h x s).executed ≡ x
+unfolding rolls_back_on_rows
+rolls_back_executed beginning past sentence old now said h x s = refl

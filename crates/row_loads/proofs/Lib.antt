@@ -1,0 +1,11 @@
+pub mod JoinedBatches
+pub mod NamedRows
+pub mod TakenBatches
+pub mod GrownCubes
+pub mod LoadFronts
+pub mod LookedAtInRuns
+pub mod LoadedRuns
+pub mod LoadsExecute
+pub mod Unloaded
+pub mod LoadsEnded
+pub mod FilesOpened

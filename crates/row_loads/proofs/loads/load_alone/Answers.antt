@@ -1,0 +1,16 @@
+use Rattle.row_loads.proofs.LoadsEnded.{ended_alone, forgotten_alone}
+use Rattle.row_loads.proofs.loads.load_alone.Goals as goal
+
+pub returns-in-Ok-clause-executed : goal.returns-in-Ok-clause-executed
+returns-in-Ok-clause-executed c =
+    ended_alone c.args.statement.now c.args.allowed c.args.place c.args.desk.now c.args.session.now c.args.cubes.now
+    c.bring_rows.new.cubes c.args.load.now c.bring_rows.new.load c.none-bad.result c.bring_rows.new.bad c.requires.form
+    c.requires.at c.requires.bound c.none-bad.ensures c.end_alone.new.desk c.end_alone.new.session c.end_alone.new.cubes
+    c.end_alone.result c.in-Ok.rows c.requires.idle c.in-Ok.ensures.brought c.end_alone.ensures.said
+
+pub returns-in-Err-clause-executed : goal.returns-in-Err-clause-executed
+returns-in-Err-clause-executed c =
+    forgotten_alone c.args.statement.now c.args.allowed c.args.place c.args.desk.now c.args.session.now c.args.cubes.now
+    c.bring_rows.new.cubes c.args.load.now c.bring_rows.new.load c.none-bad.result c.bring_rows.new.bad c.requires.form
+    c.requires.at c.requires.bound c.none-bad.ensures c.forget_alone.new.desk c.forget_alone.new.session c.forget_alone.new.cubes
+    c.forget_alone.result c.requires.idle c.in-Err.ensures.grown c.forget_alone.ensures.said

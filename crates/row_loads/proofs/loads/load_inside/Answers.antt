@@ -1,0 +1,17 @@
+use Rattle.row_loads.proofs.LoadsEnded.{ended_inside, forgotten_inside}
+use Rattle.row_loads.proofs.loads.load_inside.Goals as goal
+
+pub returns-in-Ok-clause-executed : goal.returns-in-Ok-clause-executed
+returns-in-Ok-clause-executed c =
+    ended_inside c.args.statement.now c.args.allowed c.args.place c.args.desk.now c.args.session.now c.args.cubes.now
+    c.bring_rows.new.cubes c.args.load.now c.bring_rows.new.load c.none-bad.result c.bring_rows.new.bad c.requires.form
+    c.requires.at c.requires.bound c.none-bad.ensures c.end_inside.new.desk c.end_inside.new.session c.end_inside.new.cubes
+    c.end_inside.result c.in-Ok.rows c.args.epoch c.requires.open c.in-Ok.ensures.brought
+    c.end_inside.ensures.said
+
+pub returns-in-Err-clause-executed : goal.returns-in-Err-clause-executed
+returns-in-Err-clause-executed c =
+    forgotten_inside c.args.statement.now c.args.allowed c.args.place c.args.desk.now c.args.session.now c.args.cubes.now
+    c.bring_rows.new.cubes c.args.load.now c.bring_rows.new.load c.none-bad.result c.bring_rows.new.bad c.requires.form
+    c.requires.at c.requires.bound c.none-bad.ensures c.abort_inside.new.desk c.abort_inside.new.session c.abort_inside.new.cubes
+    c.abort_inside.result c.args.epoch c.in-Err.ensures.grown c.abort_inside.ensures.said

@@ -1,0 +1,5 @@
+pub mod LoadedSoFar
+pub mod LookedRecords
+pub mod LoadsDone
+pub mod LoadEnds
+pub mod LoadsFromShelf
