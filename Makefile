@@ -1,8 +1,15 @@
-# `make demo` proves and builds the program and runs it on the example; it ends with the program's status.
-# `make bench` proves and builds the program of measures, and prints what each hot path costs per item.
-.PHONY: demo bench
+# `make demo` runs the program on an example, unproved. `make program` proves and builds it as bin/cubrick. `make bench` proves and builds
+# the program of measures, and prints what each hot path costs per item.
+.PHONY: demo program bench
+EXAMPLE = $(CURDIR)/examples
 demo:
-	@cd crates/cubrick && rt run -- ../../examples/sums.cubes ../../examples/sums.sql
+	@echo 'The program runs unproved here (rt try); make program proves and builds it.'
+	@cd crates/cubrick && rt try --data visits.cubes=$(EXAMPLE)/visits.cubes --data visits.sql=$(EXAMPLE)/visits.sql \
+	    --data monday.csv=$(EXAMPLE)/monday.csv --data tuesday.csv=$(EXAMPLE)/tuesday.csv -- visits.cubes visits.sql
+program:
+	@echo 'Every crate that the program stands on is proved first: from nothing that takes more than an hour on four processors.'
+	@cd crates/cubrick && rt run -- >/dev/null; test -x out/cubrick
+	@mkdir -p bin && cp crates/cubrick/out/cubrick bin/cubrick && echo 'bin/cubrick is built.'
 bench:
 	@cd crates/measures && rt run -- split 1 >/dev/null
 	@tools/bench

@@ -1,8 +1,5 @@
-pub mod SessionSteps
+pub mod DeclaredCubes
 pub mod FilesRead
-pub mod ScriptActions
-pub mod RunEnds
-pub mod Rows
+pub mod RunsEnd
 pub mod Served
-pub mod OneEnd
-pub mod AnsweredActions
+pub mod FaultsTold

@@ -1,10 +1,4 @@
-pub mod Actions
-pub mod Answered
-pub mod Session
-pub mod Scripts
-pub mod Files
-pub mod Ending
-pub mod Reading
-pub mod RunCalls
-pub mod Runs
 pub mod Parts
+pub mod Inputs
+pub mod Answers
+pub mod Runs

@@ -1,14 +1,15 @@
 //! How a run ends.
 
-use cube_language::{CubesFault, ScriptFault};
-use cube_values::Text;
+use cube_journal::JournalEntry;
+use names_dict::Dicts;
+use run_files::BadFile;
 use std::fmt;
 use thiserror::Error;
 
 /// What a run cannot do yet.
 #[derive(Clone, Copy, Debug, PartialEq, Eq)]
 pub enum BuiltPart {
-    /// Statements other than an INSERT of one row of numbers and the SUM of a metric over a cube of numbers.
+    /// The statements WATCH and SHOW WATCH.
     Script,
 }
 
@@ -31,24 +32,9 @@ pub enum Fault {
     /// Status 2: the words are not two.
     #[error("usage: cubrick CUBES SCRIPT")]
     Words,
-    /// Status 3: there is no file of this name.
-    #[error("no file {name}")]
-    Absent { name: Text },
-    /// Status 3: the file of this name could not be read.
-    #[error("cannot read {name}")]
-    ReadFailed { name: Text },
-    /// Status 4: the cubes file has this many bytes, which are more than 1,048,576.
-    #[error("cubes: CubesTooLong {size}")]
-    CubesTooLong { size: u64 },
-    /// Status 4: the cubes file declares no cubes.
-    #[error("cubes: {fault}")]
-    Cubes { fault: CubesFault },
-    /// Status 4: the script of this number has this many bytes, which are more than 4,194,304.
-    #[error("script {script}: ScriptTooLong {size}")]
-    ScriptTooLong { script: u64, size: u64 },
-    /// Status 4: the script of this number is refused whole.
-    #[error("script {script}: {fault}")]
-    Script { script: u64, fault: ScriptFault },
+    /// Status 3 where a file is not there or could not be read, and 4 where it is not in order.
+    #[error("{bad}")]
+    File { bad: BadFile },
     /// Status 4: a statement asks for what is not built.
     #[error("not built: {part}")]
     NotBuilt { part: BuiltPart },
@@ -60,9 +46,12 @@ pub enum Fault {
     NoMemory,
 }
 
-/// How a run ended: its status, and the fault where that is not 0.
-#[derive(Debug, Drop)]
+/// How a run ended: its status, the fault where that is not 0, and what it left. Where no statement was executed the
+/// journal and the dictionaries are empty.
+#[derive(Drop)]
 pub struct Finish {
     pub status: u8,
     pub fault: Option<Fault>,
+    pub journal: Vec<JournalEntry>,
+    pub names: Dicts,
 }

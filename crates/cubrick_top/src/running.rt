@@ -1,20 +1,38 @@
 //! The run of a program.
 
-ghost use Rattle.std.specs.Prelude.{◌≡◌, ◌≢◌, ◌↔◌, ℕ, List, [], ◌∷◌, length, map, string_bytes, Some};
+ghost use Rattle.std.specs.Prelude.{◌≡◌, ◌≢◌, ◌↔◌, ◌≤◌, ℕ, List, [], ◌∷◌, length, map, string_bytes, Some};
+ghost use Rattle.std.specs.Bool.{OnTrue};
+ghost use Rattle.std.specs.List.{AllByRecursion};
+ghost use Rattle.aosi_desk.specs.Desks.{AreCubes};
+ghost use Rattle.cube_journal.specs.Counters.{counters};
+ghost use Rattle.cube_journal.specs.WholeText.{whole_text};
 ghost use Rattle.outside.specs.Counts.{Rose};
+ghost use Rattle.script_sentences.specs.Sentences.{IsRunnable};
 ghost use Rattle.cubrick_top.specs.declared.fault.Fault.TheVariants.{Words};
-ghost use Rattle.cubrick_top.specs.Ending.{status_of};
-ghost use Rattle.cubrick_top.specs.Reading.{AbsenceCounted, ReadFaultCounted, OutputFaultCounted};
-ghost use Rattle.cubrick_top.specs.Runs.{Runs, IsReady, IsServed};
+ghost use Rattle.cubrick_top.specs.Runs.{IsLeft, IsReady, IsServed, OutputRises, Runs, ScriptEnds, status_of, status_of_file};
 
 use crate::fault::{Fault, Finish};
-use crate::files::{read_cubes, read_script};
-use crate::session::run_text;
-use cube_schema::a_text_declares_or_has_one_fault;
-use outside::{Shelf, Sink, put_whole};
-use sql_tree::a_text_spells_or_has_one_fault;
+use crate::files::{Input, read_input};
+use crate::writing::write_text;
+use cube_journal::{Counters, JournalEntry, Reply};
+use cube_language::MOST_STATEMENTS;
+use names_dict::Dicts;
+use outside::{Shelf, Sink};
+use run_files::{BadFile, files_decide_their_end};
+use script_runs::{Ran, run_script};
+use script_sentences::a_script_asks_for_a_watch_or_runs;
 use sql_words::a_script_has_statements_or_one_fault;
 use std::alloc::Global;
+
+fn status_of_file(bad: &BadFile) -> u8
+    ensures { result ≡ status_of_file bad.now }
+{
+    match bad {
+        BadFile::Absent { .. } => 3,
+        BadFile::ReadFailed { .. } => 3,
+        _ => 4,
+    }
+}
 
 fn status_of(fault: &Option<Fault>) -> u8
     ensures { result ≡ status_of fault.now }
@@ -22,66 +40,111 @@ fn status_of(fault: &Option<Fault>) -> u8
     match fault {
         None => 0,
         Some(Fault::Words) => 2,
-        Some(Fault::Absent { name: _ }) | Some(Fault::ReadFailed { name: _ }) => 3,
-        Some(Fault::CubesTooLong { size: _ })
-        | Some(Fault::Cubes { fault: _ })
-        | Some(Fault::ScriptTooLong { script: _, size: _ })
-        | Some(
-            Fault::Script {
-                script: _,
-                fault: _,
-            },
-        )
-        | Some(Fault::NotBuilt { part: _ }) => 4,
+        Some(Fault::File { bad }) => status_of_file(bad),
+        Some(Fault::NotBuilt { .. }) => 4,
         Some(Fault::OutputFault) => 7,
         Some(Fault::NoMemory) => 8,
     }
 }
 
-/// How a run ends with this fault, or with none.
-pub fn finish(fault: Option<Fault>) -> Finish
-    ensures fault { result.fault ≡ fault }
-    ensures status { result.status ≡ status_of fault }
+/// How a run ends with this fault before any statement is executed.
+pub fn finish(alloc: Global, fault: Fault) -> Finish
+    ensures fault { result.fault ≡ Some fault }
+    ensures status { result.status ≡ status_of result.fault }
+    ensures journal { result.journal.items ≡ [] }
+    ensures names { result.names ≡ [] }
 {
-    let status = status_of(&fault);
-    Finish { status, fault }
-}
-
-// Runs the script of this name over the cubes file of that name, and writes the text.
-fn run_files<H: Shelf, K: Sink>(
-    alloc: Global,
-    cubes: &str,
-    script: &str,
-    shelf: &mut H,
-    sink: &mut K,
-) -> Option<Fault>
-    ensures same { H.told shelf.new ≡ H.told shelf.old }
-    ensures absences { AbsenceCounted result
-        (H.absence_count shelf.old) (H.absence_count shelf.new) }
-    ensures faults { ReadFaultCounted result (H.fault_count shelf.old) (H.fault_count shelf.new) }
-    ensures output { OutputFaultCounted result (K.fault_count sink.old) (K.fault_count sink.new) }
-    ensures run { Runs (H.told shelf.old) (H.call_list shelf.old) (H.call_list shelf.new)
-        (K.taken sink.old) (K.taken sink.new) cubes.now script.now result }
-{
-    let declared = match read_cubes(alloc, shelf, cubes) {
-        Ok(declared) => declared,
-        Err(fault) => return Some(fault),
-    };
-    let actions = match read_script(alloc, shelf, declared.as_slice(), script) {
-        Ok(actions) => actions,
-        Err(fault) => return Some(fault),
-    };
-    let Ok(text) = run_text(alloc, actions) else {
-        return Some(Fault::NoMemory);
-    };
-    match put_whole(sink, text.as_slice()) {
-        Ok(()) => None,
-        Err(_) => Some(Fault::OutputFault),
+    let fault = Some(fault);
+    Finish {
+        status: status_of(&fault),
+        fault,
+        journal: Vec::new(alloc),
+        names: Dicts::new(alloc),
     }
 }
 
-// The same, with the status.
-fn finish_files<H: Shelf, K: Sink>(
+/// Writes what a script has left, if it was run whole.
+#[tactic(auto, using(crate::proofs::RunsEnd::left_if_whole, crate::proofs::RunsEnd::gained_none))]
+fn write_ran<K: Sink>(
+    alloc: Global,
+    sink: &mut K,
+    whole: bool,
+    replies: Vec<Reply>,
+    journal: &[JournalEntry],
+    last: &Counters,
+) -> Option<Fault>
+    requires few { OnTrue whole (length replies.items ≤ MOST_STATEMENTS) }
+    requires last { OnTrue whole (last.now ≡ counters 0 journal.now) }
+    ensures output { OutputRises result (K.fault_count sink.old) (K.fault_count sink.new) }
+    ensures left { IsLeft whole (whole_text 0 (replies.items ∷ []) journal.now)
+        (K.taken sink.old) (K.taken sink.new) result }
+{
+    if whole {
+        write_text(alloc, sink, replies, journal, last)
+    } else {
+        Some(Fault::NoMemory)
+    }
+}
+
+/// Writes what a script has left, if it was run whole, and ends the run.
+fn finish_run<K: Sink>(alloc: Global, sink: &mut K, ran: Ran) -> Finish
+    requires few { OnTrue ran.whole (length ran.replies.items ≤ MOST_STATEMENTS) }
+    requires last { OnTrue ran.whole (ran.counters ≡ counters 0 ran.journal.items) }
+    ensures status { result.status ≡ status_of result.fault }
+    ensures journal { result.journal.items ≡ ran.journal.items }
+    ensures names { result.names ≡ ran.names }
+    ensures output { OutputRises result.fault (K.fault_count sink.old) (K.fault_count sink.new) }
+    ensures left { IsLeft ran.whole (whole_text 0 (ran.replies.items ∷ []) ran.journal.items)
+        (K.taken sink.old) (K.taken sink.new) result.fault }
+{
+    let Ran {
+        replies,
+        journal,
+        counters,
+        names,
+        whole,
+    } = ran;
+    let fault = write_ran(alloc, sink, whole, replies, journal.as_slice(), &counters);
+    Finish {
+        status: status_of(&fault),
+        fault,
+        journal,
+        names,
+    }
+}
+
+/// Runs a script over cubes, and writes the text.
+fn run_input<H: Shelf, K: Sink>(
+    alloc: Global,
+    input: Input,
+    shelf: &mut H,
+    sink: &mut K,
+) -> Finish
+    requires cubes { AreCubes input.cubes.items }
+    requires few { length input.script.items ≤ MOST_STATEMENTS }
+    requires forms { AllByRecursion IsRunnable input.script.items }
+    ensures status { result.status ≡ status_of result.fault }
+    ensures same { H.told shelf.new ≡ H.told shelf.old }
+    ensures output { OutputRises result.fault (K.fault_count sink.old) (K.fault_count sink.new) }
+    ensures ended { ScriptEnds (record {
+      told = H.told shelf.old;
+      calls = H.call_list shelf.old;
+      new_calls = H.call_list shelf.new;
+      faults = H.fault_count shelf.old;
+      new_faults = H.fault_count shelf.new;
+      absences = H.absence_count shelf.old;
+      new_absences = H.absence_count shelf.new;
+    }) input.cubes.items input.script.items (K.taken sink.old) (K.taken sink.new)
+        result result.fault }
+{
+    match run_script(alloc, shelf, input.cubes, input.script) {
+        Ok(ran) => finish_run(alloc, sink, ran),
+        Err(_) => finish(alloc, Fault::NoMemory),
+    }
+}
+
+/// Reads the files of these names, runs the script over the cubes, and writes the text.
+fn run_read<H: Shelf, K: Sink>(
     alloc: Global,
     cubes: &str,
     script: &str,
@@ -91,31 +154,61 @@ fn finish_files<H: Shelf, K: Sink>(
     ensures status { result.status ≡ status_of result.fault }
     ensures not_words { result.fault ≢ Some Words }
     ensures same { H.told shelf.new ≡ H.told shelf.old }
-    ensures absences { AbsenceCounted result.fault
-        (H.absence_count shelf.old) (H.absence_count shelf.new) }
-    ensures faults { ReadFaultCounted result.fault
-        (H.fault_count shelf.old) (H.fault_count shelf.new) }
-    ensures output { OutputFaultCounted result.fault
-        (K.fault_count sink.old) (K.fault_count sink.new) }
-    ensures run { Runs (H.told shelf.old) (H.call_list shelf.old) (H.call_list shelf.new)
-        (K.taken sink.old) (K.taken sink.new) cubes.now script.now result.fault }
+    ensures output { OutputRises result.fault (K.fault_count sink.old) (K.fault_count sink.new) }
+    ensures run { Runs (record {
+      told = H.told shelf.old;
+      calls = H.call_list shelf.old;
+      new_calls = H.call_list shelf.new;
+      faults = H.fault_count shelf.old;
+      new_faults = H.fault_count shelf.new;
+      absences = H.absence_count shelf.old;
+      new_absences = H.absence_count shelf.new;
+    }) (K.taken sink.old) (K.taken sink.new) cubes.now script.now result }
+{
+    match read_input(alloc, shelf, cubes, script) {
+        Ok(input) => run_input(alloc, input, shelf, sink),
+        Err(fault) => finish(alloc, fault),
+    }
+}
+
+/// The same, and that files which are as they have to be are run.
+fn run_files<H: Shelf, K: Sink>(
+    alloc: Global,
+    cubes: &str,
+    script: &str,
+    shelf: &mut H,
+    sink: &mut K,
+) -> Finish
+    ensures status { result.status ≡ status_of result.fault }
+    ensures not_words { result.fault ≢ Some Words }
+    ensures same { H.told shelf.new ≡ H.told shelf.old }
+    ensures output { OutputRises result.fault (K.fault_count sink.old) (K.fault_count sink.new) }
+    ensures run { Runs (record {
+      told = H.told shelf.old;
+      calls = H.call_list shelf.old;
+      new_calls = H.call_list shelf.new;
+      faults = H.fault_count shelf.old;
+      new_faults = H.fault_count shelf.new;
+      absences = H.absence_count shelf.old;
+      new_absences = H.absence_count shelf.new;
+    }) (K.taken sink.old) (K.taken sink.new) cubes.now script.now result }
     ensures served { IsReady (H.told shelf.old) cubes.now script.now →
         (Rose (H.fault_count shelf.old) (H.fault_count shelf.new) → ⊥) →
         (Rose (K.fault_count sink.old) (K.fault_count sink.new) → ⊥) → IsServed result.status }
 {
-    a_text_declares_or_has_one_fault();
+    files_decide_their_end();
     a_script_has_statements_or_one_fault();
-    a_text_spells_or_has_one_fault();
-    finish(run_files(alloc, cubes, script, shelf, sink))
+    a_script_asks_for_a_watch_or_runs();
+    run_read(alloc, cubes, script, shelf, sink)
 }
 
-/// Runs a program by its words, `CUBES SCRIPT`: the names of a cubes file and of a script. It reads both
-/// through the shelf, runs the statements of the script one after the other, and writes the text to the
-/// sink.
+/// Runs a program by its words, `CUBES SCRIPT`: the names of a cubes file and of a script. It reads both through the shelf,
+/// executes the statements of the script one after the other as one session, whose LOADs read from the shelf as well, and
+/// writes the text to the sink: the replies, the journal and the last counters.
 ///
-/// The status and the fault of the answer belong together ([`Fault`]). Without a fault the sink gained the
-/// whole text; after an output fault it gained a prefix of it, and after every other fault nothing. Want of
-/// memory may be answered at any time.
+/// The status and the fault of the answer belong together ([`Fault`]). Without a fault the sink gained the whole text; after
+/// an output fault it gained a prefix of it, and after every other fault nothing. Want of memory may be answered at any
+/// time.
 pub fn run<H: Shelf, K: Sink>(
     alloc: Global,
     words: &[String],
@@ -125,22 +218,24 @@ pub fn run<H: Shelf, K: Sink>(
     ensures status { result.status ≡ status_of result.fault }
     ensures words { result.fault ≡ Some Words ↔ length words.now ≢ 2 }
 
-    // What the two files gave, and how the run ended on it.
+    // What the two files gave, how the run ended on it, and what it wrote.
     ensures run { (cubes_name script_name : List ℕ) →
         map string_bytes words.now ≡ cubes_name ∷ script_name ∷ [] →
-        Runs (H.told shelf.old) (H.call_list shelf.old) (H.call_list shelf.new)
-        (K.taken sink.old) (K.taken sink.new) cubes_name script_name result.fault }
+        Runs (record {
+          told = H.told shelf.old;
+          calls = H.call_list shelf.old;
+          new_calls = H.call_list shelf.new;
+          faults = H.fault_count shelf.old;
+          new_faults = H.fault_count shelf.new;
+          absences = H.absence_count shelf.old;
+          new_absences = H.absence_count shelf.new;
+        }) (K.taken sink.old) (K.taken sink.new) cubes_name script_name result }
     ensures silent { length words.now ≢ 2 → K.taken sink.new ≡ K.taken sink.old }
     ensures unasked { length words.now ≢ 2 → H.call_list shelf.new ≡ H.call_list shelf.old }
+    ensures quiet { length words.now ≢ 2 → H.fault_count shelf.new ≡ H.fault_count shelf.old }
+    ensures none_absent { length words.now ≢ 2 → H.absence_count shelf.new ≡ H.absence_count shelf.old }
     ensures same { H.told shelf.new ≡ H.told shelf.old }
-
-    // Faults of the outside come exactly where it counted them.
-    ensures absences { AbsenceCounted result.fault
-        (H.absence_count shelf.old) (H.absence_count shelf.new) }
-    ensures faults { ReadFaultCounted result.fault
-        (H.fault_count shelf.old) (H.fault_count shelf.new) }
-    ensures output { OutputFaultCounted result.fault
-        (K.fault_count sink.old) (K.fault_count sink.new) }
+    ensures output { OutputRises result.fault (K.fault_count sink.old) (K.fault_count sink.new) }
 
     // Files that are as they have to be are run, unless the outside counted a fault or memory ran out.
     ensures served { (cubes_name script_name : List ℕ) →
@@ -150,7 +245,7 @@ pub fn run<H: Shelf, K: Sink>(
         (Rose (K.fault_count sink.old) (K.fault_count sink.new) → ⊥) → IsServed result.status }
 {
     if words.len() != 2 {
-        return finish(Some(Fault::Words));
+        return finish(alloc, Fault::Words);
     }
-    finish_files(alloc, words[0].as_str(), words[1].as_str(), shelf, sink)
+    run_files(alloc, words[0].as_str(), words[1].as_str(), shelf, sink)
 }

@@ -13,7 +13,7 @@ use Rattle.cube_run.specs.RunRecords.{RunRecord, Sentence, catalog_of, cubes_at,
 use Rattle.cube_run.specs.SessionSteps.{belongs_to, session_part}
 use Rattle.played_scripts.specs.PlayedRuns.{AreNumbered}
 use Rattle.one_session.specs.Behind.{cubes_behind, run_so_far}
-use Rattle.one_session.specs.Pasts.{Beginning, GoesOn, IsInTurn, IsOwned, SessionPast, has_one_owner, last_number}
+use Rattle.one_session.specs.Pasts.{Beginning, GoesOn, IsInTurn, IsOneMore, IsOwned, SessionPast, has_one_owner, last_number}
 use Rattle.one_session.proofs.Entries.{lower_first}
 
 front_at : {X : Type 0} (front back : List X) (n : ℕ) → n < length front
@@ -73,24 +73,44 @@ all_behind last (e ∷ journal) h owned =
     )
     at false h owned rest = unowned last e journal (is_none (session_of e)) refl owned (rest h)
 
-made_same : (beginning : Beginning) (past : SessionPast) (run : RunRecord) → GoesOn beginning past run
-    → (journal : List JournalEntry) → AllByRecursion (IsBehind (last_number past)) journal
-    → filter_map (made_by run) journal ≡ filter_map (made_by (run_so_far beginning past)) journal
-made_same beginning past run g [] h = refl
-made_same beginning past run g (entry.Cube session statement epoch ∷ journal) h =
-    let said : statement_at run session statement ≡ statement_at (run_so_far beginning past) session statement =
+-- The cubes that entries of the first statements make hang on these statements alone.
+made_same : (front rest : List Sentence) (run less : RunRecord) → run.scripts ≡ (front ++ rest) ∷ []
+    → less.scripts ≡ front ∷ [] → (journal : List JournalEntry) → AllByRecursion (IsBehind (length front)) journal
+    → filter_map (made_by run) journal ≡ filter_map (made_by less) journal
+made_same front rest run less more few [] h = refl
+made_same front rest run less more few (entry.Cube session statement epoch ∷ journal) h =
+    let said : statement_at run session statement ≡ statement_at less session statement =
     ap (λ (scripts : List (List Sentence)). option_and_then statement_said
-    (slice_get (unwrap_or (slice_get scripts (session - 1)) []) (statement - 1))) g.script
-    ∙ statement_same past.sentences g.rest (session - 1) statement h.0.0 h.0.1
+    (slice_get (unwrap_or (slice_get scripts (session - 1)) []) (statement - 1))) more
+    ∙ statement_same front rest (session - 1) statement h.0.0 h.0.1
+    ∙ ap (λ (scripts : List (List Sentence)). option_and_then statement_said
+    (slice_get (unwrap_or (slice_get scripts (session - 1)) []) (statement - 1))) (sym few)
     in
-    (λ i. cons_option (option_and_then declaration_in (said i)) (made_same beginning past run g journal h.1 i))
-made_same beginning past run g (e ∷ journal) h = made_same beginning past run g journal h.1
+    (λ i. cons_option (option_and_then declaration_in (said i)) (made_same front rest run less more few journal h.1 i))
+made_same front rest run less more few (e ∷ journal) h = made_same front rest run less more few journal h.1
 
 pub cubes_stay : (beginning : Beginning) (past : SessionPast) (run : RunRecord) → GoesOn beginning past run
     → IsInTurn past → IsOwned past → cubes_at run past.journal ≡ cubes_behind beginning past
 cubes_stay beginning past run g turn owned =
     (λ i. g.cubes i
-    ++ made_same beginning past run g past.journal (all_behind (last_number past) past.journal turn owned) i)
+    ++ made_same past.sentences g.rest run (run_so_far beginning past) g.script refl past.journal
+    (all_behind (last_number past) past.journal turn owned) i)
+
+-- With one statement more, the cubes that there are are those of before, and what it makes.
+pub cubes_behind_more : (beginning : Beginning) (past after : SessionPast) (sentence : Sentence)
+    (added : List JournalEntry) → IsInTurn past → IsOwned past → IsOneMore past after sentence added
+    → cubes_behind beginning after
+    ≡ cubes_behind beginning past ++ filter_map (made_by (run_so_far beginning after)) added
+cubes_behind_more beginning past after sentence added turn owned more =
+    let run = run_so_far beginning after in
+    ap (cubes_at run) more.journal
+    ∙ ap (λ (made : List Decl). run.cubes ++ made) (filter_map-append (made_by run) past.journal added)
+    ∙ ap (λ (made : List Decl). run.cubes ++ (made ++ filter_map (made_by run) added))
+    (made_same past.sentences (sentence ∷ []) run (run_so_far beginning past)
+    (ap (λ (script : List Sentence). script ∷ []) more.sentences) refl past.journal
+    (all_behind (last_number past) past.journal turn owned))
+    ∙ sym (append_assoc run.cubes (filter_map (made_by (run_so_far beginning past)) past.journal)
+    (filter_map (made_by run) added))
 
 pub some_front : {X : Type 0} (front back : List X) (n : ℕ) (x : X) → slice_get front n ≡ Some x
     → slice_get (front ++ back) n ≡ Some x

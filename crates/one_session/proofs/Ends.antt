@@ -15,7 +15,7 @@ use Rattle.played_scripts.proofs.Numbered.{all_of_one}
 use Rattle.one_session.specs.Pasts.{Beginning, GoesOn, IsInTurn, SessionPast, last_number}
 use Rattle.one_session.proofs.Entries.{entries_of_both, none_later, numbered_more}
 
-end_numbered : (j : ℕ) (mode : Mode) (watch : Option KeptWatch) → AreNumbered j j (script_end 1 j mode watch)
+pub end_numbered : (j : ℕ) (mode : Mode) (watch : Option KeptWatch) → AreNumbered j j (script_end 1 j mode watch)
 end_numbered j Idle None = tt
 end_numbered j Idle (Some kept) = (omega arith, omega arith, tt)
 end_numbered j (Open writer) None = (omega arith, omega arith, tt)

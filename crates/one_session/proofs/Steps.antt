@@ -36,7 +36,7 @@ same_step beginning before after state sentence added run turn m g =
       entries = entries i;
     })
 
-there : {X : Type 0} (front : List X) (x : X) (back : List X) → slice_get (front ++ x ∷ back) (length front) ≡ Some x
+pub there : {X : Type 0} (front : List X) (x : X) (back : List X) → slice_get (front ++ x ∷ back) (length front) ≡ Some x
 there [] x back = refl
 there (y ∷ front) x back = there front x back
 

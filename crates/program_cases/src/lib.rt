@@ -7,4 +7,6 @@ mod disks;
 #[cfg(test)]
 mod files;
 #[cfg(test)]
+mod rows;
+#[cfg(test)]
 mod runs;

@@ -5,7 +5,10 @@ use outside::{ShelfMemory, SinkMemory};
 use std::alloc::{AllocError, Global};
 use std::test::Fail;
 
-const CUBES: &[u8] = b"cube t\ndim x int 5 2\nmetric m\n";
+pub(crate) const CUBES: &[u8] = b"cube t\ndim x int 5 2\nmetric m\n";
+
+pub(crate) const VISITS: &[u8] =
+    b"cube visits\ndim region text 4 2\ndim gender text 4 1\nmetric likes\nmetric comments\n";
 
 const SCRIPT: &[u8] =
     b"INSERT INTO t VALUES (4,7); INSERT INTO t VALUES (0,-2); SELECT SUM(m) FROM t;";
@@ -18,11 +21,12 @@ fn strings(alloc: Global, texts: &[&str]) -> Result<Vec<String>, AllocError> {
     Ok(strings)
 }
 
-// A shelf with the cubes file c and the script s.
+// A shelf with the cubes file c, the script s and the file f.
 fn shelf(
     alloc: Global,
     cubes: &[u8],
     script: &[u8],
+    file: &[u8],
     failing: &[u64],
 ) -> Result<ShelfMemory, AllocError> {
     let mut files = Vec::new(alloc);
@@ -33,6 +37,10 @@ fn shelf(
     files.push((
         String::from_str(alloc, "s")?,
         Vec::from_slice(alloc, script)?,
+    ))?;
+    files.push((
+        String::from_str(alloc, "f")?,
+        Vec::from_slice(alloc, file)?,
     ))?;
     Ok(ShelfMemory::new(files, Vec::from_slice(alloc, failing)?))
 }
@@ -53,107 +61,38 @@ fn outcome(
     Ok((finish.status, text))
 }
 
-#[test]
-fn scripts_are_answered(rt: HostRuntime) -> Result<(), Fail> {
-    let alloc = rt.alloc();
-    let two: &[u8] =
-        b"# two cubes\r\ncube t\r\nmetric m\r\ndim x int 05 2\r\n\ncube u\nmetric m\nmetric n\ncube v\ndim name text 4 1\nmetric m";
-    let none: &[u8] = b"";
-    for (cubes, script, wanted) in [
-        (CUBES, none, "session 1\nend ec 1 lce 0 lse 0\n"),
-        (
-            none,
-            b" \t\r\n;; -- ;\n;",
-            "session 1\nend ec 1 lce 0 lse 0\n",
-        ),
-        (
-            CUBES,
-            SCRIPT,
-            "session 1\n1.1 stored 1 epoch 1\n1.2 stored 1 epoch 2\n1.3 rows 1 epoch 2\n5\nend ec 3 lce 2 lse 0\n",
-        ),
-        (
-            CUBES,
-            b"SELECT SUM(m) FROM t;",
-            "session 1\n1.1 rows 1 epoch 0\nNULL\nend ec 1 lce 0 lse 0\n",
-        ),
-        (
-            CUBES,
-            b"insert into t values(4,7);select sum(m)from t;insert into t values(4,-8);SELECT SUM(m) FROM t -- all",
-            "session 1\n1.1 stored 1 epoch 1\n1.2 rows 1 epoch 1\n7\n1.3 stored 1 epoch 2\n1.4 rows 1 epoch 2\n-1\nend ec 3 lce 2 lse 0\n",
-        ),
-        (
-            CUBES,
-            b"INSERT INTO t VALUES (0,9223372036854775807);INSERT INTO t VALUES (1,9223372036854775807);INSERT INTO t VALUES (2,9223372036854775807);SELECT SUM(m) FROM t;",
-            "session 1\n1.1 stored 1 epoch 1\n1.2 stored 1 epoch 2\n1.3 stored 1 epoch 3\n1.4 rows 1 epoch 3\n27670116110564327421\nend ec 4 lce 3 lse 0\n",
-        ),
-        // Refused statements take no epoch, and the session goes on.
-        (
-            CUBES,
-            b"INSERT INTO t VALUES (4,7); SELECT FROM t; 'a;b'; x; INSERT INTO t VALUES (1,1) #; SELECT SUM(m) FROM t; 'c;",
-            "session 1\n1.1 stored 1 epoch 1\n1.2 refused 1 Syntax at 7\n1.3 refused 1 Syntax at 0\n1.4 refused 1 Syntax at 0\n1.5 refused 1 Syntax at 27\n1.6 rows 1 epoch 1\n7\n1.7 refused 1 Syntax at 0\nend ec 2 lce 1 lse 0\n",
-        ),
-        // Several cubes, each with its own rows.
-        (
-            two,
-            b"INSERT INTO u VALUES (1,10); INSERT INTO t VALUES (4,3); SELECT SUM(n) FROM u; SELECT SUM(m) FROM t; SELECT SUM(m) FROM u",
-            "session 1\n1.1 stored 1 epoch 1\n1.2 stored 1 epoch 2\n1.3 rows 1 epoch 2\n10\n1.4 rows 1 epoch 2\n3\n1.5 rows 1 epoch 2\n1\nend ec 3 lce 2 lse 0\n",
-        ),
-    ] {
-        let mut shelf = shelf(alloc, cubes, script, &[])?;
-        let mut sink = SinkMemory::new(alloc, 1000, Vec::new(alloc))?;
-        let (status, fault) = outcome(alloc, &["c", "s"], &mut shelf, &mut sink)?;
-        assert_eq!(rt; status, 0, "{wanted}{fault}");
-        assert_eq!(rt; sink.taken(), wanted.as_bytes(), "{wanted}");
-    }
-    Ok(())
+// The status of a run over these cubes, this script and these bytes of the file f, the text of its fault, and what it
+// wrote.
+pub(crate) fn run_of(
+    alloc: Global,
+    cubes: &[u8],
+    script: &[u8],
+    file: &[u8],
+    failing: &[u64],
+) -> Result<(u8, String, Vec<u8>), AllocError> {
+    let mut shelf = shelf(alloc, cubes, script, file, failing)?;
+    let mut sink = SinkMemory::new(alloc, 10_000, Vec::new(alloc))?;
+    let (status, fault) = outcome(alloc, &["c", "s"], &mut shelf, &mut sink)?;
+    Ok((status, fault, Vec::from_slice(alloc, sink.taken())?))
 }
 
 #[test]
 fn what_is_not_built_is_said(rt: HostRuntime) -> Result<(), Fail> {
     let alloc = rt.alloc();
-    let named: &[u8] = b"cube v\ndim name text 4 1\nmetric m\n";
-    let one: &[u8] = b"INSERT INTO t VALUES (5,1)";
-    for (cubes, script) in [
-        (CUBES, one),
-        (CUBES, b"INSERT INTO t VALUES (-1,1)"),
-        (CUBES, b"INSERT INTO t VALUES (1)"),
-        (CUBES, b"INSERT INTO t VALUES (1,1,1)"),
-        (CUBES, b"INSERT INTO t VALUES (1,'1')"),
-        (CUBES, b"INSERT INTO t VALUES (1,1), (2,2)"),
-        (CUBES, b"INSERT INTO u VALUES (1,1)"),
-        (CUBES, b"SELECT SUM(x) FROM t"),
-        (CUBES, b"SELECT SUM(m) FROM u"),
-        (CUBES, b"SELECT COUNT(*) FROM t"),
-        (CUBES, b"SELECT SUM(m), SUM(m) FROM t"),
-        (CUBES, b"SELECT SUM(m) FROM t WHERE x = 1"),
-        (CUBES, b"SELECT SUM(m) FROM t GROUP BY x"),
-        (CUBES, b"LOAD t FROM 'f' REJECT 0"),
-        (CUBES, b"DELETE FROM t"),
-        (CUBES, b"SELECT SUM(m) FROM t; BEGIN"),
-        (CUBES, b"COMMIT"),
-        (CUBES, b"ROLLBACK"),
-        (CUBES, b"FLUSH"),
-        (CUBES, b"PURGE"),
-        (CUBES, b"SHOW EPOCHS; x"),
-        (named, b"INSERT INTO v VALUES ('a',1)"),
-        (named, b"SELECT SUM(m) FROM v"),
-    ] {
-        let mut shelf = shelf(alloc, cubes, script, &[])?;
-        let mut sink = SinkMemory::new(alloc, 1000, Vec::new(alloc))?;
-        let (status, fault) = outcome(alloc, &["c", "s"], &mut shelf, &mut sink)?;
+    let watch: &[u8] = b"SELECT SUM(m) FROM t; WATCH SELECT SUM(m) FROM t";
+    for script in [watch, b"SHOW WATCH"] {
+        let (status, fault, text) = run_of(alloc, CUBES, script, b"", &[])?;
         assert_eq!(rt; status, 4, "{fault}");
         assert_eq!(rt; fault.as_str(), "not built: script");
-        assert!(rt; sink.taken().is_empty());
+        assert!(rt; text.is_empty());
     }
     Ok(())
 }
 
 // How a run over this cubes file and this script ends, and whether it wrote nothing.
 fn refusal(alloc: Global, cubes: &[u8], script: &[u8]) -> Result<(u8, String, bool), AllocError> {
-    let mut shelf = shelf(alloc, cubes, script, &[])?;
-    let mut sink = SinkMemory::new(alloc, 1000, Vec::new(alloc))?;
-    let (status, fault) = outcome(alloc, &["c", "s"], &mut shelf, &mut sink)?;
-    Ok((status, fault, sink.taken().is_empty()))
+    let (status, fault, text) = run_of(alloc, cubes, script, b"", &[])?;
+    Ok((status, fault, text.is_empty()))
 }
 
 const BROKEN: &[u8] = b"a\xff";
@@ -225,7 +164,7 @@ fn scripts_that_are_refused(rt: HostRuntime) -> Result<(), Fail> {
     for (cubes, script, wanted) in [
         (CUBES, BROKEN, "script 1: NotUtf8 1"),
         (CUBES, b"FLUSH; \xc3", "script 1: NotUtf8 7"),
-        (none, b"FLUSH", "not built: script"),
+        (none, b"SHOW WATCH; x", "not built: script"),
     ] {
         let (status, fault, silent) = refusal(rt.alloc(), cubes, script)?;
         assert_eq!(rt; status, 4);
@@ -244,7 +183,7 @@ fn outcome_of_sizes(
 ) -> Result<(u8, String), AllocError> {
     let cubes = vec![in alloc; b'#'; cubes]?;
     let script = vec![in alloc; byte; script]?;
-    let mut shelf = shelf(alloc, cubes.as_slice(), script.as_slice(), &[])?;
+    let mut shelf = shelf(alloc, cubes.as_slice(), script.as_slice(), b"", &[])?;
     let mut sink = SinkMemory::new(alloc, 100, Vec::new(alloc))?;
     outcome(alloc, &["c", "s"], &mut shelf, &mut sink)
 }
@@ -272,7 +211,7 @@ fn more_statements_than_are_allowed(rt: HostRuntime) -> Result<(), Fail> {
     for _ in 0..65_537 {
         script.extend_from_slice(b"x;")?;
     }
-    let mut shelf = shelf(alloc, CUBES, script.as_slice(), &[])?;
+    let mut shelf = shelf(alloc, CUBES, script.as_slice(), b"", &[])?;
     let mut sink = SinkMemory::new(alloc, 100, Vec::new(alloc))?;
     let (status, fault) = outcome(alloc, &["c", "s"], &mut shelf, &mut sink)?;
     assert_eq!(rt; status, 4);
@@ -287,7 +226,7 @@ fn faults_of_words_files_and_output(rt: HostRuntime) -> Result<(), Fail> {
     let first: &[u64] = &[0];
     let third: &[u64] = &[2];
     let text =
-        "session 1\n1.1 stored 1 epoch 1\n1.2 stored 1 epoch 2\n1.3 rows 1 epoch 2\n5\nend ec 3 lce 2 lse 0\n";
+        "session 1\n1.1 stored 1 epoch 1\n1.2 stored 1 epoch 2\n1.3 rows 1 epoch 2\n5\njournal 8\nbegin 1.1 epoch 1 deps []\ncommitted 1.1 epoch 1\nbegin 1.2 epoch 2 deps []\ncommitted 1.2 epoch 2\nread 1.3 epoch 2\nreadend 1.3\nround 2\nsafe 2\nend ec 3 lce 2 lse 2\n";
     let two: &[&str] = &["c", "s"];
     for (place, (words, failing, room, sink_failing, status, wanted, gained)) in [
         (
@@ -321,7 +260,7 @@ fn faults_of_words_files_and_output(rt: HostRuntime) -> Result<(), Fail> {
     .into_iter()
     .enumerate()
     {
-        let mut shelf = shelf(alloc, CUBES, SCRIPT, failing)?;
+        let mut shelf = shelf(alloc, CUBES, SCRIPT, b"", failing)?;
         let mut sink = SinkMemory::new(alloc, room, Vec::from_slice(alloc, sink_failing)?)?;
         let (found, fault) = outcome(alloc, words, &mut shelf, &mut sink)?;
         assert_eq!(rt; found, status, "case {place}");

@@ -10,8 +10,10 @@ mod parts;
 mod refusals;
 mod replies;
 mod tables;
+mod whole;
 
 pub use entries::{end_bytes, entry_bytes, put_end, put_entry, put_journal};
 pub use refusals::put_refusal;
 pub use replies::{put_head, put_numbered, put_reply, reply_bytes};
 pub use tables::put_table;
+pub use whole::{put_session, whole_bytes};

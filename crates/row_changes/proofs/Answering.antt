@@ -1,5 +1,5 @@
 -- What holds of an answer, by the ways in which the calls at the desk may end.
-use Rattle.std.proofs.Common.{◌≡◌, ◌∙◌, ℕ, ◌+◌, List, Some, refl, sym, ap, subst}
+use Rattle.std.proofs.Common.{◌≡◌, ◌∙◌, ℕ, ◌+◌, List, Option, None, Some, refl, sym, ap, subst}
 use Rattle.std.proofs.lemmas.Option.{same_Some}
 use Rattle.cube_values.specs.declared.snapshot.Snapshot.{Snapshot}
 use Rattle.cube_language.specs.declared.statement.Statement.{Statement}
@@ -18,16 +18,20 @@ use Rattle.session_desk.specs.declared.session.Session.{Session}
 use Rattle.session_desk.specs.AtDesk.{IsAtDesk}
 use Rattle.session_desk.specs.Entries.{HasRefusal}
 use Rattle.session_desk.specs.Executed.{ExecutesAtDesk, IfReplied}
-use Rattle.session_desk.specs.Moves.{epoch_in}
+use Rattle.session_desk.specs.FileReplies.{SpeaksOfNoFile}
+use Rattle.session_desk.specs.Moves.{epoch_open_in}
+use Rattle.session_desk.proofs.Moving.{moves_refused}
 use Rattle.session_desk.proofs.Replying.{counted}
 use Rattle.session_rows.specs.CubesAtDesk.{AreWholeCubes, ExecutesOnRows, IsAtCubes, row_world}
-use Rattle.session_rows.specs.RowsExecuted.{HasExecutedOnRows, IsChanged, IsChangedAndKept, OfEachCube}
+use Rattle.session_rows.specs.RowsExecuted.{HasExecutedOnRows, HasChange, IsChangedAndKept, OfEachCube}
 use Rattle.session_rows.specs.declared.cubes.Cubes.{Cubes}
 use Rattle.session_rows.proofs.DeskOnRows.{desk_stays}
 use Rattle.row_entries.specs.CountedSessions.{HasOneMore}
 use Rattle.row_entries.specs.RowCalls.{NotesRefusal}
 use Rattle.row_entries.proofs.Executing.{memory_on_rows}
-use Rattle.row_entries.proofs.Lone.{leaves_refusal}
+use Rattle.row_entries.proofs.Lone.{leaves_refusal, open_stays}
+use Rattle.row_changes.specs.AnswersGiven.{stored_answer}
+use Rattle.row_changes.specs.DropForms.{dropped_answer}
 use Rattle.row_changes.specs.ChangedCubes.{ExecutesWithNames, HaveChanged, HaveChangedAndKept, HaveGained}
 
 -- ---- the desk
@@ -67,10 +71,11 @@ pub unbound_executes : (s : Statement) (result : Answered) (desk : DeskState) (s
     → IfReplied result (λ said. HasRefusal now.statements desk new_desk)
     → IfReplied result (ExecutesOnRows (Says s) desk session cubes new_desk now cubes)
 unbound_executes s (Replied said) desk session new_desk now cubes at is executed refused =
-    let left = leaves_refusal refused.code (Says s) desk session new_desk now at.desk_is
-    (record { noted = refused.desk_is; counted = one_more session now is }) in
+    let one = one_more session now is in
+    let moves = moves_refused now.statements refused.code desk new_desk refused.desk_is in
     desk_stays (Says s) desk session cubes new_desk now said
-    (record { at = at; executed = executed; moves = left.left.moves }) left.left.cubes left.turns
+    (record { at = at; executed = executed; moves = moves }) (ap (λ (d : DeskState). d.cubes) refused.desk_is)
+    (open_stays desk session now one.mode_is)
 unbound_executes s Stopped desk session new_desk now cubes at is executed refused = tt
 
 pub memory_executes : (s : Statement) (result : Answered) (desk : DeskState) (session : Session)
@@ -84,7 +89,7 @@ memory_executes s (Replied said) desk session new_desk now cubes at is noted = �
       (row_world new_desk now cubes coded) r) (sym is)
       (memory_on_rows (Says s) beginning past Missing (row_world desk session before coded)
       (row_world new_desk now cubes coded) h
-      (leaves_refusal 16 (Says s) desk session new_desk now at.desk_is noted)
+      (leaves_refusal 16 (Says s) desk session new_desk now refl at.desk_is noted)
       (record { coded = refl; names = g.come; held = g.held })),
 )
 memory_executes s Stopped desk session new_desk now cubes at is noted = tt
@@ -100,7 +105,7 @@ gained_kept c before cubes now g k = λ q. record {
 }
 
 pub gained_changed : (c : ChangeAt) (before cubes now : Cubes) → HaveGained before cubes → HaveChanged c cubes now
-    → OfEachCube (λ q. IsChanged q c) before.rows now.rows
+    → OfEachCube (λ q. HasChange q c) before.rows now.rows
 gained_changed c before cubes now g k = λ q. record {
   before = (k.held q).before ∙ (g.held q).before;
   now = (k.held q).now ∙ ap (λ (rows : List CodedRow). rows_with_change q rows c) (g.held q).now;
@@ -112,8 +117,18 @@ pub record HasWriter (mode : Mode) (epoch : ℕ) : Type 0 where
   pub mode_is : mode ≡ Open writer
   pub epoch_is : epoch ≡ writer.epoch
 
-pub writer_in : (mode : Mode) (epoch : ℕ) → epoch_in mode ≡ Some epoch → HasWriter mode epoch
+pub writer_in : (mode : Mode) (epoch : ℕ) → epoch_open_in mode ≡ Some epoch → HasWriter mode epoch
 writer_in Idle epoch is = absurd cc
 writer_in (Open writer) epoch is =
     record { writer = writer; mode_is = refl; epoch_is = same_Some epoch writer.epoch (sym is) }
 writer_in (Aborted was) epoch is = absurd cc
+
+-- ---- replies
+
+pub stored_speaks : (rows : ℕ) (committed : Option ℕ) → IfReplied (stored_answer rows committed) SpeaksOfNoFile
+stored_speaks rows (Some epoch) = tt
+stored_speaks rows None = tt
+
+pub dropped_speaks : (committed : Option ℕ) → IfReplied (dropped_answer committed) SpeaksOfNoFile
+dropped_speaks (Some epoch) = tt
+dropped_speaks None = tt

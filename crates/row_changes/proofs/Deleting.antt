@@ -23,7 +23,7 @@ use Rattle.aosi_register.specs.State.{state_of}
 use Rattle.aosi_desk.specs.Desks.{DeskState}
 use Rattle.query_plan.specs.Ties.{TakesRegion}
 use Rattle.query_plan.proofs.Plans.{IsDelete}
-use Rattle.row_encoding.specs.CodedTexts.{AreNames}
+use Rattle.row_encoding.specs.CodedTexts.{AreNames, HavePlaces}
 use Rattle.row_encoding.specs.DictsAsEncoder.{IsDictionaryOf, Suit}
 use Rattle.session_replies.specs.RowEntries.{own_commit}
 use Rattle.session_replies.specs.RowSteps.{FitsItsCube, IsOnCube}
@@ -35,10 +35,10 @@ use Rattle.session_desk.specs.declared.session.Session.{Session}
 use Rattle.session_rows.specs.Coded.{CodedOperation, done_operations}
 use Rattle.session_rows.specs.CubesAtDesk.{AreItsNames, ExecutesOnRows, IsAtCubes, row_world}
 use Rattle.session_rows.specs.RowsBehind.{world_of}
-use Rattle.session_rows.specs.RowsExecuted.{IsChanged, IsChangedAndKept, IsNewChange, OfEachCube}
+use Rattle.session_rows.specs.RowsExecuted.{HasChange, IsChangedAndKept, IsNewChange, OfEachCube}
 use Rattle.session_rows.specs.declared.cubes.Cubes.{Cubes}
 use Rattle.row_entries.specs.EntryGroups.{LeavesCommit, LeavesNothing, commit_entries}
-use Rattle.row_entries.specs.LeftEntries.{row_step}
+use Rattle.row_entries.specs.LeftEntries.{step_on_rows}
 use Rattle.row_entries.proofs.Executing.{changes_alone_on_rows, changes_inside_on_rows}
 use Rattle.row_changes.specs.DropForms.{IsDropSpanAt}
 use Rattle.row_changes.proofs.CutNames.{cut_at, lists_cut, may_cut, names_cut, region_cut}
@@ -92,18 +92,27 @@ new_drop beginning desk session cubes coded number epoch s place conds span cond
     record {
       decl = d;
       cube_is = is;
-      stands = λ past run h g. record {
-        decl = d;
-        cube_is = is;
-        stands = (
-          subst (λ (cs : List Cond). TakesRegion d (lists_at run.names place) (resolved_region d cs) span) conds_are
-              (takes_in_run cubes s place span run e at.whole.names
-              (ends_there beginning past (world_of (row_world desk session cubes coded)) run cubes.names place d h g
-              (subst (λ (ds : List Decl). AreItsNames ds cubes.names) at.schemas at.whole.names)
-              (subst (λ (lists : List (List (List (List ℕ)))). EndsWithMore run lists) h.names g.names) is)),
-          refl,
-        );
-      };
+      stands = λ past run h g.
+          let ends =
+          ends_there beginning past (world_of (row_world desk session cubes coded)) run cubes.names place d h g
+          (subst (λ (ds : List Decl). AreItsNames ds cubes.names) at.schemas at.whole.names)
+          (subst (λ (lists : List (List (List (List ℕ)))). EndsWithMore run lists) h.names g.names) is
+          in
+          record {
+            stands = record {
+              decl = d;
+              cube_is = is;
+              stands = (
+                subst (λ (cs : List Cond). TakesRegion d (lists_at run.names place) (resolved_region d cs) span)
+                    conds_are (takes_in_run cubes s place span run e at.whole.names ends),
+                refl,
+              );
+            };
+            places =
+                subst (λ (cs : List Cond).
+                HavePlaces d.dims (lists_at run.names place) (resolved_region d cs).conditions) conds_are
+                (e.places run.names ends.may);
+          };
     }
 
 pub delete_alone_executes : (s : Statement) (desk : DeskState) (session : Session) (new_desk : DeskState)
@@ -120,7 +129,7 @@ delete_alone_executes s desk session new_desk now before cubes place span form a
     let d = e.decl in
     let added = commit_entries desk now left.round in
     let names = names_of cubes.names in
-    let step = row_step past session (Says s) Missing added names in
+    let step = step_on_rows past session (Says s) Missing added names in
     let number = length (past.sentences ++ Says s ∷ []) in
     let c = coded_delete number ec d form.conds place span in
     let own = subst (λ (x : Statement). IsStep step Idle (Says x)
@@ -157,14 +166,14 @@ pub delete_inside_executes : (s : Statement) (writer : Snapshot) (desk : DeskSta
     (new_desk : DeskState) (now : Session) (before cubes : Cubes) (place : ℕ) (span : Span) → IsDelete s
     → IsAtCubes new_desk now cubes → IsDropSpanAt cubes s place span
     → NamesOnlyCome (names_of before.names) (names_of cubes.names)
-    → OfEachCube (λ q. IsChanged q (record { cube = place; change = Go span })) before.rows cubes.rows
+    → OfEachCube (λ q. HasChange q (record { cube = place; change = Go span })) before.rows cubes.rows
     → LeavesNothing writer (Says s) desk session new_desk now
     → ExecutesOnRows (Says s) desk session before new_desk now cubes (reply.Dropped writer.epoch)
 delete_inside_executes s writer desk session new_desk now before cubes place span form at e come held left =
     λ beginning past coded h.
     let d = e.decl in
     let names = names_of cubes.names in
-    let step = row_step past session (Says s) Missing [] names in
+    let step = step_on_rows past session (Says s) Missing [] names in
     let number = length (past.sentences ++ Says s ∷ []) in
     let c = coded_delete number writer.epoch d form.conds place span in
     let own = subst (λ (x : Statement). IsStep step (Open writer) (Says x) []) form.is

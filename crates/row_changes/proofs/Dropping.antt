@@ -1,6 +1,6 @@
 -- A DELETE that is bound to a cube has its span there.
 use Rattle.std.proofs.Common.{◌≡◌, ◌∙◌, ℕ, Bool, true, false, not, List, [], ◌∷◌, map, Option, Some, None, refl, sym, ap, subst, if◌then◌else◌}
-use Rattle.std.specs.Prelude.{IfOk, Ok, Err, Result, filter_map, find, slice_get}
+use Rattle.std.specs.Prelude.{IfOk, OnOk, Ok, Err, Result, filter_map, find, slice_get}
 use Rattle.std.specs.List.{list_any}
 use Rattle.std.proofs.lemmas.Bool.{both_ways}
 use Rattle.std.proofs.lemmas.List.Elements.{All-cons, All-nil}
@@ -34,7 +34,7 @@ use Rattle.row_encoding.specs.FinalCodes.{dim_at}
 use Rattle.session_desk.proofs.NamedApart.{or_left, or_right}
 use Rattle.session_rows.proofs.NamesCome.{same_decl}
 use Rattle.session_rows.specs.declared.cubes.Cubes.{Cubes}
-use Rattle.row_changes.specs.DropForms.{AreDropCodes, IsDropSpanAt}
+use Rattle.row_changes.specs.DropForms.{AreDropCodes, HaveDropPlaces, HavePlacesThere, IsDropSpanAt}
 
 -- ---- kinds
 
@@ -93,9 +93,9 @@ plan_asks cubes s plan d p there =
 
 pub span_at : (cubes : Cubes) (s : Statement) (plan : DropPlan) (codes : List (Option ℕ)) (span : Span)
     → SpansTakeRegions → IsDropPlan cubes.schemas.items s plan
-    → AreDropCodes cubes.names plan.cube plan.conditions codes
+    → AreDropCodes cubes.names plan.cube plan.conditions codes → HavePlacesThere cubes plan.cube plan.conditions
     → IsDropSpan cubes.schemas.items plan codes span → IsDropSpanAt cubes s plan.cube span
-span_at cubes s plan codes span law p right made =
+span_at cubes s plan codes span law p right places made =
     let d = p.decl in
     let conditions = (resolved_region d (conds_of s)).conditions in
     let same = same_decl cubes.schemas.items plan.cube made.decl d made.cube_is p.bound.cube_is in
@@ -109,12 +109,26 @@ span_at cubes s plan codes span law p right made =
           (sym (right names may are ∙ ap (codes_in (lists_at names plan.cube)) p.conditions))
           (are_codes (lists_at names plan.cube) conditions))
           has;
+      places =
+          subst (λ (cs : List Condition). HaveDropPlaces d cubes.names plan.cube cs) p.conditions
+          (places d p.bound.cube_is);
     }
 
 pub if_span : {E : Type 0} (cubes : Cubes) (s : Statement) (plan : DropPlan) (codes : List (Option ℕ))
     (r : Result Span E)
     → SpansTakeRegions → IsDropPlan cubes.schemas.items s plan
-    → AreDropCodes cubes.names plan.cube plan.conditions codes
+    → AreDropCodes cubes.names plan.cube plan.conditions codes → HavePlacesThere cubes plan.cube plan.conditions
     → IfOk r (IsDropSpan cubes.schemas.items plan codes) → IfOk r (IsDropSpanAt cubes s plan.cube)
-if_span cubes s plan codes (Ok span) law p right made = span_at cubes s plan codes span law p right made
-if_span cubes s plan codes (Err e) law p right made = tt
+if_span cubes s plan codes (Ok span) law p right places made = span_at cubes s plan codes span law p right places made
+if_span cubes s plan codes (Err e) law p right places made = tt
+
+-- The texts have their places where the cube is the one that stands there.
+pub places_there : {T E : Type 0} (r : Result T E) (cubes now : Cubes) (place : ℕ) (d : Decl)
+    (conditions given : List Condition) → slice_get cubes.schemas.items place ≡ Some d → now.schemas ≡ cubes.schemas
+    → given ≡ conditions → OnOk r (HaveDropPlaces d now.names place given)
+    → OnOk r (HavePlacesThere now place conditions)
+places_there (Ok codes) cubes now place d conditions given is schemas same h = λ e there.
+    let decl = same_decl cubes.schemas.items place d e is
+    (ap (λ (ds : List Decl). slice_get ds place) (λ i. (sym schemas i).items) ∙ there) in
+    coe 0 1 (i. HaveDropPlaces (decl i) now.names place (same i)) h
+places_there (Err x) cubes now place d conditions given is schemas same h = tt

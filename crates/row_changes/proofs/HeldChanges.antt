@@ -12,8 +12,8 @@ use Rattle.names_dict.specs.Dictionaries.{names_of}
 use Rattle.condition_spans.specs.Codes.{lists_at}
 use Rattle.one_session.specs.Changes.{AllStandForValues, ChangeAt, CodedChange, Come, Go, rows_changed, rows_with_change}
 use Rattle.plain_rows.specs.HeldRows.{HeldRows, rows_at, span_lacks_row, with_more, with_rows_kept, without_span}
-use Rattle.session_rows.specs.CubesAtDesk.{AreNamed, AreWholeCubes}
-use Rattle.session_rows.specs.RowsExecuted.{IsChanged, StaysHeld}
+use Rattle.session_rows.specs.CubesAtDesk.{HasNamedRows, AreWholeCubes}
+use Rattle.session_rows.specs.RowsExecuted.{HasChange, StaysHeld}
 use Rattle.session_rows.specs.declared.cubes.Cubes.{Cubes}
 use Rattle.session_rows.proofs.CountedChanges.{equal_is, is_itself}
 use Rattle.session_rows.proofs.StillNamed.{all_both, all_left}
@@ -52,7 +52,7 @@ held_stays cubes place held x h l is widths same =
           (λ q other. record { dims = refl; width = refl }))
           (λ q d there.
           changed_at (λ p old new. slice_get cubes.schemas.items p ≡ Some d
-          → AreNamed d (lists_at (names_of cubes.names) p) new) cubes.rows place x within
+          → HasNamedRows d (lists_at (names_of cubes.names) p) new) cubes.rows place x within
           (λ is_d. record {
             before =
                 subst (λ (rows : List CodedRow). AllStandForValues d (lists_at (names_of cubes.names) place) rows)
@@ -136,7 +136,7 @@ changes cubes place change held x h l is widths before now named =
           (λ q other. record { dims = refl; width = refl }))
           (λ q d there.
           changed_at (λ p old new. slice_get cubes.schemas.items p ≡ Some d
-          → AreNamed d (lists_at (names_of cubes.names) p) new) cubes.rows place x within
+          → HasNamedRows d (lists_at (names_of cubes.names) p) new) cubes.rows place x within
           (λ is_d. record {
             before =
                 subst (λ (rows : List CodedRow). AllStandForValues d (lists_at (names_of cubes.names) place) rows)
@@ -149,7 +149,7 @@ changes cubes place change held x h l is widths before now named =
       schemas = refl;
       names = refl;
       held =
-          changed_at (λ q. IsChanged q (record { cube = place; change = change })) cubes.rows place x within
+          changed_at (λ q. HasChange q (record { cube = place; change = change })) cubes.rows place x within
           (record { before = before; now = now ∙ changed_here place change (rows_at cubes.rows place).now })
           (λ q other. record {
             before = refl;
@@ -201,7 +201,7 @@ kept c old mid held h is =
           })
           (λ q d there.
           let was = h.whole.named q d there in
-          subst (λ (x : HeldRows). AreNamed d (lists_at (names_of mid.names) q) x) (sym (kept_at mid.rows q))
+          subst (λ (x : HeldRows). HasNamedRows d (lists_at (names_of mid.names) q) x) (sym (kept_at mid.rows q))
           (record { before = was.now; now = was.now }));
       schemas = h.schemas;
       names = h.names;

@@ -35,7 +35,7 @@ use Rattle.session_rows.specs.declared.cubes.Cubes.{Cubes}
 use Rattle.session_rows.proofs.BoundCubes.{is_needed}
 use Rattle.session_rows.proofs.RunsEnd.{runs_end}
 use Rattle.session_rows.proofs.StillNamed.{at_place}
-use Rattle.row_entries.specs.LeftEntries.{row_step}
+use Rattle.row_entries.specs.LeftEntries.{step_on_rows}
 
 -- Texts that are distinct and not too long.
 pub record AreApart (texts : List (List ℕ)) : Type 0 where
@@ -92,7 +92,7 @@ pub meets_in_run : (beginning : Beginning) (past : SessionPast) (s : Statement) 
     → AddsEntries (Says s) added desk session new_desk now → AreWholeCubes cubes → cubes.schemas.items ≡ desk.cubes
     → NamesOnlyCome names (names_of cubes.names) → IsBoundTo cubes.schemas.items s place d
     → GoesOn beginning (past_with past (Says s) file added (names_of cubes.names)) run
-    → MeetsInRun run (row_step past session (Says s) file added (names_of cubes.names)) s d place cubes.names
+    → MeetsInRun run (step_on_rows past session (Says s) file added (names_of cubes.names)) s d place cubes.names
 meets_in_run beginning past s file added desk session new_desk now names done cubes place d run h adds whole same come
     bound g =
     let world : World = record { desk = desk; names = names; session = session; done = done } in

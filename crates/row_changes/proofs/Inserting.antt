@@ -44,11 +44,11 @@ use Rattle.session_desk.specs.declared.session.Session.{Session}
 use Rattle.session_rows.specs.Coded.{CodedOperation, done_operations}
 use Rattle.session_rows.specs.CubesAtDesk.{AreItsNames, AreWholeCubes, ExecutesOnRows, IsAtCubes, row_world}
 use Rattle.session_rows.specs.RowsBehind.{world_of}
-use Rattle.session_rows.specs.RowsExecuted.{IsChanged, IsChangedAndKept, IsNewChange, OfEachCube, StaysHeld}
+use Rattle.session_rows.specs.RowsExecuted.{HasChange, IsChangedAndKept, IsNewChange, OfEachCube, StaysHeld}
 use Rattle.session_rows.specs.declared.cubes.Cubes.{Cubes}
 use Rattle.session_rows.proofs.NamesCome.{suiting_numbers, suits_some}
 use Rattle.row_entries.specs.EntryGroups.{LeavesCommit, LeavesNothing, LeavesRefusal, commit_entries, refusal_entries}
-use Rattle.row_entries.specs.LeftEntries.{row_step}
+use Rattle.row_entries.specs.LeftEntries.{step_on_rows}
 use Rattle.row_entries.proofs.Executing.{changes_alone_on_rows, changes_inside_on_rows, refused_on_rows}
 use Rattle.row_changes.specs.AnswersGiven.{InsertsRows}
 use Rattle.row_changes.specs.EncodedForms.{AreEncodedAt, IsBatchFor}
@@ -160,13 +160,16 @@ new_change beginning desk session cubes coded number epoch place d given batch a
       decl = d;
       cube_is = is;
       stands = λ past run h g. record {
-        decl = d;
-        cube_is = is;
-        stands =
-            come_for d cubes.names place given batch run b
-            (ends_there beginning past (world_of (row_world desk session cubes coded)) run cubes.names place d h g
-            (subst (λ (ds : List Decl). AreItsNames ds cubes.names) at.schemas at.whole.names)
-            (subst (λ (lists : List (List (List (List ℕ)))). EndsWithMore run lists) h.names g.names) is);
+        stands = record {
+          decl = d;
+          cube_is = is;
+          stands =
+              come_for d cubes.names place given batch run b
+              (ends_there beginning past (world_of (row_world desk session cubes coded)) run cubes.names place d h g
+              (subst (λ (ds : List Decl). AreItsNames ds cubes.names) at.schemas at.whole.names)
+              (subst (λ (lists : List (List (List (List ℕ)))). EndsWithMore run lists) h.names g.names) is);
+        };
+        places = tt;
       };
     }
 
@@ -197,7 +200,7 @@ insert_alone_executes s desk session new_desk now before cubes place batch form 
     (ap inserted_rows form.is) e.codes in
     let added = commit_entries desk now left.round in
     let names = names_of cubes.names in
-    let step = row_step past session (Says s) Missing added names in
+    let step = step_on_rows past session (Says s) Missing added names in
     let c = coded_insert (length (past.sentences ++ Says s ∷ [])) ec d form.rows place batch.rows in
     let own = subst (λ (x : Statement). IsStep step Idle (Says x)
     (own_commit step ec deps (session_part 1 left.round))) form.is
@@ -234,7 +237,7 @@ pub insert_inside_executes : (s : Statement) (writer : Snapshot) (desk : DeskSta
     (new_desk : DeskState) (now : Session) (before cubes : Cubes) (place : ℕ) (batch : Batch) → (form : IsInsert s)
     → IsAtCubes new_desk now cubes → AreEncodedAt cubes s place (Rows batch)
     → NamesOnlyCome (names_of before.names) (names_of cubes.names)
-    → OfEachCube (λ q. IsChanged q (record { cube = place; change = Come batch.rows })) before.rows cubes.rows
+    → OfEachCube (λ q. HasChange q (record { cube = place; change = Come batch.rows })) before.rows cubes.rows
     → LeavesNothing writer (Says s) desk session new_desk now
     → ExecutesOnRows (Says s) desk session before new_desk now cubes
     (reply.Stored (length form.rows) writer.epoch)
@@ -244,7 +247,7 @@ insert_inside_executes s writer desk session new_desk now before cubes place bat
     let b = subst (λ (given : List (List Value)). IsBatchFor d cubes.names place given batch)
     (ap inserted_rows form.is) e.codes in
     let names = names_of cubes.names in
-    let step = row_step past session (Says s) Missing [] names in
+    let step = step_on_rows past session (Says s) Missing [] names in
     let c = coded_insert (length (past.sentences ++ Says s ∷ [])) writer.epoch d form.rows place batch.rows in
     let own = subst (λ (x : Statement). IsStep step (Open writer) (Says x) []) form.is
     (left.left.own beginning past (names_of before.names) names (done_operations coded) Missing h.stands) in
@@ -286,7 +289,7 @@ lacking_executes s desk session new_desk now before cubes place text form may at
     let d = e.decl in
     let added = refusal_entries 15 now in
     let names = names_of cubes.names in
-    let step = row_step past session (Says s) Missing added names in
+    let step = step_on_rows past session (Says s) Missing added names in
     let own = subst (λ (x : Statement). IsStep step (mode_of session.mode) (Says x) (lone_refusal step 15)) form.is
     (left.left.own beginning past (names_of before.names) names (done_operations coded) Missing h.stands) in
     let meets = (λ (run : RunRecord) (g : GoesOn beginning (past_with past (Says s) Missing added names) run).

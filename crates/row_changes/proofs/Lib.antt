@@ -1,6 +1,7 @@
 pub mod HeldLists
 pub mod HeldChanges
 pub mod Encoding
+pub mod Offering
 pub mod ApartNames
 pub mod InRuns
 pub mod Inserting

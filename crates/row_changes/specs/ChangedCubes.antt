@@ -10,7 +10,7 @@ use Rattle.aosi_desk.specs.Desks.{DeskState}
 use Rattle.plain_rows.specs.HeldRows.{HeldRows}
 use Rattle.session_desk.specs.declared.session.Session.{Session}
 use Rattle.session_rows.specs.CubesAtDesk.{AreWholeCubes, ExecutesOnRows}
-use Rattle.session_rows.specs.RowsExecuted.{IsChanged, IsChangedAndKept, OfEachCube, StaysHeld}
+use Rattle.session_rows.specs.RowsExecuted.{HasChange, IsChangedAndKept, OfEachCube, StaysHeld}
 use Rattle.session_rows.specs.declared.cubes.Cubes.{Cubes}
 
 -- Names have come to the dictionaries of cubes, and nothing else has changed but room.
@@ -33,7 +33,7 @@ HaveStayed old new = HaveBecome (λ place. StaysHeld) old new
 
 -- One cube has a change, which a rollback takes back.
 abbrev pub HaveChanged : ChangeAt → Cubes → Cubes → Type 0
-HaveChanged c old new = HaveBecome (λ place. IsChanged place c) old new
+HaveChanged c old new = HaveBecome (λ place. HasChange place c) old new
 
 -- One cube has a change, which is kept with those before it.
 abbrev pub HaveChangedAndKept : ChangeAt → Cubes → Cubes → Type 0

@@ -8,7 +8,8 @@ ghost use Rattle.aosi_desk.specs.Desks.{is_cube_code};
 ghost use Rattle.session_replies.specs.Modes.{mode_of};
 ghost use Rattle.session_desk.specs.AtDesk.{IsAtDesk};
 ghost use Rattle.session_desk.specs.Executed.{IfReplied};
-ghost use Rattle.session_desk.specs.Moves.{epoch_in};
+ghost use Rattle.session_desk.specs.FileReplies.{IsRefusedUnread, SpeaksOfNoFile};
+ghost use Rattle.session_desk.specs.Moves.{epoch_open_in};
 ghost use Rattle.row_entries.specs.RowCalls.{NotesRefusal};
 ghost use Rattle.row_changes.specs.AnswersGiven.{HasCommittedAt};
 
@@ -27,6 +28,8 @@ pub fn refuse_next(desk: &mut Desk, session: &mut Session, refusal: Refusal) -> 
     requires store { code refusal ≢ 17 }
     ensures at { IsAtDesk desk.new session.new }
     ensures number { session.new.statements ≡ session.old.statements + 1 }
+    ensures no_file { SpeaksOfNoFile (reply.Refused refusal) → IfReplied result SpeaksOfNoFile }
+    ensures unread { SpeaksOfNoFile (reply.Refused refusal) → IfReplied result IsRefusedUnread }
     ensures cubes { desk.new.cubes ≡ desk.old.cubes }
     ensures said { IfReplied result (λ said. said ≡ reply.Refused refusal) }
     ensures noted { IfReplied result (λ said.
@@ -37,8 +40,8 @@ pub fn refuse_next(desk: &mut Desk, session: &mut Session, refusal: Refusal) -> 
 }
 
 /// The epoch of the transaction that is open, if one is.
-pub fn epoch_in(mode: &SessionMode) -> Option<u64>
-    ensures { result ≡ epoch_in (mode_of mode.now) }
+pub fn epoch_open_in(mode: &SessionMode) -> Option<u64>
+    ensures { result ≡ epoch_open_in (mode_of mode.now) }
 {
     match mode {
         SessionMode::Open { writer } => Some(writer.epoch),

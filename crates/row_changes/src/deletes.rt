@@ -8,12 +8,14 @@ ghost use Rattle.plain_rows.specs.HeldRows.{rows_at};
 ghost use Rattle.query_plan.specs.Bindings.{DeletesRows, IsDropPlan};
 ghost use Rattle.session_replies.specs.Modes.{mode_of};
 ghost use Rattle.session_desk.specs.Executed.{IfReplied};
-ghost use Rattle.session_desk.specs.Moves.{epoch_in};
+ghost use Rattle.session_desk.specs.FileReplies.{SpeaksOfNoFile};
+ghost use Rattle.session_desk.specs.Moves.{epoch_open_in};
 ghost use Rattle.session_rows.specs.CubesAtDesk.{ExecutesOnRows, IsAtCubes};
+ghost use Rattle.session_rows.specs.OfferedTexts.{OffersWithoutFile};
 ghost use Rattle.row_changes.specs.ChangedCubes.{ExecutesWithNames};
 ghost use Rattle.row_changes.specs.DropForms.{IsDropSpanAt, dropped_answer};
 
-use crate::at_desk::{commit_alone, epoch_in};
+use crate::at_desk::{commit_alone, epoch_open_in};
 use crate::dropped::drop_span;
 use crate::held::{make_removal_room, remove, remove_and_keep};
 use crate::refused::{refuse_bind, refuse_for_memory};
@@ -55,6 +57,8 @@ fn delete_alone(
         ≤ (rows_at cubes.old.rows place).removable }
     ensures at { IsAtCubes desk.new session.new cubes.new }
     ensures number { session.new.statements ≡ session.old.statements + 1 }
+    ensures no_file { IfReplied result SpeaksOfNoFile }
+    ensures names { cubes.new.names ≡ cubes.old.names }
     ensures executed { IfReplied result (ExecutesWithNames (Says statement.now)
         desk.old session.old cubes.old desk.new session.new cubes.new) }
 {
@@ -80,13 +84,15 @@ fn delete_inside(
     requires at { IsAtCubes desk.now session.old cubes.old }
     requires few { session.old.statements < MOST_STATEMENTS }
     requires form { DeletesRows statement.now }
-    requires open { epoch_in (mode_of session.old.mode) ≡ Some epoch }
+    requires open { epoch_open_in (mode_of session.old.mode) ≡ Some epoch }
     requires within { place < length cubes.old.schemas.items }
     requires span { IsDropSpanAt cubes.old statement.now place span.now }
     requires room { length (rows_at cubes.old.rows place).now
         ≤ (rows_at cubes.old.rows place).removable }
     ensures at { IsAtCubes desk.now session.new cubes.new }
     ensures number { session.new.statements ≡ session.old.statements + 1 }
+    ensures no_file { IfReplied result SpeaksOfNoFile }
+    ensures names { cubes.new.names ≡ cubes.old.names }
     ensures executed { IfReplied result (ExecutesWithNames (Says statement.now)
         desk.now session.old cubes.old desk.now session.new cubes.new) }
 {
@@ -114,10 +120,12 @@ fn delete_with_room(
         ≤ (rows_at cubes.old.rows place).removable }
     ensures at { IsAtCubes desk.new session.new cubes.new }
     ensures number { session.new.statements ≡ session.old.statements + 1 }
+    ensures no_file { IfReplied result SpeaksOfNoFile }
+    ensures names { cubes.new.names ≡ cubes.old.names }
     ensures executed { IfReplied result (ExecutesWithNames (Says statement.now)
         desk.old session.old cubes.old desk.new session.new cubes.new) }
 {
-    match epoch_in(&session.mode) {
+    match epoch_open_in(&session.mode) {
         Some(epoch) => delete_inside(desk, session, cubes, statement, place, span, epoch),
         None => delete_alone(desk, session, cubes, statement, place, span),
     }
@@ -140,6 +148,8 @@ fn delete_span(
     requires span { IsDropSpanAt cubes.old statement.now place span.now }
     ensures at { IsAtCubes desk.new session.new cubes.new }
     ensures number { session.new.statements ≡ session.old.statements + 1 }
+    ensures no_file { IfReplied result SpeaksOfNoFile }
+    ensures names { cubes.new.names ≡ cubes.old.names }
     ensures executed { IfReplied result (ExecutesWithNames (Says statement.now)
         desk.old session.old cubes.old desk.new session.new cubes.new) }
 {
@@ -164,6 +174,9 @@ fn delete_bound(
     requires plan { IsDropPlan cubes.old.schemas.items statement.now plan.now }
     ensures at { IsAtCubes desk.new session.new cubes.new }
     ensures number { session.new.statements ≡ session.old.statements + 1 }
+    ensures no_file { IfReplied result SpeaksOfNoFile }
+    ensures offers { OffersWithoutFile statement.now cubes.old.schemas.items
+        cubes.old.names cubes.new.names }
     ensures executed { IfReplied result (ExecutesOnRows (Says statement.now)
         desk.old session.old cubes.old desk.new session.new cubes.new) }
 {
@@ -189,6 +202,9 @@ pub fn delete(
     requires may { refused_by_mode (mode_of session.old.mode) statement.now ≡ None }
     ensures at { IsAtCubes desk.new session.new cubes.new }
     ensures number { session.new.statements ≡ session.old.statements + 1 }
+    ensures no_file { IfReplied result SpeaksOfNoFile }
+    ensures offers { OffersWithoutFile statement.now cubes.old.schemas.items
+        cubes.old.names cubes.new.names }
     ensures executed { IfReplied result (ExecutesOnRows (Says statement.now)
         desk.old session.old cubes.old desk.new session.new cubes.new) }
 {

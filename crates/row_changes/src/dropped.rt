@@ -1,12 +1,13 @@
 //! The rows that a DELETE is about, by coordinates.
 
-ghost use Rattle.std.specs.Prelude.{◌≡◌, ◌<◌, length, IfOk};
+ghost use Rattle.std.specs.Prelude.{◌≡◌, ◌<◌, length, IfOk, OnOk};
 ghost use Rattle.query_plan.specs.Bindings.{IsDropPlan};
-ghost use Rattle.row_encoding.specs.CodedTexts.{AskTheirKinds};
+ghost use Rattle.row_encoding.specs.CodedTexts.{AskTheirKinds, ComparesWith};
 ghost use Rattle.row_encoding.specs.DictsAsEncoder.{Suit};
 ghost use Rattle.session_rows.specs.CubesAtDesk.{AreWholeCubes, GainsNames};
+ghost use Rattle.session_rows.specs.OfferedTexts.{AreGiven, OffersWithoutFile};
 ghost use Rattle.row_changes.specs.ChangedCubes.{HaveGained};
-ghost use Rattle.row_changes.specs.DropForms.{AreDropCodes, IsDropSpanAt};
+ghost use Rattle.row_changes.specs.DropForms.{AreDropCodes, HaveDropPlaces, HavePlacesThere, IsDropSpanAt};
 
 use cube_language::Statement;
 use cube_schema::Schema;
@@ -28,7 +29,9 @@ fn codes_on(
     requires suits { Suit names.old place cube.now }
     requires kinds { AskTheirKinds cube.now.dims conditions.now }
     ensures gains { GainsNames place cube.now names.old names.new }
+    ensures given { AreGiven place (ComparesWith conditions.now) names.old names.new }
     ensures codes { IfOk result (λ codes. AreDropCodes names.new place conditions.now codes.items) }
+    ensures places { OnOk result (HaveDropPlaces cube.now names.new place conditions.now) }
 {
     encode_texts(alloc, names, place, cube, conditions)
 }
@@ -45,8 +48,12 @@ fn codes_of(
     requires within { plan.now.cube < length cubes.old.schemas.items }
     requires plan { IsDropPlan cubes.old.schemas.items statement.now plan.now }
     ensures gained { HaveGained cubes.old cubes.new }
+    ensures offers { OffersWithoutFile statement.now cubes.old.schemas.items
+        cubes.old.names cubes.new.names }
     ensures codes { IfOk result (λ codes.
         AreDropCodes cubes.new.names plan.now.cube plan.now.conditions codes.items) }
+    ensures places { OnOk result
+        (HavePlacesThere cubes.new plan.now.cube plan.now.conditions) }
 {
     names_come_to_the_cubes();
     codes_on(
@@ -70,6 +77,8 @@ pub(crate) fn drop_span(
     requires within { plan.now.cube < length cubes.old.schemas.items }
     requires plan { IsDropPlan cubes.old.schemas.items statement.now plan.now }
     ensures gained { HaveGained cubes.old cubes.new }
+    ensures offers { OffersWithoutFile statement.now cubes.old.schemas.items
+        cubes.old.names cubes.new.names }
     ensures span { IfOk result (IsDropSpanAt cubes.new statement.now plan.now.cube) }
 {
     let codes = codes_of(alloc, cubes, statement, plan)?;

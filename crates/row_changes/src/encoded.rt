@@ -3,8 +3,10 @@
 ghost use Rattle.std.specs.Prelude.{◌≡◌, ◌<◌, None, length, IfOk};
 ghost use Rattle.cube_language.specs.RowFaults.{first_bad_row};
 ghost use Rattle.query_plan.specs.Bindings.{IsBoundAt};
+ghost use Rattle.row_encoding.specs.CodedInserts.{HaveTextIn};
 ghost use Rattle.row_encoding.specs.DictsAsEncoder.{Suit};
 ghost use Rattle.session_rows.specs.CubesAtDesk.{AreWholeCubes, GainsNames};
+ghost use Rattle.session_rows.specs.OfferedTexts.{AreGiven, OffersWithoutFile};
 ghost use Rattle.row_changes.specs.ChangedCubes.{HaveGained};
 ghost use Rattle.row_changes.specs.EncodedForms.{AreEncodedAs, AreEncodedAt};
 
@@ -35,6 +37,7 @@ fn encode_on(
     requires suits { Suit names.old place cube.now }
     requires fit { first_bad_row cube.now rows.now ≡ None }
     ensures gains { GainsNames place cube.now names.old names.new }
+    ensures given { AreGiven place (HaveTextIn rows.now) names.old names.new }
     ensures encoded { IfOk result (AreEncodedAs cube.now names.new place rows.now) }
 {
     let decl = cube.decl();
@@ -57,6 +60,8 @@ pub(crate) fn encode(
     requires within { place < length cubes.old.schemas.items }
     requires bound { IsBoundAt cubes.old.schemas.items statement.now place }
     ensures gained { HaveGained cubes.old cubes.new }
+    ensures offers { OffersWithoutFile statement.now cubes.old.schemas.items
+        cubes.old.names cubes.new.names }
     ensures encoded { IfOk result (AreEncodedAt cubes.new statement.now place) }
 {
     names_come_to_the_cubes();

@@ -8,14 +8,16 @@ ghost use Rattle.plain_rows.specs.HeldRows.{rows_at};
 ghost use Rattle.query_plan.specs.Bindings.{IsBoundAt};
 ghost use Rattle.session_replies.specs.Modes.{mode_of};
 ghost use Rattle.session_desk.specs.Executed.{IfReplied};
-ghost use Rattle.session_desk.specs.Moves.{epoch_in};
+ghost use Rattle.session_desk.specs.FileReplies.{SpeaksOfNoFile};
+ghost use Rattle.session_desk.specs.Moves.{epoch_open_in};
 ghost use Rattle.session_rows.specs.CubesAtDesk.{ExecutesOnRows, IsAtCubes};
+ghost use Rattle.session_rows.specs.OfferedTexts.{OffersWithoutFile};
 ghost use Rattle.row_changes.specs.AnswersGiven.{InsertsRows, stored_answer};
 ghost use Rattle.row_changes.specs.ChangedCubes.{ExecutesWithNames};
 ghost use Rattle.row_changes.specs.EncodedForms.{AreEncodedAt};
 ghost use Rattle.row_changes.specs.declared.encoded.EncodedRows.TheVariants.{Rows};
 
-use crate::at_desk::{commit_alone, epoch_in};
+use crate::at_desk::{commit_alone, epoch_open_in};
 use crate::encoded::{EncodedRows, encode};
 use crate::held::{append, append_and_keep, make_room};
 use crate::refused::{refuse_bind, refuse_for_memory, refuse_lacking};
@@ -60,6 +62,8 @@ fn insert_alone(
     requires room { length batch.now.rows ≤ (rows_at cubes.old.rows place).spare }
     ensures at { IsAtCubes desk.new session.new cubes.new }
     ensures number { session.new.statements ≡ session.old.statements + 1 }
+    ensures no_file { IfReplied result SpeaksOfNoFile }
+    ensures names { cubes.new.names ≡ cubes.old.names }
     ensures executed { IfReplied result (ExecutesWithNames (Says statement.now)
         desk.old session.old cubes.old desk.new session.new cubes.new) }
 {
@@ -86,11 +90,13 @@ fn insert_inside(
     requires at { IsAtCubes desk.now session.old cubes.old }
     requires few { session.old.statements < MOST_STATEMENTS }
     requires form { InsertsRows statement.now }
-    requires open { epoch_in (mode_of session.old.mode) ≡ Some epoch }
+    requires open { epoch_open_in (mode_of session.old.mode) ≡ Some epoch }
     requires encoded { AreEncodedAt cubes.old statement.now place (Rows batch.now) }
     requires room { length batch.now.rows ≤ (rows_at cubes.old.rows place).spare }
     ensures at { IsAtCubes desk.now session.new cubes.new }
     ensures number { session.new.statements ≡ session.old.statements + 1 }
+    ensures no_file { IfReplied result SpeaksOfNoFile }
+    ensures names { cubes.new.names ≡ cubes.old.names }
     ensures executed { IfReplied result (ExecutesWithNames (Says statement.now)
         desk.now session.old cubes.old desk.now session.new cubes.new) }
 {
@@ -117,10 +123,12 @@ fn insert_with_room(
     requires room { length batch.now.rows ≤ (rows_at cubes.old.rows place).spare }
     ensures at { IsAtCubes desk.new session.new cubes.new }
     ensures number { session.new.statements ≡ session.old.statements + 1 }
+    ensures no_file { IfReplied result SpeaksOfNoFile }
+    ensures names { cubes.new.names ≡ cubes.old.names }
     ensures executed { IfReplied result (ExecutesWithNames (Says statement.now)
         desk.old session.old cubes.old desk.new session.new cubes.new) }
 {
-    match epoch_in(&session.mode) {
+    match epoch_open_in(&session.mode) {
         Some(epoch) => insert_inside(desk, session, cubes, statement, place, batch, epoch),
         None => insert_alone(desk, session, cubes, statement, place, batch),
     }
@@ -143,6 +151,8 @@ fn insert_batch(
     requires encoded { AreEncodedAt cubes.old statement.now place (Rows batch.now) }
     ensures at { IsAtCubes desk.new session.new cubes.new }
     ensures number { session.new.statements ≡ session.old.statements + 1 }
+    ensures no_file { IfReplied result SpeaksOfNoFile }
+    ensures names { cubes.new.names ≡ cubes.old.names }
     ensures executed { IfReplied result (ExecutesWithNames (Says statement.now)
         desk.old session.old cubes.old desk.new session.new cubes.new) }
 {
@@ -169,6 +179,8 @@ fn insert_encoded(
     requires encoded { AreEncodedAt cubes.old statement.now place encoded }
     ensures at { IsAtCubes desk.new session.new cubes.new }
     ensures number { session.new.statements ≡ session.old.statements + 1 }
+    ensures no_file { IfReplied result SpeaksOfNoFile }
+    ensures names { cubes.new.names ≡ cubes.old.names }
     ensures executed { IfReplied result (ExecutesWithNames (Says statement.now)
         desk.old session.old cubes.old desk.new session.new cubes.new) }
 {
@@ -197,6 +209,9 @@ fn insert_bound(
     requires bound { IsBoundAt cubes.old.schemas.items statement.now place }
     ensures at { IsAtCubes desk.new session.new cubes.new }
     ensures number { session.new.statements ≡ session.old.statements + 1 }
+    ensures no_file { IfReplied result SpeaksOfNoFile }
+    ensures offers { OffersWithoutFile statement.now cubes.old.schemas.items
+        cubes.old.names cubes.new.names }
     ensures executed { IfReplied result (ExecutesOnRows (Says statement.now)
         desk.old session.old cubes.old desk.new session.new cubes.new) }
 {
@@ -222,6 +237,9 @@ pub fn insert(
     requires may { refused_by_mode (mode_of session.old.mode) statement.now ≡ None }
     ensures at { IsAtCubes desk.new session.new cubes.new }
     ensures number { session.new.statements ≡ session.old.statements + 1 }
+    ensures no_file { IfReplied result SpeaksOfNoFile }
+    ensures offers { OffersWithoutFile statement.now cubes.old.schemas.items
+        cubes.old.names cubes.new.names }
     ensures executed { IfReplied result (ExecutesOnRows (Says statement.now)
         desk.old session.old cubes.old desk.new session.new cubes.new) }
 {

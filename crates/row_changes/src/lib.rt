@@ -9,7 +9,7 @@ mod held;
 mod inserts;
 mod refused;
 
-pub use at_desk::{commit_alone, epoch_in, refuse_next};
+pub use at_desk::{commit_alone, epoch_open_in, refuse_next};
 pub use deletes::delete;
 pub use held::{append, append_and_keep, make_room};
 pub use inserts::insert;

@@ -6,6 +6,7 @@ ghost use Rattle.cube_run.specs.StepOutcomes.{refused_by_mode};
 ghost use Rattle.query_plan.specs.Bindings.{IsBindFault};
 ghost use Rattle.session_replies.specs.Modes.{mode_of};
 ghost use Rattle.session_desk.specs.Executed.{IfReplied};
+ghost use Rattle.session_desk.specs.FileReplies.{IsRefusedUnread, SpeaksOfNoFile};
 ghost use Rattle.session_rows.specs.CubesAtDesk.{ExecutesOnRows, IsAtCubes};
 ghost use Rattle.row_changes.specs.AnswersGiven.{InsertsRows};
 ghost use Rattle.row_changes.specs.ChangedCubes.{ExecutesWithNames};
@@ -35,6 +36,8 @@ pub fn refuse_bind(
     requires fault { IsBindFault cubes.now.schemas.items statement.now fault }
     ensures at { IsAtCubes desk.new session.new cubes.now }
     ensures number { session.new.statements ≡ session.old.statements + 1 }
+    ensures no_file { IfReplied result SpeaksOfNoFile }
+    ensures unread { IfReplied result IsRefusedUnread }
     ensures executed { IfReplied result (ExecutesOnRows (Says statement.now)
         desk.old session.old cubes.now desk.new session.new cubes.now) }
 {
@@ -52,6 +55,8 @@ pub fn refuse_for_memory(
     requires few { session.old.statements < MOST_STATEMENTS }
     ensures at { IsAtCubes desk.new session.new cubes.now }
     ensures number { session.new.statements ≡ session.old.statements + 1 }
+    ensures no_file { IfReplied result SpeaksOfNoFile }
+    ensures unread { IfReplied result IsRefusedUnread }
     ensures executed { IfReplied result (ExecutesWithNames (Says statement.now)
         desk.old session.old cubes.now desk.new session.new cubes.now) }
 {
@@ -74,6 +79,7 @@ pub(crate) fn refuse_lacking(
     requires lacking { AreEncodedAt cubes.now statement.now place (Lacking text) }
     ensures at { IsAtCubes desk.new session.new cubes.now }
     ensures number { session.new.statements ≡ session.old.statements + 1 }
+    ensures no_file { IfReplied result SpeaksOfNoFile }
     ensures executed { IfReplied result (ExecutesWithNames (Says statement.now)
         desk.old session.old cubes.now desk.new session.new cubes.now) }
 {

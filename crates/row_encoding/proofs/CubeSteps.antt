@@ -1,13 +1,15 @@
 -- The dictionaries of all cubes: a name that is encoded lets them grow.
-use Rattle.std.proofs.Common.{◌≡◌, ◌≢◌, ◌⊎◌, ℕ, ◌-◌, ◌<◌, ◌≤◌, zero, suc, Bool, true, false, cond, List, [], ◌∷◌, ◌++◌, length, map, set, replicate, get_or, Contains, Some, Result, Ok, Err, IfOk, OnErr, nat_lt, IfSome, true≢false, refl, sym, ap, ◌∙◌, subst, inl, inr, arith}
+use Rattle.std.proofs.Common.{◌≡◌, ◌≢◌, ◌⊎◌, ℕ, ◌-◌, ◌<◌, ◌≤◌, zero, suc, Bool, true, false, cond, List, [], ◌∷◌, ◌++◌, length, map, set, replicate, get_or, All, Contains, Some, Result, Ok, Err, IfOk, OnErr, nat_lt, IfSome, true≢false, refl, sym, ap, ◌∙◌, subst, inl, inr, arith}
 use Rattle.std.specs.List.{AllZip}
 use Rattle.std.specs.Option.{option_map}
 use Rattle.std.proofs.lemmas.Bool.{cases_eq, cases_lt, ltb-true, ltb-false}
 use Rattle.std.proofs.lemmas.List.{length-append, length-replicate, length-set, get_or-set_same, get_or-set_other, get_or_push, get_or_past, get_or_append_left, get_or-append_right, get_or-replicate, length_push}
+use Rattle.std.proofs.lemmas.List.Elements.{All-nil}
 use Rattle.std.proofs.lemmas.Option.{slice_get-get_or, slice_get-map}
 use Rattle.cube_values.specs.declared.shape.CubeShape.{CubeShape}
 use Rattle.cube_values.specs.declared.shape.Size.{Size}
 use Rattle.cube_language.specs.Cubes.{sizes_of}
+use Rattle.cube_language.specs.declared.bad_row.TheConstants.{TEXT_BYTES}
 use Rattle.cube_language.specs.declared.decl.Decl.{Decl}
 use Rattle.cube_language.specs.declared.decl.DimDecl.{DimDecl}
 use Rattle.cube_schema.specs.Schemas.{cube_of}
@@ -16,7 +18,7 @@ use Rattle.names_dict.specs.Dictionaries.{Dictionary, IsCodeFor, IsEncoded, IsTe
 use Rattle.condition_spans.specs.Codes.{lists_at, texts_at}
 use Rattle.row_encoding.specs.FinalCodes.{Grow, InTheEnd, IsFinalNumber, IsTextOf, code_number, dim_at}
 use Rattle.row_encoding.specs.DictsAsEncoder.{HasName, IsDictionaryOf, MayBecome, MayEndWith, Suit}
-use Rattle.row_encoding.proofs.DictSteps.{Outcome, became_before, few_still, final_number, inside, one_more_name, outcome}
+use Rattle.row_encoding.proofs.DictSteps.{Outcome, apart_still, became_before, few_still, final_number, inside, one_more_name, outcome, short_still}
 
 -- ---- the dictionaries of a cube in their place
 
@@ -52,7 +54,15 @@ put_apart cubes cube dims false p e apart =
 
 empties_fit : (dims : List DimDecl) → AllZip IsDictionaryOf dims (empty_dictionaries (sizes_of dims) (map (λ dim. dim.text) dims))
 empties_fit [] = tt
-empties_fit (dim ∷ dims) = (record { most = refl; few = omega arith }, empties_fit dims)
+empties_fit (dim ∷ dims) = (
+  record {
+    most = refl;
+    few = omega arith;
+    distinct = refl;
+    short = All-nil (λ name. length name ≤ TEXT_BYTES);
+  },
+  empties_fit dims,
+)
 
 made_fit : (d : Decl) (made : List Dictionary) → (made ≡ []) ⊎ AllZip IsDictionaryOf d.dims made
     → AllZip IsDictionaryOf d.dims (made_dictionaries (cube_of d) made)
@@ -119,6 +129,7 @@ made_long shape (x ∷ made) = omega arith
 record IsStep (d : Decl) (place dim : ℕ) (name : List ℕ) (code : Code) (cubes new : List (List Dictionary)) (made : List Dictionary) : Type 0 where
   fit : AllZip IsDictionaryOf d.dims made
   text : (dim_at d.dims dim).text ≡ true
+  short : length name ≤ TEXT_BYTES
   got : Outcome (dictionary_in made dim) name code
   here : dictionaries_of new place ≡ set made dim (with_code (dictionary_in made dim) name code)
   apart : (p : ℕ) → p ≢ place → dictionaries_of new p ≡ dictionaries_of cubes p
@@ -127,15 +138,16 @@ record IsStep (d : Decl) (place dim : ℕ) (name : List ℕ) (code : Code) (cube
   long : length (dictionaries_of cubes place) ≤ length made
 
 step : (d : Decl) (place dim : ℕ) (name : List ℕ) (code : Code) (cubes new : List (List Dictionary)) → Suit cubes place d → (dim_at d.dims dim).text ≡ true
-    → IsCodeFor (cube_of d) cubes place dim name code → IsEncoded (cube_of d) place dim name cubes new code
+    → length name ≤ TEXT_BYTES → IsCodeFor (cube_of d) cubes place dim name code → IsEncoded (cube_of d) place dim name cubes new code
     → IsStep d place dim name code cubes new (made_dictionaries (cube_of d) (dictionaries_of cubes place))
-step d place dim name code cubes new suits text code_is new_is =
+step d place dim name code cubes new suits text short code_is new_is =
     let shape = cube_of d in
     let old = dictionaries_of cubes place in
     let made = made_dictionaries shape old in
     record {
       fit = made_fit d old suits;
       text = text;
+      short = short;
       got = outcome (dictionary_in made dim) name code code_is;
       here = ap (λ (c : List (List Dictionary)). dictionaries_of c place) new_is
           ∙ put_here cubes place (encoded_dictionaries dim name made code) (nat_lt place (length cubes)) refl;
@@ -214,7 +226,12 @@ module _ (d : Decl) (place dim : ℕ) (name : List ℕ) (code : Code) (cubes new
       let still = few_still (dictionary_in made dim) name code its_dim.few s.got in
       inr (subst (AllZip IsDictionaryOf d.dims) (sym s.here)
       (zip_set IsDictionaryOf d.dims made dim (with_code (dictionary_in made dim) name code) (dim_at [] 0) s.fit
-      (record { most = still.1 ∙ its_dim.most; few = let f = still.0 in let c = still.1 in omega (arith, f, c) })))
+      (record {
+        most = still.1 ∙ its_dim.most;
+        few = let f = still.0 in let c = still.1 in omega (arith, f, c);
+        distinct = apart_still (dictionary_in made dim) name code its_dim.distinct s.got;
+        short = short_still (dictionary_in made dim) name code s.short its_dim.short;
+      })))
 
   grow : Grow MayEndWith Suit HasName place d (IsTextOf dim name) cubes new
   grow = record {
@@ -236,11 +253,11 @@ module _ (d : Decl) (place dim : ℕ) (name : List ℕ) (code : Code) (cubes new
 -- ---- for the code, where a call gives a code or is out of memory
 
 module _ (d : Decl) (shape : CubeShape) (place dim : ℕ) (name : List ℕ) (cubes new : List (List Dictionary)) (is : shape ≡ cube_of d)
-    (suits : Suit cubes place d) (text : (dim_at d.dims dim).text ≡ true) where
+    (suits : Suit cubes place d) (text : (dim_at d.dims dim).text ≡ true) (short : length name ≤ TEXT_BYTES) where
   stepped : (code : Code) → IsCodeFor shape cubes place dim name code → IsEncoded shape place dim name cubes new code
       → IsStep d place dim name code cubes new (made_dictionaries (cube_of d) (dictionaries_of cubes place))
   stepped code code_is new_is =
-      step d place dim name code cubes new suits text (subst (λ (s : CubeShape). IsCodeFor s cubes place dim name code) is code_is)
+      step d place dim name code cubes new suits text short (subst (λ (s : CubeShape). IsCodeFor s cubes place dim name code) is code_is)
       (subst (λ (s : CubeShape). IsEncoded s place dim name cubes new code) is new_is)
 
   pub encoded_final : {E : Type 0} (r : Result Code E) → IfOk r (IsCodeFor shape cubes place dim name) → IfOk r (IsEncoded shape place dim name cubes new)

@@ -1,16 +1,19 @@
 -- One dictionary: the number that it gives holds for whatever names it ends with.
-use Rattle.std.proofs.Common.{◌≡◌, ◌⊎◌, ℕ, ◌+◌, ◌<◌, ◌≤◌, Bool, true, false, cond, not, ◌&&◌, ◌||◌, List, [], ◌∷◌, ◌++◌, length, take, get_or, Contains, Option, Some, None, nat_lt, slice_get, IfSome, refl, sym, ap, ◌∙◌, subst, inl, inr, arith}
+use Rattle.std.proofs.Common.{◌≡◌, ◌⊎◌, ℕ, ◌+◌, ◌<◌, ◌≤◌, Bool, true, false, cond, not, ◌&&◌, ◌||◌, List, [], ◌∷◌, ◌++◌, length, take, get_or, All, Contains, Option, Some, None, nat_lt, slice_get, IfSome, refl, sym, ap, ◌∙◌, subst, inl, inr, arith}
 use Rattle.std.specs.List.{position, position_or_len, list_any}
 use Rattle.std.specs.Option.{option_map_or}
 use Rattle.std.specs.Str.{bytes_eq}
 use Rattle.std.proofs.lemmas.Bool.{true≢false, cases_Bool, ltb-true, ltb-false, le-leb, false_from_ne_true}
 use Rattle.std.proofs.lemmas.List.{take_all, take-append-le, take-take, get_or-take, get_or_push, length_push, length-take}
-use Rattle.std.proofs.lemmas.List.Elements.{Contains-push_cases}
+use Rattle.std.proofs.lemmas.List.Elements.{All-append, All-cons, All-nil, Contains-push_cases}
 use Rattle.std.proofs.lemmas.List.Quantifiers.{position-Some}
 use Rattle.std.proofs.lemmas.Option.{none-some, slice_get-get_or, get_or_from_slice_get, slice_get_within}
 use Rattle.std.proofs.lemmas.Slice.Eq.{bytes_eq-Decides}
+use Rattle.cube_language.specs.Cubes.{first_repeated}
+use Rattle.cube_language.specs.declared.bad_row.TheConstants.{TEXT_BYTES}
 use Rattle.cube_language.specs.declared.decl.DimDecl.{DimDecl}
 use Rattle.cube_run.specs.LoadedRows.{has_no_place_for}
+use Rattle.cube_schema.proofs.Repeated.{repeated-push}
 use Rattle.names_dict.specs.declared.code.Code.{Code}
 use Rattle.names_dict.specs.declared.code.Code.TheVariants.{Known, Added, Full}
 use Rattle.names_dict.specs.Dictionaries.{Dictionary, code_of, with_code}
@@ -44,12 +47,12 @@ any_turned name (other ∷ names) = λ i. same_test other name i || any_turned n
 
 pub data Outcome (D : Dictionary) (name : List ℕ) : Code → Type 0 where
   known : (n : ℕ) → n < length D.names → slice_get D.names n ≡ Some name → Outcome D name (Known n)
-  new : length D.names < D.cardinality → Outcome D name (Added (length D.names))
+  new : length D.names < D.cardinality → list_any (bytes_eq name) D.names ≡ false → Outcome D name (Added (length D.names))
   full : D.cardinality ≤ length D.names → list_any (bytes_eq name) D.names ≡ false → Outcome D name Full
 
 by_room : (D : Dictionary) (name : List ℕ) (t : Bool) → nat_lt (length D.names) D.cardinality ≡ t → list_any (bytes_eq name) D.names ≡ false
     → Outcome D name (cond t (Added (length D.names)) Full)
-by_room D name true e none = new (ltb-true (length D.names) D.cardinality e)
+by_room D name true e none = new (ltb-true (length D.names) D.cardinality e) none
 by_room D name false e none = full (ltb-false (length D.names) D.cardinality e) none
 
 none_long : {X : Type 0} (p : X → Bool) (xs : List X) (t : Bool) → nat_lt (position_or_len p xs) (length xs) ≡ t
@@ -82,7 +85,7 @@ at_front front names n name h at =
 pub final_number : (dim : DimDecl) (D : Dictionary) (name : List ℕ) (names : List (List ℕ)) (code : Code) → dim.cardinality ≡ D.cardinality
     → Outcome D name code → MayBecome (with_code D name code) names → IsFinalNumber dim names name (code_number code)
 final_number dim D name names (Known n) c (known m below at) h = at_front D.names names n name h.first at
-final_number dim D name names (Added n) c (new room) h =
+final_number dim D name names (Added n) c (new room absent) h =
     at_front (D.names ++ name ∷ []) names (length D.names) name h.first
     (slice_get-get_or (D.names ++ name ∷ []) (length D.names) [] (let l = length_push D.names name in omega (arith, l)) ∙ ap Some (get_or_push D.names name [] (length D.names) refl))
 final_number dim D name names Full c (full most none) h =
@@ -92,14 +95,29 @@ final_number dim D name names Full c (full most none) h =
 
 pub inside : (D : Dictionary) (name : List ℕ) (code : Code) → length D.names ≤ D.cardinality → Outcome D name code → IfSome (code_number code) (λ n. n < D.cardinality)
 inside D name (Known n) few (known m below at) = omega (arith, few, below)
-inside D name (Added n) few (new room) = room
+inside D name (Added n) few (new room absent) = room
 inside D name Full few (full most none) = tt
 
 pub few_still : (D : Dictionary) (name : List ℕ) (code : Code) → length D.names ≤ D.cardinality → Outcome D name code
     → (length (with_code D name code).names ≤ D.cardinality) × ((with_code D name code).cardinality ≡ D.cardinality)
 few_still D name (Known n) few (known m below at) = (few, refl)
-few_still D name (Added n) few (new room) = ((let l = length_push D.names name in omega (arith, l, room)), refl)
+few_still D name (Added n) few (new room absent) = ((let l = length_push D.names name in omega (arith, l, room)), refl)
 few_still D name Full few (full most none) = (few, refl)
+
+pub apart_still : (D : Dictionary) (name : List ℕ) (code : Code) → first_repeated D.names ≡ None → Outcome D name code
+    → first_repeated (with_code D name code).names ≡ None
+apart_still D name (Known n) apart (known m below at) = apart
+apart_still D name (Added n) apart (new room absent) =
+    repeated-push D.names name apart ∙ ap (λ b. cond b (Some name) None) absent
+apart_still D name Full apart (full most none) = apart
+
+pub short_still : (D : Dictionary) (name : List ℕ) (code : Code) → length name ≤ TEXT_BYTES
+    → All (λ other. length other ≤ TEXT_BYTES) D.names → All (λ other. length other ≤ TEXT_BYTES) (with_code D name code).names
+short_still D name (Known n) short all = all
+short_still D name (Added n) short all =
+    All-append (λ other. length other ≤ TEXT_BYTES) D.names (name ∷ []) all
+    (All-cons (λ other. length other ≤ TEXT_BYTES) name [] short (All-nil (λ other. length other ≤ TEXT_BYTES)))
+short_still D name Full short all = all
 
 pub became_before : (D : Dictionary) (name : List ℕ) (code : Code) (names : List (List ℕ)) → MayBecome (with_code D name code) names → MayBecome D names
 became_before D name (Known n) names h = h

@@ -7,4 +7,5 @@ pub mod CodedFronts
 pub mod InsertRows
 pub mod RecordFields
 pub mod TextNumbers
+pub mod TextPlaces
 pub mod LoadSteps

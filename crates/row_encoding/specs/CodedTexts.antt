@@ -1,6 +1,6 @@
 -- The numbers of the texts that a DELETE compares with, by the names that the cube has in the end.
 -- Source: Cubrick (VLDB 2016), dictionary encoding of text dimensions.
-use Rattle.std.specs.Prelude.{◌≡◌, ℕ, ◌≤◌, true, List, length, All, Contains}
+use Rattle.std.specs.Prelude.{◌≡◌, ◌⊎◌, ℕ, ◌≤◌, true, List, length, All, Contains}
 use Rattle.std.specs.List.{IsDistinct}
 use Rattle.std.specs.Str.{bytes_eq}
 use Rattle.cube_values.specs.declared.operation.Condition.{Condition}
@@ -33,6 +33,24 @@ pub record ComparesWith (conditions : List Condition) (dim : ℕ) (text : List �
   pub here : condition.place ≡ dim
   pub compares : Contains (values_of_test condition.test) (Text text)
   pub short : length text ≤ TEXT_BYTES
+
+-- A text stands among the names of a dimension, or these are as many as may be.
+abbrev pub HasPlace : DimDecl → List (List ℕ) → List ℕ → Type 0
+HasPlace dim names text = Contains names text ⊎ (dim.cardinality ≤ length names)
+
+-- So it is of each text that conditions compare a dimension with, unless it is too long.
+abbrev pub HavePlaces : List DimDecl → List (List (List ℕ)) → List Condition → Type 0
+HavePlaces dims lists conditions =
+    (dim : ℕ) (text : List ℕ) → ComparesWith conditions dim text → HasPlace (dim_at dims dim) (texts_at lists dim) text
+
+-- So it is of each text among values.
+abbrev pub HavePlacesAmong : DimDecl → List (List ℕ) → List Value → Type 0
+HavePlacesAmong dim names values =
+    (text : List ℕ) → Contains values (Text text) → length text ≤ TEXT_BYTES → HasPlace dim names text
+
+-- So it is of a text that is not too long.
+abbrev pub HasPlaceIfShort : DimDecl → List (List ℕ) → List ℕ → Type 0
+HasPlaceIfShort dim names text = length text ≤ TEXT_BYTES → HasPlace dim names text
 
 -- It is this text of a dimension, and not too long.
 abbrev pub ShortTextOf : ℕ → List ℕ → ℕ → List ℕ → Type 0

@@ -1,7 +1,9 @@
 -- Dictionaries in one memory, as what gives texts their codes.
 -- Source: this project's own.
-use Rattle.std.specs.Prelude.{◌≡◌, ◌⊎◌, ℕ, ◌<◌, ◌≤◌, List, [], length, take, Contains, if◌then◌else◌}
+use Rattle.std.specs.Prelude.{◌≡◌, ◌⊎◌, ℕ, ◌<◌, ◌≤◌, List, [], length, take, None, All, Contains, if◌then◌else◌}
 use Rattle.std.specs.List.{AllZip}
+use Rattle.cube_language.specs.Cubes.{first_repeated}
+use Rattle.cube_language.specs.declared.bad_row.TheConstants.{TEXT_BYTES}
 use Rattle.cube_language.specs.declared.decl.Decl.{Decl}
 use Rattle.cube_language.specs.declared.decl.DimDecl.{DimDecl}
 use Rattle.names_dict.specs.Dictionaries.{Dictionary, dictionaries_of, dictionary_at, names_of}
@@ -18,10 +20,13 @@ MayEndWith cubes names =
     (place dim : ℕ) → dim < length (dictionaries_of cubes place)
     → MayBecome (dictionary_at cubes place dim) (texts_at (lists_at names place) dim)
 
--- The dictionary of a dimension may have a name for each coordinate, or none where the dimension has no texts.
+-- The dictionary of a dimension may have a name for each coordinate, or none where the dimension has no texts. Its names
+-- are distinct and not too long.
 pub record IsDictionaryOf (dim : DimDecl) (dictionary : Dictionary) : Type 0 where
   pub most : dictionary.cardinality ≡ (if dim.text then dim.cardinality else 0)
   pub few : length dictionary.names ≤ dictionary.cardinality
+  pub distinct : first_repeated dictionary.names ≡ None
+  pub short : All (λ name. length name ≤ TEXT_BYTES) dictionary.names
 
 -- The dictionaries of the cube at a place are not made, or are those of the dimensions of this declaration.
 abbrev pub Suit : List (List Dictionary) → ℕ → Decl → Type 0

@@ -5,7 +5,7 @@ ghost use Rattle.condition_spans.specs.CodedConditions.{values_of_test};
 ghost use Rattle.condition_spans.specs.Codes.{texts_at, code_in, codes_among, codes_in};
 ghost use Rattle.row_encoding.specs.FinalCodes.{dim_at, InTheEnd, IsTextOf, Grow};
 ghost use Rattle.row_encoding.specs.CodedValues.{IsTextValue, HaveText};
-ghost use Rattle.row_encoding.specs.CodedTexts.{AreOfKind, AskTheirKinds, AreNames, ShortTextOf, ShortTextAmong, ComparesWith};
+ghost use Rattle.row_encoding.specs.CodedTexts.{AreOfKind, AskTheirKinds, AreNames, ShortTextOf, ShortTextAmong, ComparesWith, HasPlaceIfShort, HavePlaces, HavePlacesAmong};
 
 use crate::encoder::Encoder;
 use crate::values::encode_text;
@@ -27,6 +27,8 @@ fn number_of<E: Encoder>(
     requires text { (dim_at cube.now.dims dim).text ≡ true }
     ensures number { IfOk result (λ number. InTheEnd (E.may_end encoder.new) place (λ lists.
         AreNames lists → number ≡ code_in (texts_at lists dim) text.now)) }
+    ensures place { OnOk result (InTheEnd (E.may_end encoder.new) place (λ lists.
+        HasPlaceIfShort (dim_at cube.now.dims dim) (texts_at lists dim) text.now)) }
     ensures grow { Grow E.may_end E.suits E.has_name place cube.now (ShortTextOf dim text.now)
         encoder.old encoder.new }
 {
@@ -50,6 +52,8 @@ fn append_number<E: Encoder>(
     ensures numbers { OnOk result (InTheEnd (E.may_end encoder.new) place (λ lists.
         AreNames lists → numbers.new.items ≡
         numbers.old.items ++ codes_among (texts_at lists dim) (value.now ∷ []))) }
+    ensures places { OnOk result (InTheEnd (E.may_end encoder.new) place (λ lists.
+        HavePlacesAmong (dim_at cube.now.dims dim) (texts_at lists dim) (value.now ∷ []))) }
     ensures grow { Grow E.may_end E.suits E.has_name place cube.now
         (ShortTextAmong dim (value.now ∷ [])) encoder.old encoder.new }
 {
@@ -73,6 +77,8 @@ fn append_numbers<E: Encoder>(
     ensures numbers { OnOk result (InTheEnd (E.may_end encoder.new) place (λ lists.
         AreNames lists → numbers.new.items ≡
         numbers.old.items ++ codes_among (texts_at lists dim) values.now)) }
+    ensures places { OnOk result (InTheEnd (E.may_end encoder.new) place (λ lists.
+        HavePlacesAmong (dim_at cube.now.dims dim) (texts_at lists dim) values.now)) }
     ensures grow { Grow E.may_end E.suits E.has_name place cube.now (ShortTextAmong dim values.now)
         encoder.old encoder.new }
 {
@@ -97,6 +103,8 @@ pub fn encode_texts<E: Encoder>(
     requires kinds { AskTheirKinds cube.now.dims conditions.now }
     ensures numbers { IfOk result (λ numbers. InTheEnd (E.may_end encoder.new) place (λ lists.
         AreNames lists → numbers.items ≡ codes_in lists conditions.now)) }
+    ensures places { OnOk result (InTheEnd (E.may_end encoder.new) place (λ lists.
+        HavePlaces cube.now.dims lists conditions.now)) }
     ensures grow { Grow E.may_end E.suits E.has_name place cube.now (ComparesWith conditions.now)
         encoder.old encoder.new }
 {

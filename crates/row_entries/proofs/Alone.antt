@@ -19,7 +19,7 @@ use Rattle.session_replies.specs.Modes.{mode_of, round_follows}
 use Rattle.session_replies.specs.RowEntries.{own_abort, own_commit}
 use Rattle.session_desk.specs.declared.session.Session.{Session}
 use Rattle.session_desk.specs.AtDesk.{IsAtDesk, IsServing, change_epoch, desk_with_entries}
-use Rattle.session_desk.specs.Moves.{IsClosed, MovesOn}
+use Rattle.session_desk.specs.Moves.{NothingIsOpen, MovesOn}
 use Rattle.session_desk.proofs.Finishing.{rear_after}
 use Rattle.session_desk.proofs.Moving.{moves_by, moves_then, or_none, same_test}
 use Rattle.session_desk.proofs.RoundEntries.{desk_more, state_more}
@@ -29,8 +29,8 @@ use Rattle.row_entries.proofs.Leaving.{begin_watched, has_left, number_of, same_
 use Rattle.row_entries.proofs.Lone.{few_commits, open_stays}
 use Rattle.row_entries.proofs.OwnEntries.{aborted_desk, aborted_of, begins_here, committed_desk, committed_of, idle_serving, serving_aborted, serving_committed}
 
-closed_idle : (mode : Mode) → mode ≡ Idle → IsClosed mode
-closed_idle mode idle = subst IsClosed (sym idle) tt
+closed_idle : (mode : Mode) → mode ≡ Idle → NothingIsOpen mode
+closed_idle mode idle = subst NothingIsOpen (sym idle) tt
 
 idle_change : (s : JournalState) (mode : Mode) → mode ≡ Idle → change_epoch s mode ≡ s.ec
 idle_change s mode idle = ap (λ (m : Mode). change_epoch s m) idle
@@ -153,6 +153,7 @@ leaves_commit sentence desk session new_desk now at h f =
             numbered = (omega arith, omega arith, (omega arith, omega arith, rear.numbered));
             owners = rear.owners;
             no_cube = rear.cubes;
+            speaks_of_none = rear.speaks_of_none;
             own = λ beginning past names new_names done file stands.
                 let number =
                 number_of past sentence file added new_names session now stands.number h.counted.statements
@@ -220,6 +221,7 @@ leaves_abort cause sentence desk session new_desk now at h =
             numbered = (omega arith, omega arith, (omega arith, omega arith, tt));
             owners = refl;
             no_cube = λ run. refl;
+            speaks_of_none = refl;
             own = λ beginning past names new_names done file stands.
                 let number =
                 number_of past sentence file added new_names session now stands.number h.counted.statements

@@ -23,19 +23,19 @@ use Rattle.session_replies.proofs.Doing.{ended_does_nothing, ended_inside_does_n
 use Rattle.session_replies.proofs.Refusing.{without_memory}
 use Rattle.session_desk.specs.declared.session.Session.{Session}
 use Rattle.session_desk.specs.Executed.{HasExecuted}
-use Rattle.session_desk.specs.Moves.{IsClosed, MovesOn, OpenStays, epoch_in}
+use Rattle.session_desk.specs.Moves.{NothingIsOpen, MovesOn, OpenStays, epoch_open_in}
 use Rattle.session_desk.specs.Standing.{StandsBehind, World}
 use Rattle.session_desk.proofs.Changing.{executes_on_rows, has_its_file}
 use Rattle.session_desk.proofs.Growing.{world_of}
 use Rattle.session_rows.specs.Coded.{CodedOperation, done_operations}
 use Rattle.session_rows.specs.RowsBehind.{HasRows, RowWorld}
 use Rattle.session_rows.specs.RowsBehind.{world_of as rows_world}
-use Rattle.session_rows.specs.RowsExecuted.{HasExecutedOnRows, IsChanged, IsChangedAndKept, RollsBack, Stays}
+use Rattle.session_rows.specs.RowsExecuted.{HasExecutedOnRows, HasChange, IsChangedAndKept, RollsBack, Stays}
 use Rattle.session_rows.proofs.RowsJoin.{alone_executed, changes_alone, changes_inside, inside_executed}
 use Rattle.session_rows.proofs.RowsStay.{rolls_back_executed, rolls_back_on_rows, stays_executed, stays_on_rows}
-use Rattle.row_entries.specs.LeftEntries.{HasLeft, row_step}
+use Rattle.row_entries.specs.LeftEntries.{HasLeft, step_on_rows}
 use Rattle.row_entries.specs.EntryGroups.{LeavesAbort, LeavesCommit, LeavesNothing, LeavesOpenAbort, LeavesReading, LeavesRefusal, abort_entries, commit_entries, end_entries, reading_entries, refusal_entries}
-use Rattle.row_entries.specs.ExecutedHere.{ChangesRows, DoesInRuns, ExecutesUnchanged, GivesRowsBack, HasExecutedWithFile, IsAnswered, KeepsRows}
+use Rattle.row_entries.specs.ExecutedHere.{ChangesRows, DoesInRuns, ExecutesUnchanged, GivesRowsBack, HasExecutedWithFile, IsAnsweredInRuns, KeepsRows}
 
 -- ---- at the desk
 
@@ -54,7 +54,7 @@ unchanged mode sentence added entries_of committed desk session new_desk now h n
     λ beginning past file names new_names done said stands come answers.
     executes_on_rows beginning past sentence file added desk session new_desk now names new_names done None said stands
     h.adds come h.epochs
-    (λ run on. none run (row_step past session sentence file added new_names)
+    (λ run on. none run (step_on_rows past session sentence file added new_names)
     (h.own beginning past names new_names done file stands))
     answers
 
@@ -100,11 +100,11 @@ pub memory_answers : (sentence : Sentence) (desk : DeskState) (session : Session
     (now : Session) → LeavesRefusal 16 sentence desk session new_desk now
     → (beginning : Beginning) (past : SessionPast) (file : LoadedFile) (names new_names : List (List (List (List ℕ))))
     (done : List DoneOperation) → StandsBehind beginning past (world_of desk names session done)
-    → IsAnswered beginning past session sentence file (refusal_entries 16 now) new_names
+    → IsAnsweredInRuns beginning past session sentence file (refusal_entries 16 now) new_names
     (reply.Refused refusal.NoMemory)
 memory_answers sentence desk session new_desk now h beginning past file names new_names done stands =
     λ run on.
-    without_memory run (row_step past session sentence file (refusal_entries 16 now) new_names) (mode_of session.mode)
+    without_memory run (step_on_rows past session sentence file (refusal_entries 16 now) new_names) (mode_of session.mode)
     sentence (h.left.own beginning past names new_names done file stands)
 
 -- ---- on rows
@@ -126,7 +126,7 @@ pub keeps_on_rows : (mode : Mode) (sentence : Sentence) (added : List JournalEnt
     → HasLeft mode sentence added entries_of None old.desk old.session now.desk now.session
     → OpenStays old.desk old.session now.session
     → ExecutesUnchanged sentence added old.desk old.session now.desk now.session → KeepsRows old now
-    → IsAnswered beginning past old.session sentence file added (names_of now.dictionaries) said
+    → IsAnsweredInRuns beginning past old.session sentence file added (names_of now.dictionaries) said
     → HasExecutedOnRows beginning past sentence old now said
 keeps_on_rows mode sentence added entries_of beginning past file old now said rows h turns x k answers =
     stays_on_rows beginning past sentence old now said rows
@@ -140,9 +140,9 @@ pub gives_back_on_rows : (mode : Mode) (sentence : Sentence) (added : List Journ
     (entries_of : SessionStep → List JournalEntry) (beginning : Beginning) (past : SessionPast) (file : LoadedFile)
     (old now : RowWorld) (said : Reply) → HasRows beginning past old
     → HasLeft mode sentence added entries_of None old.desk old.session now.desk now.session
-    → IsClosed (mode_of now.session.mode)
+    → NothingIsOpen (mode_of now.session.mode)
     → ExecutesUnchanged sentence added old.desk old.session now.desk now.session → GivesRowsBack old now
-    → IsAnswered beginning past old.session sentence file added (names_of now.dictionaries) said
+    → IsAnsweredInRuns beginning past old.session sentence file added (names_of now.dictionaries) said
     → HasExecutedOnRows beginning past sentence old now said
 gives_back_on_rows mode sentence added entries_of beginning past file old now said rows h turns x k answers =
     rolls_back_on_rows beginning past sentence old now said rows
@@ -189,7 +189,7 @@ changes_alone_on_rows sentence beginning past file c old now said rows h k runs 
 pub changes_inside_on_rows : (writer : Snapshot) (sentence : Sentence) (beginning : Beginning) (past : SessionPast)
     (file : LoadedFile) (c : CodedOperation) (old now : RowWorld) (said : Reply) → HasRows beginning past old
     → LeavesNothing writer sentence old.desk old.session now.desk now.session
-    → ChangesRows beginning writer.epoch c (λ place. IsChanged place c.change) old now
+    → ChangesRows beginning writer.epoch c (λ place. HasChange place c.change) old now
     → DoesInRuns beginning past sentence file [] c.done old now said
     → HasExecutedOnRows beginning past sentence old now said
 changes_inside_on_rows writer sentence beginning past file c old now said rows h k runs =
@@ -208,7 +208,7 @@ changes_inside_on_rows writer sentence beginning past file c old now said rows h
       coded = k.coded;
       change = k.change;
       same_mode = h.same_mode;
-      epoch = ap (λ (epoch : ℕ). Some epoch) is ∙ sym (ap epoch_in h.left.was);
+      epoch = ap (λ (epoch : ℕ). Some epoch) is ∙ sym (ap epoch_open_in h.left.was);
       below = omega (arith, below, is);
       moves = h.left.moves;
       held = k.held;
@@ -219,7 +219,7 @@ changes_inside_on_rows writer sentence beginning past file c old now said rows h
 pub refused_on_rows : (code : ℕ) (sentence : Sentence) (beginning : Beginning) (past : SessionPast) (file : LoadedFile)
     (old now : RowWorld) (said : Reply) → HasRows beginning past old
     → LeavesRefusal code sentence old.desk old.session now.desk now.session → KeepsRows old now
-    → IsAnswered beginning past old.session sentence file (refusal_entries code now.session)
+    → IsAnsweredInRuns beginning past old.session sentence file (refusal_entries code now.session)
     (names_of now.dictionaries) said
     → HasExecutedOnRows beginning past sentence old now said
 refused_on_rows code sentence beginning past file old now said rows h k answers =
@@ -238,7 +238,7 @@ memory_on_rows sentence beginning past file old now rows h k =
 pub reads_on_rows : (s : Statement) (beginning : Beginning) (past : SessionPast) (file : LoadedFile)
     (old now : RowWorld) (said : Reply) → HasRows beginning past old → is_select s ≡ true
     → LeavesReading (Says s) old.desk old.session now.desk now.session → KeepsRows old now
-    → IsAnswered beginning past old.session (Says s) file (reading_entries old.desk now.session)
+    → IsAnsweredInRuns beginning past old.session (Says s) file (reading_entries old.desk now.session)
     (names_of now.dictionaries) said
     → HasExecutedOnRows beginning past (Says s) old now said
 reads_on_rows s beginning past file old now said rows is_one h k answers =
@@ -248,7 +248,7 @@ reads_on_rows s beginning past file old now said rows is_one h k answers =
 pub reads_inside_on_rows : (writer : Snapshot) (s : Statement) (beginning : Beginning) (past : SessionPast)
     (file : LoadedFile) (old now : RowWorld) (said : Reply) → HasRows beginning past old → is_select s ≡ true
     → LeavesNothing writer (Says s) old.desk old.session now.desk now.session → KeepsRows old now
-    → IsAnswered beginning past old.session (Says s) file [] (names_of now.dictionaries) said
+    → IsAnsweredInRuns beginning past old.session (Says s) file [] (names_of now.dictionaries) said
     → HasExecutedOnRows beginning past (Says s) old now said
 reads_inside_on_rows writer s beginning past file old now said rows is_one h k answers =
     keeps_on_rows _ (Says s) [] _ beginning past file old now said rows h.left h.turns
@@ -257,7 +257,7 @@ reads_inside_on_rows writer s beginning past file old now said rows is_one h k a
 pub aborts_on_rows : (cause : AbortCause) (sentence : Sentence) (beginning : Beginning) (past : SessionPast)
     (file : LoadedFile) (old now : RowWorld) (said : Reply) → HasRows beginning past old
     → LeavesAbort cause sentence old.desk old.session now.desk now.session → KeepsRows old now
-    → IsAnswered beginning past old.session sentence file (abort_entries old.desk now.session cause)
+    → IsAnsweredInRuns beginning past old.session sentence file (abort_entries old.desk now.session cause)
     (names_of now.dictionaries) said
     → HasExecutedOnRows beginning past sentence old now said
 aborts_on_rows cause sentence beginning past file old now said rows h k answers =
@@ -267,7 +267,7 @@ aborts_on_rows cause sentence beginning past file old now said rows h k answers 
 pub aborts_back_on_rows : (cause : AbortCause) (sentence : Sentence) (beginning : Beginning) (past : SessionPast)
     (file : LoadedFile) (old now : RowWorld) (said : Reply) → HasRows beginning past old
     → LeavesAbort cause sentence old.desk old.session now.desk now.session → GivesRowsBack old now
-    → IsAnswered beginning past old.session sentence file (abort_entries old.desk now.session cause)
+    → IsAnsweredInRuns beginning past old.session sentence file (abort_entries old.desk now.session cause)
     (names_of now.dictionaries) said
     → HasExecutedOnRows beginning past sentence old now said
 aborts_back_on_rows cause sentence beginning past file old now said rows h k answers =
@@ -277,7 +277,7 @@ aborts_back_on_rows cause sentence beginning past file old now said rows h k ans
 pub ends_on_rows : (writer : Snapshot) (cause : AbortCause) (sentence : Sentence) (beginning : Beginning)
     (past : SessionPast) (file : LoadedFile) (old now : RowWorld) (said : Reply) → HasRows beginning past old
     → LeavesOpenAbort writer cause sentence old.desk old.session now.desk now.session → GivesRowsBack old now
-    → IsAnswered beginning past old.session sentence file (end_entries writer now.session cause)
+    → IsAnsweredInRuns beginning past old.session sentence file (end_entries writer now.session cause)
     (names_of now.dictionaries) said
     → HasExecutedOnRows beginning past sentence old now said
 ends_on_rows writer cause sentence beginning past file old now said rows h k answers =
@@ -302,7 +302,7 @@ HasItsFile sentence added desk session new_desk now x =
     (done : List DoneOperation) (said : Reply)
     (stands : StandsBehind beginning past (record { desk = desk; names = names; session = session; done = done }))
     (come : NamesOnlyCome names new_names)
-    (answers : IsAnswered beginning past session sentence file added new_names said)
+    (answers : IsAnsweredInRuns beginning past session sentence file added new_names said)
     → (x beginning past file names new_names done said stands come answers).after.files (last_number past + 1) ≡ file
 
 unchanged_file : (mode : Mode) (sentence : Sentence) (added : List JournalEntry)
@@ -317,7 +317,7 @@ unchanged_file mode sentence added entries_of committed desk session new_desk no
     λ beginning past file names new_names done said stands come answers.
     has_its_file beginning past sentence file added desk session new_desk now names new_names done None said stands
     h.adds come h.epochs
-    (λ run on. none run (row_step past session sentence file added new_names)
+    (λ run on. none run (step_on_rows past session sentence file added new_names)
     (h.own beginning past names new_names done file stands))
     answers
 
@@ -350,7 +350,7 @@ keeps_with_file : (mode : Mode) (sentence : Sentence) (added : List JournalEntry
     → OpenStays old.desk old.session now.session
     → (x : ExecutesUnchanged sentence added old.desk old.session now.desk now.session)
     → HasItsFile sentence added old.desk old.session now.desk now.session x → KeepsRows old now
-    → IsAnswered beginning past old.session sentence file added (names_of now.dictionaries) said
+    → IsAnsweredInRuns beginning past old.session sentence file added (names_of now.dictionaries) said
     → HasExecutedWithFile beginning past sentence file old now said
 keeps_with_file mode sentence added entries_of beginning past file old now said rows h turns x its k answers =
     let done = done_operations old.coded in
@@ -376,10 +376,10 @@ gives_back_with_file : (mode : Mode) (sentence : Sentence) (added : List Journal
     (entries_of : SessionStep → List JournalEntry) (beginning : Beginning) (past : SessionPast) (file : LoadedFile)
     (old now : RowWorld) (said : Reply) → HasRows beginning past old
     → HasLeft mode sentence added entries_of None old.desk old.session now.desk now.session
-    → IsClosed (mode_of now.session.mode)
+    → NothingIsOpen (mode_of now.session.mode)
     → (x : ExecutesUnchanged sentence added old.desk old.session now.desk now.session)
     → HasItsFile sentence added old.desk old.session now.desk now.session x → GivesRowsBack old now
-    → IsAnswered beginning past old.session sentence file added (names_of now.dictionaries) said
+    → IsAnsweredInRuns beginning past old.session sentence file added (names_of now.dictionaries) said
     → HasExecutedWithFile beginning past sentence file old now said
 gives_back_with_file mode sentence added entries_of beginning past file old now said rows h turns x its k answers =
     let done = done_operations old.coded in
@@ -404,7 +404,7 @@ gives_back_with_file mode sentence added entries_of beginning past file old now 
 pub refused_with_file : (code : ℕ) (sentence : Sentence) (beginning : Beginning) (past : SessionPast)
     (file : LoadedFile) (old now : RowWorld) (said : Reply) → HasRows beginning past old
     → LeavesRefusal code sentence old.desk old.session now.desk now.session → KeepsRows old now
-    → IsAnswered beginning past old.session sentence file (refusal_entries code now.session)
+    → IsAnsweredInRuns beginning past old.session sentence file (refusal_entries code now.session)
     (names_of now.dictionaries) said
     → HasExecutedWithFile beginning past sentence file old now said
 refused_with_file code sentence beginning past file old now said rows h k answers =
@@ -414,9 +414,9 @@ refused_with_file code sentence beginning past file old now said rows h k answer
 
 pub refused_back_with_file : (code : ℕ) (sentence : Sentence) (beginning : Beginning) (past : SessionPast)
     (file : LoadedFile) (old now : RowWorld) (said : Reply) → HasRows beginning past old
-    → LeavesRefusal code sentence old.desk old.session now.desk now.session → IsClosed (mode_of now.session.mode)
+    → LeavesRefusal code sentence old.desk old.session now.desk now.session → NothingIsOpen (mode_of now.session.mode)
     → GivesRowsBack old now
-    → IsAnswered beginning past old.session sentence file (refusal_entries code now.session)
+    → IsAnsweredInRuns beginning past old.session sentence file (refusal_entries code now.session)
     (names_of now.dictionaries) said
     → HasExecutedWithFile beginning past sentence file old now said
 refused_back_with_file code sentence beginning past file old now said rows h closed k answers =
@@ -427,7 +427,7 @@ refused_back_with_file code sentence beginning past file old now said rows h clo
 pub aborts_with_file : (cause : AbortCause) (sentence : Sentence) (beginning : Beginning) (past : SessionPast)
     (file : LoadedFile) (old now : RowWorld) (said : Reply) → HasRows beginning past old
     → LeavesAbort cause sentence old.desk old.session now.desk now.session → GivesRowsBack old now
-    → IsAnswered beginning past old.session sentence file (abort_entries old.desk now.session cause)
+    → IsAnsweredInRuns beginning past old.session sentence file (abort_entries old.desk now.session cause)
     (names_of now.dictionaries) said
     → HasExecutedWithFile beginning past sentence file old now said
 aborts_with_file cause sentence beginning past file old now said rows h k answers =
@@ -438,7 +438,7 @@ aborts_with_file cause sentence beginning past file old now said rows h k answer
 pub ends_with_file : (writer : Snapshot) (cause : AbortCause) (sentence : Sentence) (beginning : Beginning)
     (past : SessionPast) (file : LoadedFile) (old now : RowWorld) (said : Reply) → HasRows beginning past old
     → LeavesOpenAbort writer cause sentence old.desk old.session now.desk now.session → GivesRowsBack old now
-    → IsAnswered beginning past old.session sentence file (end_entries writer now.session cause)
+    → IsAnsweredInRuns beginning past old.session sentence file (end_entries writer now.session cause)
     (names_of now.dictionaries) said
     → HasExecutedWithFile beginning past sentence file old now said
 ends_with_file writer cause sentence beginning past file old now said rows h k answers =
@@ -471,7 +471,7 @@ changes_alone_with_file sentence beginning past file c old now said rows h k run
 pub changes_inside_with_file : (writer : Snapshot) (sentence : Sentence) (beginning : Beginning) (past : SessionPast)
     (file : LoadedFile) (c : CodedOperation) (old now : RowWorld) (said : Reply) → HasRows beginning past old
     → LeavesNothing writer sentence old.desk old.session now.desk now.session
-    → ChangesRows beginning writer.epoch c (λ place. IsChanged place c.change) old now
+    → ChangesRows beginning writer.epoch c (λ place. HasChange place c.change) old now
     → DoesInRuns beginning past sentence file [] c.done old now said
     → HasExecutedWithFile beginning past sentence file old now said
 unfolding changes_inside_on_rows

@@ -20,7 +20,7 @@ use Rattle.session_replies.specs.Modes.{mode_of}
 use Rattle.session_replies.specs.RowEntries.{open_abort}
 use Rattle.session_desk.specs.declared.session.Session.{Session}
 use Rattle.session_desk.specs.AtDesk.{IsAtDesk, IsServing, change_epoch, desk_with_entries}
-use Rattle.session_desk.specs.Moves.{IsClosed}
+use Rattle.session_desk.specs.Moves.{NothingIsOpen}
 use Rattle.session_desk.specs.RowsDone.{next_change}
 use Rattle.session_desk.proofs.Finishing.{held_here}
 use Rattle.session_desk.proofs.Moving.{moves_by, moves_same}
@@ -73,6 +73,7 @@ leaves_nothing writer sentence desk session new_desk now at h =
         numbered = tt;
         owners = refl;
         no_cube = λ run. refl;
+        speaks_of_none = refl;
         own = λ beginning past names new_names done file stands.
             record { mode_is = open_is; sentence_is = refl; entries_are = refl };
         serving =
@@ -169,6 +170,7 @@ leaves_open_abort writer cause sentence desk session new_desk now at h =
             numbered = (omega arith, omega arith, tt);
             owners = refl;
             no_cube = λ run. refl;
+            speaks_of_none = refl;
             own = λ beginning past names new_names done file stands.
                 let number =
                 number_of past sentence file added new_names session now stands.number h.counted.statements
@@ -192,5 +194,5 @@ leaves_open_abort writer cause sentence desk session new_desk now at h =
                 let last = serving.writer.last in
                 omega (arith, low, high, next, last);
           });
-      turns = subst IsClosed (sym now_is) tt;
+      turns = subst NothingIsOpen (sym now_is) tt;
     }

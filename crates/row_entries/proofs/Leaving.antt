@@ -1,6 +1,6 @@
 -- What a group of entries has to be so that a statement on rows has left it.
-use Rattle.std.proofs.Common.{◌≡◌, ◌∙◌, ℕ, ◌+◌, ◌≤◌, true, List, [], ◌∷◌, Option, None, fold, refl, sym, ap, subst, arith, length-append}
-use Rattle.std.specs.List.{filter_map, list_all}
+use Rattle.std.proofs.Common.{◌≡◌, ◌∙◌, ℕ, ◌+◌, ◌≤◌, true, false, List, [], ◌∷◌, Option, None, fold, refl, sym, ap, subst, arith, length-append}
+use Rattle.std.specs.List.{filter_map, list_all, list_any}
 use Rattle.cube_journal.specs.Counters.{JournalState, state_after}
 use Rattle.cube_journal.specs.declared.journal_entry.JournalEntry.{JournalEntry}
 use Rattle.cube_journal.specs.declared.journal_entry.JournalEntry.TheVariants as entry
@@ -11,7 +11,7 @@ use Rattle.cube_run.specs.SessionSteps.{SessionStep, session_part}
 use Rattle.played_scripts.specs.PlayedRuns.{AreNumbered}
 use Rattle.one_session.specs.Pasts.{SessionPast, has_one_owner, last_number}
 use Rattle.aosi_register.specs.State.{state_of}
-use Rattle.aosi_desk.specs.Desks.{DeskState}
+use Rattle.aosi_desk.specs.Desks.{DeskState, speaks_of_cubes}
 use Rattle.session_replies.specs.Modes.{mode_of}
 use Rattle.session_desk.specs.declared.session.Session.{Session}
 use Rattle.session_desk.specs.AtDesk.{IsAtDesk, IsServing, change_epoch, desk_with_entries}
@@ -33,6 +33,7 @@ pub record IsGroup (mode : Mode) (sentence : Sentence) (added : List JournalEntr
   pub numbered : AreNumbered now.statements now.statements (session_part 1 added)
   pub owners : list_all has_one_owner added ≡ true
   pub no_cube : (run : RunRecord) → filter_map (made_by run) added ≡ []
+  pub speaks_of_none : list_any speaks_of_cubes added ≡ false
   pub own : AreItsEntries mode sentence added entries_of desk session
   pub serving : IsServing (state_of new_desk.register) desk.register.safe (mode_of now.mode)
   pub moves : MovesOn committed desk new_desk
@@ -67,6 +68,7 @@ has_left mode sentence added entries_of committed desk session new_desk now at g
     own = g.numbered;
     owners = g.owners;
     no_cube = g.no_cube;
+    speaks_of_none = g.speaks_of_none;
   };
   own = g.own;
   moves = g.moves;

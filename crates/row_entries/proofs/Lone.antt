@@ -1,5 +1,5 @@
 -- A refusal alone, a reader of its own, and no entry.
-use Rattle.std.proofs.Common.{◌≡◌, ◌∙◌, ℕ, ◌+◌, ◌-◌, ◌≤◌, false, List, [], ◌∷◌, ◌++◌, None, fold, refl, sym, ap, subst, arith}
+use Rattle.std.proofs.Common.{◌≡◌, ◌∙◌, ℕ, ◌+◌, ◌-◌, ◌≤◌, Bool, false, ◌||◌, List, [], ◌∷◌, ◌++◌, None, fold, refl, sym, ap, subst, arith}
 use Rattle.std.specs.Prelude.{min}
 use Rattle.std.proofs.Math.Nat.{add-zero}
 use Rattle.cube_values.specs.declared.snapshot.Snapshot.{Snapshot}
@@ -10,7 +10,7 @@ use Rattle.cube_journal.specs.declared.journal_entry.JournalEntry.TheVariants as
 use Rattle.cube_run.specs.RunRecords.{Sentence}
 use Rattle.cube_run.specs.SessionStates.{Mode, Idle, mode_after}
 use Rattle.aosi_register.specs.State.{after_read, state_of}
-use Rattle.aosi_desk.specs.Desks.{DeskState, desk_over}
+use Rattle.aosi_desk.specs.Desks.{DeskState, desk_over, is_cube_code}
 use Rattle.session_replies.specs.Modes.{mode_of}
 use Rattle.session_replies.specs.RowEntries.{lone_refusal, own_reading}
 use Rattle.session_desk.specs.declared.session.Session.{Session}
@@ -38,9 +38,9 @@ few_commits session now h = let same = h.commits in omega (arith, same)
 -- ---- a refusal alone
 
 pub leaves_refusal : (code : ℕ) (sentence : Sentence) (desk : DeskState) (session : Session) (new_desk : DeskState)
-    (now : Session) → IsAtDesk desk session → NotesRefusal code desk session new_desk now
+    (now : Session) → is_cube_code code ≡ false → IsAtDesk desk session → NotesRefusal code desk session new_desk now
     → LeavesRefusal code sentence desk session new_desk now
-leaves_refusal code sentence desk session new_desk now at h =
+leaves_refusal code sentence desk session new_desk now other at h =
     let added : List JournalEntry = entry.Refused 1 now.statements code ∷ [] in
     let mode = mode_of session.mode in
     let still = refused_still 1 now.statements code in
@@ -60,6 +60,7 @@ leaves_refusal code sentence desk session new_desk now at h =
         numbered = (omega arith, omega arith, tt);
         owners = refl;
         no_cube = λ run. refl;
+        speaks_of_none = ap (λ (b : Bool). b || false) other;
         own = λ beginning past names new_names done file stands.
             let number =
             number_of past sentence file added new_names session now stands.number h.counted.statements
@@ -144,6 +145,7 @@ leaves_reading sentence desk session new_desk now at h =
         numbered = (omega arith, omega arith, (omega arith, omega arith, tt));
         owners = refl;
         no_cube = λ run. refl;
+        speaks_of_none = refl;
         own = λ beginning past names new_names done file stands.
             let number =
             number_of past sentence file added new_names session now stands.number h.counted.statements

@@ -16,10 +16,10 @@ use Rattle.session_replies.specs.Modes.{mode_of}
 use Rattle.session_replies.specs.RowEntries.{IsRoundAfter, lone_refusal, open_abort, own_abort, own_commit, own_reading}
 use Rattle.session_desk.specs.declared.session.Session.{Session}
 use Rattle.session_desk.specs.AtDesk.{IsAtDesk}
-use Rattle.session_desk.specs.Moves.{IsClosed, MovesOn, OpenStays}
+use Rattle.session_desk.specs.Moves.{NothingIsOpen, MovesOn, OpenStays}
 use Rattle.session_desk.specs.RowsDone.{EpochsRise, next_change, past_with}
 use Rattle.session_desk.specs.Standing.{StandsBehind}
-use Rattle.row_entries.specs.LeftEntries.{HasLeft, row_step}
+use Rattle.row_entries.specs.LeftEntries.{HasLeft, step_on_rows}
 
 -- ---- the entries
 
@@ -88,7 +88,7 @@ HasItsRound sentence added round desk session =
     (done : List DoneOperation) (file : LoadedFile) (run : RunRecord)
     → StandsBehind beginning past (record { desk = desk; names = names; session = session; done = done })
     → GoesOn beginning (past_with past sentence file added new_names) run
-    → IsRoundAfter run (row_step past session sentence file added new_names) (session_part 1 round)
+    → IsRoundAfter run (step_on_rows past session sentence file added new_names) (session_part 1 round)
 
 -- A transaction of its own, of the next epoch, that is committed, and a round where one is due: a change has that
 -- epoch.
@@ -99,7 +99,7 @@ pub record LeavesCommit (sentence : Sentence) (desk : DeskState) (session : Sess
       (λ step. own_commit step (state_of desk.register).ec (state_of desk.register).pending (session_part 1 round))
       (Some (state_of desk.register).ec) desk session new_desk now
   pub follows : HasItsRound sentence (commit_entries desk now round) round desk session
-  pub turns : IsClosed (mode_of now.mode)
+  pub turns : NothingIsOpen (mode_of now.mode)
   pub later : (state_of desk.register).ec < (state_of new_desk.register).ec
   pub change : IsNextAt (state_of desk.register).ec (commit_entries desk now round) desk session new_desk now
 
@@ -108,7 +108,7 @@ pub record HasCommitted (desk : DeskState) (session : Session) (new_desk : DeskS
   pub at : IsAtDesk new_desk now
   pub cubes : new_desk.cubes ≡ desk.cubes
   pub moves : MovesOn (Some (state_of desk.register).ec) desk new_desk
-  pub turns : IsClosed (mode_of now.mode)
+  pub turns : NothingIsOpen (mode_of now.mode)
   pub later : (state_of desk.register).ec < (state_of new_desk.register).ec
 
 -- A transaction of its own that is aborted.
@@ -118,11 +118,11 @@ pub record LeavesAbort (cause : AbortCause) (sentence : Sentence) (desk : DeskSt
       (λ step. own_abort step (state_of desk.register).ec (state_of desk.register).pending cause) None desk session
       new_desk now
   pub turns : OpenStays desk session now
-  pub closed : IsClosed (mode_of now.mode)
+  pub closed : NothingIsOpen (mode_of now.mode)
 
 -- The end of the transaction that is open, by which it is aborted.
 pub record LeavesOpenAbort (writer : Snapshot) (cause : AbortCause) (sentence : Sentence) (desk : DeskState)
     (session : Session) (new_desk : DeskState) (now : Session) : Type 0 where
   pub left : HasLeft (Open writer) sentence (end_entries writer now cause)
       (λ step. open_abort step writer.epoch cause) None desk session new_desk now
-  pub turns : IsClosed (mode_of now.mode)
+  pub turns : NothingIsOpen (mode_of now.mode)

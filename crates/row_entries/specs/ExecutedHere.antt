@@ -18,14 +18,14 @@ use Rattle.session_desk.specs.Standing.{StandsBehind}
 use Rattle.session_rows.specs.Coded.{CodedOperation}
 use Rattle.session_rows.specs.RowsBehind.{RowWorld}
 use Rattle.session_rows.specs.RowsExecuted.{GoesBack, HasExecutedOnRows, IsNewChange, OfEachCube, StaysHeld}
-use Rattle.row_entries.specs.LeftEntries.{row_step}
+use Rattle.row_entries.specs.LeftEntries.{step_on_rows}
 
 -- Each run that goes on answers the statement so.
-abbrev pub IsAnswered : Beginning → SessionPast → Session → Sentence → LoadedFile → List JournalEntry
+abbrev pub IsAnsweredInRuns : Beginning → SessionPast → Session → Sentence → LoadedFile → List JournalEntry
     → List (List (List (List ℕ))) → Reply → Type 0
-IsAnswered beginning past session sentence file added names said =
+IsAnsweredInRuns beginning past session sentence file added names said =
     (run : RunRecord) → GoesOn beginning (past_with past sentence file added names) run
-    → IsReply run (row_step past session sentence file added names) said
+    → IsReply run (step_on_rows past session sentence file added names) said
 
 -- The statement is executed and changes no row, whatever is behind the session, where names only come and each run that
 -- goes on answers it so.
@@ -34,7 +34,7 @@ ExecutesUnchanged sentence added desk session new_desk now =
     (beginning : Beginning) (past : SessionPast) (file : LoadedFile) (names new_names : List (List (List (List ℕ))))
     (done : List DoneOperation) (said : Reply)
     → StandsBehind beginning past (record { desk = desk; names = names; session = session; done = done })
-    → NamesOnlyCome names new_names → IsAnswered beginning past session sentence file added new_names said
+    → NamesOnlyCome names new_names → IsAnsweredInRuns beginning past session sentence file added new_names said
     → HasExecuted beginning past sentence
     (record { desk = desk; names = names; session = session; done = done })
     (record { desk = new_desk; names = new_names; session = now; done = done })
@@ -67,8 +67,8 @@ pub record ChangesRows (beginning : Beginning) (epoch : ℕ) (c : CodedOperation
 pub record DoesInRuns (beginning : Beginning) (past : SessionPast) (sentence : Sentence) (file : LoadedFile)
     (added : List JournalEntry) (o : DoneOperation) (old now : RowWorld) (said : Reply) : Type 0 where
   pub does : HasDone beginning (past_with past sentence file added (names_of now.dictionaries))
-      (row_step past old.session sentence file added (names_of now.dictionaries)) (Some o)
-  pub answers : IsAnswered beginning past old.session sentence file added (names_of now.dictionaries) said
+      (step_on_rows past old.session sentence file added (names_of now.dictionaries)) (Some o)
+  pub answers : IsAnsweredInRuns beginning past old.session sentence file added (names_of now.dictionaries) said
 
 -- A statement is executed on rows, and its file gave this.
 pub record HasExecutedWithFile (beginning : Beginning) (past : SessionPast) (sentence : Sentence) (file : LoadedFile)

@@ -18,9 +18,9 @@ use Rattle.session_desk.specs.RowsDone.{AddsEntries, next_change, past_with}
 use Rattle.session_desk.specs.Standing.{StandsBehind, session_state}
 
 -- The step of a statement on rows, with what its file gave and the dictionaries after it.
-abbrev pub row_step : SessionPast → Session → Sentence → LoadedFile → List JournalEntry → List (List (List (List ℕ)))
+abbrev pub step_on_rows : SessionPast → Session → Sentence → LoadedFile → List JournalEntry → List (List (List (List ℕ)))
     → SessionStep
-row_step past session sentence file added names =
+step_on_rows past session sentence file added names =
     last_step (past_with past sentence file added names) (session_state session) sentence added
 
 -- Whatever is behind the session, and whatever names come, the entries are those of the statement's step in this mode.
@@ -30,8 +30,8 @@ AreItsEntries mode sentence added entries_of desk session =
     (beginning : Beginning) (past : SessionPast) (names new_names : List (List (List (List ℕ))))
     (done : List DoneOperation) (file : LoadedFile)
     → StandsBehind beginning past (record { desk = desk; names = names; session = session; done = done })
-    → IsStep (row_step past session sentence file added new_names) mode sentence
-    (entries_of (row_step past session sentence file added new_names))
+    → IsStep (step_on_rows past session sentence file added new_names) mode sentence
+    (entries_of (step_on_rows past session sentence file added new_names))
 
 -- The session was in this mode. The desk serves it as it then is, and has the statement's entries more, by which a
 -- transaction of the session is committed, or none; the epoch of the next change does not fall.

@@ -17,9 +17,9 @@ ghost use Rattle.aosi_desk.specs.Desks.{DeskState};
 ghost use Rattle.session_desk.specs.declared.session.Session.{Session};
 ghost use Rattle.session_rows.specs.Coded.{CodedOperation};
 ghost use Rattle.session_rows.specs.RowsBehind.{HasRows, RowWorld};
-ghost use Rattle.session_rows.specs.RowsExecuted.{HasExecutedOnRows, IsChanged, IsChangedAndKept};
+ghost use Rattle.session_rows.specs.RowsExecuted.{HasExecutedOnRows, HasChange, IsChangedAndKept};
 ghost use Rattle.row_entries.specs.EntryGroups.{LeavesAbort, LeavesCommit, LeavesNothing, LeavesOpenAbort, LeavesReading, LeavesRefusal, abort_entries, commit_entries, end_entries, reading_entries, refusal_entries};
-ghost use Rattle.row_entries.specs.ExecutedHere.{ChangesRows, DoesInRuns, ExecutesUnchanged, GivesRowsBack, IsAnswered, KeepsRows};
+ghost use Rattle.row_entries.specs.ExecutedHere.{ChangesRows, DoesInRuns, ExecutesUnchanged, GivesRowsBack, IsAnsweredInRuns, KeepsRows};
 
 /// A statement that is refused, that reads, or whose transaction is aborted is executed at the desk and changes no
 /// rows, also where names have come.
@@ -53,7 +53,7 @@ pub fn refusals_are_executed_on_rows()
         (file : LoadedFile) (old now : RowWorld) (said : Reply)
         → HasRows beginning past old
         → LeavesRefusal code sentence old.desk old.session now.desk now.session → KeepsRows old now
-        → IsAnswered beginning past old.session sentence file (refusal_entries code now.session)
+        → IsAnsweredInRuns beginning past old.session sentence file (refusal_entries code now.session)
         (names_of now.dictionaries) said
         → HasExecutedOnRows beginning past sentence old now said }
     ensures no_memory { (sentence : Sentence) (beginning : Beginning) (past : SessionPast)
@@ -69,7 +69,7 @@ pub fn selects_are_executed_on_rows()
         (file : LoadedFile) (old now : RowWorld) (said : Reply)
         → HasRows beginning past old → is_select s ≡ true
         → LeavesReading (Says s) old.desk old.session now.desk now.session → KeepsRows old now
-        → IsAnswered beginning past old.session (Says s) file
+        → IsAnsweredInRuns beginning past old.session (Says s) file
         (reading_entries old.desk now.session) (names_of now.dictionaries) said
         → HasExecutedOnRows beginning past (Says s) old now said }
     ensures inside { (writer : Snapshot) (s : Statement) (beginning : Beginning)
@@ -77,7 +77,7 @@ pub fn selects_are_executed_on_rows()
         → HasRows beginning past old → is_select s ≡ true
         → LeavesNothing writer (Says s) old.desk old.session now.desk now.session
         → KeepsRows old now
-        → IsAnswered beginning past old.session (Says s) file [] (names_of now.dictionaries) said
+        → IsAnsweredInRuns beginning past old.session (Says s) file [] (names_of now.dictionaries) said
         → HasExecutedOnRows beginning past (Says s) old now said }
 {}
 
@@ -88,7 +88,7 @@ pub fn aborts_are_executed_on_rows()
         (past : SessionPast) (file : LoadedFile) (old now : RowWorld) (said : Reply)
         → HasRows beginning past old
         → LeavesAbort cause sentence old.desk old.session now.desk now.session → KeepsRows old now
-        → IsAnswered beginning past old.session sentence file
+        → IsAnsweredInRuns beginning past old.session sentence file
         (abort_entries old.desk now.session cause) (names_of now.dictionaries) said
         → HasExecutedOnRows beginning past sentence old now said }
     ensures alone_back { (cause : AbortCause) (sentence : Sentence) (beginning : Beginning)
@@ -96,7 +96,7 @@ pub fn aborts_are_executed_on_rows()
         → HasRows beginning past old
         → LeavesAbort cause sentence old.desk old.session now.desk now.session
         → GivesRowsBack old now
-        → IsAnswered beginning past old.session sentence file
+        → IsAnsweredInRuns beginning past old.session sentence file
         (abort_entries old.desk now.session cause) (names_of now.dictionaries) said
         → HasExecutedOnRows beginning past sentence old now said }
     ensures inside { (writer : Snapshot) (cause : AbortCause) (sentence : Sentence)
@@ -105,7 +105,7 @@ pub fn aborts_are_executed_on_rows()
         → HasRows beginning past old
         → LeavesOpenAbort writer cause sentence old.desk old.session now.desk now.session
         → GivesRowsBack old now
-        → IsAnswered beginning past old.session sentence file
+        → IsAnsweredInRuns beginning past old.session sentence file
         (end_entries writer now.session cause) (names_of now.dictionaries) said
         → HasExecutedOnRows beginning past sentence old now said }
 {}
@@ -127,7 +127,7 @@ pub fn changes_are_executed_on_rows()
         (said : Reply)
         → HasRows beginning past old
         → LeavesNothing writer sentence old.desk old.session now.desk now.session
-        → ChangesRows beginning writer.epoch c (λ place. IsChanged place c.change) old now
+        → ChangesRows beginning writer.epoch c (λ place. HasChange place c.change) old now
         → DoesInRuns beginning past sentence file [] c.done old now said
         → HasExecutedOnRows beginning past sentence old now said }
 {}

@@ -1,20 +1,22 @@
 //! What the calls at the desk leave for a statement on rows, whatever it says. INSERT, LOAD, DELETE and SELECT stand on
 //! these laws.
 
-ghost use Rattle.std.specs.Prelude.{◌≡◌, ℕ};
+ghost use Rattle.std.specs.Prelude.{◌≡◌, ℕ, false};
 ghost use Rattle.cube_values.specs.declared.snapshot.Snapshot.{Snapshot};
 ghost use Rattle.cube_journal.specs.declared.journal_entry.AbortCause.{AbortCause};
 ghost use Rattle.cube_run.specs.RunRecords.{Sentence};
-ghost use Rattle.aosi_desk.specs.Desks.{DeskState};
+ghost use Rattle.aosi_desk.specs.Desks.{DeskState, is_cube_code};
 ghost use Rattle.session_desk.specs.declared.session.Session.{Session};
 ghost use Rattle.session_desk.specs.AtDesk.{IsAtDesk};
 ghost use Rattle.row_entries.specs.RowCalls.{AbortsAlone, AbortsOpen, CommitsAlone, IsFollowed, NotesNothing, NotesRefusal, ReadsAlone};
 ghost use Rattle.row_entries.specs.EntryGroups.{HasCommitted, LeavesAbort, LeavesCommit, LeavesNothing, LeavesOpenAbort, LeavesReading, LeavesRefusal};
 
-/// A refusal alone, of an INSERT, a LOAD, a DELETE or a SELECT, in whatever mode.
+/// A refusal alone, of an INSERT, a LOAD, a DELETE or a SELECT, in whatever mode, which does not speak of the list of
+/// cubes.
 pub fn a_lone_refusal_is_left()
     ensures { (code : ℕ) (sentence : Sentence) (desk : DeskState) (session : Session)
         (new_desk : DeskState) (now : Session)
+        → is_cube_code code ≡ false
         → IsAtDesk desk session → NotesRefusal code desk session new_desk now
         → LeavesRefusal code sentence desk session new_desk now }
 {}

@@ -1,15 +1,18 @@
 -- What holds of a LOAD by what its file gave.
-use Rattle.std.proofs.Common.{◌≡◌, inl, inr, ℕ, None, Ok, Err, refl, subst}
+use Rattle.std.proofs.Common.{◌≡◌, inl, inr, ℕ, None, Ok, Err, refl, sym, ap, subst}
 use Rattle.cube_values.specs.declared.call_error.CallError.{CallError}
 use Rattle.cube_values.specs.declared.call_error.CallError.TheVariants.{Fault, NoMemory}
 use Rattle.cube_language.specs.declared.decl.Decl.{Decl}
 use Rattle.cube_language.specs.declared.statement.Statement.{Statement}
 use Rattle.cube_journal.specs.declared.journal_entry.AbortCause.TheVariants as abort
+use Rattle.cube_journal.specs.declared.refusal.Refusal.TheVariants as refusal
+use Rattle.cube_journal.specs.declared.reply.Reply.TheVariants as reply
 use Rattle.cube_run.specs.RunRecords.{Says}
 use Rattle.cube_run.specs.SessionStates.{Mode, Idle, Open, Aborted}
 use Rattle.cube_run.specs.StepOutcomes.{refused_by_mode}
 use Rattle.names_dict.specs.Dictionaries.{names_of}
 use Rattle.query_plan.specs.Bindings.{IsBoundTo}
+use Rattle.outside.specs.Given.{missing, too_long, whole}
 use Rattle.outside.specs.declared.reading.FileFault.{FileFault}
 use Rattle.outside.specs.declared.reading.FileFault.TheVariants.{Absent, TooLong, Failed}
 use Rattle.csv_load.specs.Loads.{LoadState}
@@ -20,16 +23,18 @@ use Rattle.session_desk.specs.declared.answered.Answered.{Answered}
 use Rattle.session_desk.specs.declared.answered.Answered.TheVariants.{Replied, Stopped}
 use Rattle.session_desk.specs.declared.session.Session.{Session}
 use Rattle.session_desk.specs.Executed.{IfReplied}
+use Rattle.session_desk.specs.FileReplies.{IsRefusedUnread}
 use Rattle.session_rows.specs.CubesAtDesk.{AreWholeCubes, ExecutesOnRows, IsAtCubes}
 use Rattle.session_rows.specs.declared.cubes.Cubes.{Cubes}
 use Rattle.row_entries.proofs.Inside.{leaves_open_abort}
 use Rattle.row_entries.proofs.Lone.{leaves_refusal}
 use Rattle.row_changes.specs.ChangedCubes.{ExecutesWithNames}
 use Rattle.row_loads.specs.LoadEnds.{EndsUnopened, IsLive}
-use Rattle.row_loads.specs.LoadsDone.{LoadsItsBytes, LoadsOnRows, LoadsWith}
-use Rattle.row_loads.specs.LoadsFromShelf.{CountsLoad, LoadsFromShelf, LoadsItsFile, ShelfSeen, path_loaded}
-use Rattle.row_loads.proofs.GrownCubes.{come_none}
+use Rattle.row_loads.specs.LoadsDone.{LoadsItsBytes, LoadsWith}
+use Rattle.row_loads.specs.LoadsFromShelf.{CountsLoad, IsOfRecords, LoadsFromShelf, LoadsItsFile, ShelfSeen, path_loaded}
+use Rattle.session_rows.proofs.ComingNames.{come_none}
 use Rattle.row_loads.proofs.LoadedRuns.{load_of}
+use Rattle.row_loads.proofs.MovedLoads.{moved_load}
 use Rattle.row_loads.proofs.Unloaded.{aborts_unread, forgets_at_once, refuses_missing, refuses_too_long, refuses_unread}
 
 pub live : (mode : Mode) (s : Statement) (allowed : ℕ) → LoadsWith s allowed → refused_by_mode mode s ≡ None → IsLive mode
@@ -45,10 +50,11 @@ module _ (seen : ShelfSeen) (s : Statement) (allowed place : ℕ) (d : Decl) (de
     (bound : IsBoundTo cubes.schemas.items s place d) (new_desk : DeskState) (now : Session) (after : Cubes) where
   pub opened_executes : (load : LoadState)
       → OpensLoad seen.told seen.calls seen.new_calls (path_loaded s) d (Ok load) → CountsLoad seen (Ok load)
-      → (result : Answered) → IfReplied result (LoadsItsBytes load (Says s) desk session cubes new_desk now after)
+      → (result : Answered) → IfReplied result IsOfRecords
+      → IfReplied result (LoadsItsBytes load (Says s) desk session cubes new_desk now after)
       → IfReplied result (LoadsItsFile seen s desk session cubes new_desk now after)
-  opened_executes load opened counts Stopped h = tt
-  opened_executes load opened counts (Replied said) h =
+  opened_executes load opened counts Stopped answered h = tt
+  opened_executes load opened counts (Replied said) answered h =
       let bytes = opened.shown.0 in
       let begins = opened.shown.2 in
       record {
@@ -58,9 +64,10 @@ module _ (seen : ShelfSeen) (s : Statement) (allowed place : ℕ) (d : Decl) (de
         answer = Ok load;
         opened = opened;
         counts = counts;
-        refused = tt;
+        answered = answered;
         loads =
-            coe 1 0 (i. LoadsOnRows (loaded_file (opened.shown.1 i)) (Says s) desk session cubes new_desk now after said)
+            moved_load (loaded_file (whole bytes)) (loaded_file opened.given) (Says s) desk session cubes new_desk now
+            after after said said (ap loaded_file opened.shown.1) refl refl refl
             (h bytes (record { cube = refl; none = begins.none; all = begins.all }));
       }
 
@@ -76,12 +83,13 @@ module _ (seen : ShelfSeen) (s : Statement) (allowed place : ℕ) (d : Decl) (de
     answer = Err (Fault Absent);
     opened = opened;
     counts = counts;
-    refused = h.says;
+    answered = h.says;
     loads =
-        coe 1 0 (i. LoadsOnRows (loaded_file (opened.shown i)) (Says s) desk session cubes new_desk now (h.same_cubes i)
-        (h.says i))
+        moved_load (loaded_file missing) (loaded_file opened.given) (Says s) desk session cubes new_desk now cubes after
+        (reply.Refused refusal.NoSuchFile) said (ap loaded_file opened.shown) (ap (λ (c : Cubes). c.names) (sym h.same_cubes))
+        (ap (λ (c : Cubes). c.rows) (sym h.same_cubes)) h.says
         (refuses_missing s allowed place d desk session cubes (load_of s allowed form) at bound new_desk now
-        (leaves_refusal 8 (Says s) desk session new_desk now at.desk_is h.noted) may);
+        (leaves_refusal 8 (Says s) desk session new_desk now refl at.desk_is h.noted) may);
   }
   unopened_executes (Fault (TooLong size)) may opened counts (Replied said) h = record {
     place = place;
@@ -90,12 +98,13 @@ module _ (seen : ShelfSeen) (s : Statement) (allowed place : ℕ) (d : Decl) (de
     answer = Err (Fault (TooLong size));
     opened = opened;
     counts = counts;
-    refused = h.says;
+    answered = h.says;
     loads =
-        coe 1 0 (i. LoadsOnRows (loaded_file (opened.shown i)) (Says s) desk session cubes new_desk now (h.same_cubes i)
-        (h.says i))
+        moved_load (loaded_file (too_long size)) (loaded_file opened.given) (Says s) desk session cubes new_desk now cubes after
+        (reply.Refused (refusal.FileTooLong size)) said (ap loaded_file opened.shown) (ap (λ (c : Cubes). c.names) (sym h.same_cubes))
+        (ap (λ (c : Cubes). c.rows) (sym h.same_cubes)) h.says
         (refuses_too_long s allowed place d desk session cubes (load_of s allowed form) at bound new_desk now size
-        (leaves_refusal 9 (Says s) desk session new_desk now at.desk_is h.noted) may);
+        (leaves_refusal 9 (Says s) desk session new_desk now refl at.desk_is h.noted) may);
   }
   unopened_executes (Fault Failed) may opened counts (Replied said) (inl h) = record {
     place = place;
@@ -104,13 +113,14 @@ module _ (seen : ShelfSeen) (s : Statement) (allowed place : ℕ) (d : Decl) (de
     answer = Err (Fault Failed);
     opened = opened;
     counts = counts;
-    refused = h.notes.says;
+    answered = h.notes.says;
     loads =
-        coe 1 0 (i. LoadsOnRows (loaded_file opened.given) (Says s) desk session cubes new_desk now
-        (h.notes.same_cubes i) (h.notes.says i))
+        moved_load (loaded_file opened.given) (loaded_file opened.given) (Says s) desk session cubes new_desk now cubes
+        after (reply.Refused refusal.ReadFault) said refl (ap (λ (c : Cubes). c.names) (sym h.notes.same_cubes))
+        (ap (λ (c : Cubes). c.rows) (sym h.notes.same_cubes)) h.notes.says
         (refuses_unread s allowed place d desk session cubes (load_of s allowed form) at bound new_desk now
         (loaded_file opened.given) h.idle
-        (leaves_refusal 11 (Says s) desk session new_desk now at.desk_is h.notes.noted));
+        (leaves_refusal 11 (Says s) desk session new_desk now refl at.desk_is h.notes.noted));
   }
   unopened_executes (Fault Failed) may opened counts (Replied said) (inr h) = record {
     place = place;
@@ -119,10 +129,11 @@ module _ (seen : ShelfSeen) (s : Statement) (allowed place : ℕ) (d : Decl) (de
     answer = Err (Fault Failed);
     opened = opened;
     counts = counts;
-    refused = h.1.says;
+    answered = h.1.says;
     loads =
-        coe 1 0 (i. LoadsOnRows (loaded_file opened.given) (Says s) desk session cubes new_desk now
-        (record { schemas = after.schemas; names = h.1.back.names i; rows = after.rows }) (h.1.says i))
+        moved_load (loaded_file opened.given) (loaded_file opened.given) (Says s) desk session cubes new_desk now
+        (record { schemas = after.schemas; names = cubes.names; rows = after.rows }) after
+        (reply.Refused refusal.ReadFault) said refl (sym h.1.back.names) refl h.1.says
         (aborts_unread s allowed place d desk session cubes (load_of s allowed form) at bound new_desk now
         (loaded_file opened.given) h.1.aborts.writer after
         (leaves_open_abort h.1.aborts.writer abort.ReadFault (Says s) desk session new_desk now at.desk_is
@@ -135,10 +146,11 @@ module _ (seen : ShelfSeen) (s : Statement) (allowed place : ℕ) (d : Decl) (de
     answer = Err NoMemory;
     opened = opened;
     counts = counts;
-    refused = h.says;
+    answered = h.says;
     loads =
-        coe 1 0 (i. LoadsOnRows (loaded_file opened.given) (Says s) desk session cubes new_desk now (h.same_cubes i)
-        (h.says i))
+        moved_load (loaded_file opened.given) (loaded_file opened.given) (Says s) desk session cubes new_desk now cubes
+        after (reply.Refused refusal.NoMemory) said refl (ap (λ (c : Cubes). c.names) (sym h.same_cubes))
+        (ap (λ (c : Cubes). c.rows) (sym h.same_cubes)) h.says
         (forgets_at_once s (loaded_file opened.given) desk session cubes new_desk now at.desk_is h.noted);
   }
 
@@ -153,12 +165,12 @@ with_file seen s desk session cubes new_desk now after Stopped h = tt
 
 pub without_file : (seen : ShelfSeen) (s : Statement) (desk : DeskState) (session : Session) (cubes : Cubes)
     (new_desk : DeskState) (now : Session) (after : Cubes) (result : Answered) → seen.new_calls ≡ seen.calls
-    → seen.new_faults ≡ seen.faults → seen.new_absences ≡ seen.absences
+    → seen.new_faults ≡ seen.faults → seen.new_absences ≡ seen.absences → IfReplied result IsRefusedUnread
     → IfReplied result (ExecutesOnRows (Says s) desk session cubes new_desk now after)
     → IfReplied result (LoadsFromShelf seen s desk session cubes new_desk now after)
-without_file seen s desk session cubes new_desk now after (Replied said) calls faults absences h =
-    inr (record { calls = calls; faults = faults; absences = absences; executed = h })
-without_file seen s desk session cubes new_desk now after Stopped calls faults absences h = tt
+without_file seen s desk session cubes new_desk now after (Replied said) calls faults absences refused h =
+    inr (record { calls = calls; faults = faults; absences = absences; refused = refused; executed = h })
+without_file seen s desk session cubes new_desk now after Stopped calls faults absences refused h = tt
 
 pub without_names : (s : Statement) (desk : DeskState) (session : Session) (cubes : Cubes) (new_desk : DeskState)
     (now : Session) (result : Answered) → AreWholeCubes cubes

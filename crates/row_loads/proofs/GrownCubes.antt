@@ -17,29 +17,12 @@ use Rattle.row_encoding.specs.declared.load.BatchEnd.{BatchEnd}
 use Rattle.row_encoding.specs.declared.load.BatchEnd.TheVariants as batch_is
 use Rattle.row_encoding.proofs.LoadSteps.{batch_none, goes_nowhere}
 use Rattle.session_rows.specs.CubesAtDesk.{AreWholeCubes}
-use Rattle.session_rows.specs.RowsExecuted.{IsChanged, OfEachCube}
+use Rattle.session_rows.specs.RowsExecuted.{HasChange, OfEachCube}
 use Rattle.session_rows.specs.declared.cubes.Cubes.{Cubes}
+use Rattle.session_rows.proofs.ComingNames.{come_both, come_none}
 use Rattle.row_changes.proofs.HeldChanges.{changed_here}
 use Rattle.row_loads.specs.LoadedSoFar.{HasLoaded, HaveGrown, rows_come}
 use Rattle.row_loads.proofs.JoinedBatches.{batches_join, goes_both}
-
--- ---- names
-
-come_both : (a b c : List (List (List (List ℕ)))) → NamesOnlyCome a b → NamesOnlyCome b c → NamesOnlyCome a c
-come_both a b c first second = λ cube place.
-    let l = length-take (length (names_at a cube place)) (names_at b cube place) in
-    let e = ap (λ (names : List (List ℕ)). length names) (first cube place) in
-    let short : length (names_at a cube place) ≤ length (names_at b cube place) = grind (arith, l, e) in
-    sym (take-take (length (names_at a cube place)) (length (names_at b cube place)) (names_at c cube place) short)
-    ∙ ap (λ (names : List (List ℕ)). take (length (names_at a cube place)) names) (second cube place)
-    ∙ first cube place
-
-pub come_none : (a : List (List (List (List ℕ)))) → NamesOnlyCome a a
-come_none a = λ cube place. take_whole (names_at a cube place)
-  where
-    take_whole : (names : List (List ℕ)) → take (length names) names ≡ names
-    take_whole [] = refl
-    take_whole (name ∷ names) = ap (λ (rest : List (List ℕ)). name ∷ rest) (take_whole names)
 
 -- ---- cubes
 
@@ -117,7 +100,7 @@ loaded_both place allowed old mid new start load next before bad more ended h k 
 
 -- How many rows came.
 pub count_is : (place : ℕ) (rows : List CodedRow) (old new : List HeldRows) (before after : ℕ)
-    → OfEachCube (λ p. IsChanged p (rows_come place rows)) old new → before ≡ length (rows_at old place).now
+    → OfEachCube (λ p. HasChange p (rows_come place rows)) old new → before ≡ length (rows_at old place).now
     → after ≡ length (rows_at new place).now → after - before ≡ length rows
 count_is place rows old new before after changed was is =
     let now = ap (λ (rs : List CodedRow). length rs)

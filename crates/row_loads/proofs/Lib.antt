@@ -6,6 +6,8 @@ pub mod LoadFronts
 pub mod LookedAtInRuns
 pub mod LoadedRuns
 pub mod LoadsExecute
+pub mod MovedLoads
 pub mod Unloaded
 pub mod LoadsEnded
 pub mod FilesOpened
+pub mod RecordsAnswered

@@ -36,7 +36,7 @@ use Rattle.session_rows.specs.CubesAtDesk.{AreItsNames, IsAtCubes, row_world}
 use Rattle.session_rows.specs.RowsBehind.{HasRows, RowWorld, world_of}
 use Rattle.session_rows.specs.RowsExecuted.{IsNewChange}
 use Rattle.session_rows.specs.declared.cubes.Cubes.{Cubes}
-use Rattle.row_entries.specs.LeftEntries.{row_step}
+use Rattle.row_entries.specs.LeftEntries.{step_on_rows}
 use Rattle.row_changes.proofs.InRuns.{meets_in_run, there_in_run}
 use Rattle.row_changes.proofs.Inserting.{stored_of}
 use Rattle.row_loads.specs.LoadedSoFar.{HasLoaded, HasStopped, rows_come}
@@ -99,9 +99,9 @@ pub record LooksInRun (run : RunRecord) (beginning : Beginning) (past : SessionP
     (s : Statement) (bytes : List ℕ) (added : List JournalEntry) (dictionaries : List (List Dictionary)) (d : Decl)
     (place allowed : ℕ) (rows : List CodedRow) (bad : BadRecords) : Type 0 where
   pub fits : FitsItsCube run
-      (row_step past session (Says s) (loaded_file (whole bytes)) added (names_of dictionaries)) s d
+      (step_on_rows past session (Says s) (loaded_file (whole bytes)) added (names_of dictionaries)) s d
   pub looks : LooksAtRows run
-      (row_step past session (Says s) (loaded_file (whole bytes)) added (names_of dictionaries)) d allowed
+      (step_on_rows past session (Says s) (loaded_file (whole bytes)) added (names_of dictionaries)) d allowed
       (map (row_for (lists_at (names_of dictionaries) place)) rows) bad
 
 module _ (s : Statement) (allowed place : ℕ) (bytes : List ℕ) (desk : DeskState) (session : Session) (old new : Cubes)
@@ -191,14 +191,17 @@ module _ (s : Statement) (allowed place : ℕ) (bytes : List ℕ) (desk : DeskSt
             names_at_desk cube_at b.loaded.taken))
             in
             record {
-              decl = b.start.decl;
-              cube_is = is;
               stands = record {
-                are =
-                    sym (stored_of b.start.decl.name (lists_at (names_of new.names) place) b.loaded.rows)
-                    ∙ coe 0 1 (i. map (stored_for b.start.decl.name (lists_at (lists_are i) place)) b.loaded.rows
-                    ≡ map (stored_for b.start.decl.name (lists_at run.names place)) b.loaded.rows) kept.are;
-                each = kept.each;
+                decl = b.start.decl;
+                cube_is = is;
+                stands = record {
+                  are =
+                      sym (stored_of b.start.decl.name (lists_at (names_of new.names) place) b.loaded.rows)
+                      ∙ coe 0 1 (i. map (stored_for b.start.decl.name (lists_at (lists_are i) place)) b.loaded.rows
+                      ≡ map (stored_for b.start.decl.name (lists_at run.names place)) b.loaded.rows) kept.are;
+                  each = kept.each;
+                };
               };
+              places = tt;
             };
       }

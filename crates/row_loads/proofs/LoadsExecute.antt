@@ -35,12 +35,12 @@ use Rattle.session_desk.specs.declared.session.Session.{Session}
 use Rattle.session_desk.specs.RowsDone.{past_with}
 use Rattle.session_rows.specs.Coded.{done_operations}
 use Rattle.session_rows.specs.CubesAtDesk.{row_world}
-use Rattle.session_rows.specs.RowsExecuted.{GoesBack, IsChanged, IsChangedAndKept, IsKept, OfEachCube}
+use Rattle.session_rows.specs.RowsExecuted.{GoesBack, HasChange, IsChangedAndKept, IsKept, OfEachCube}
 use Rattle.session_rows.specs.declared.cubes.Cubes.{Cubes}
 use Rattle.row_entries.specs.EntryGroups.{LeavesAbort, LeavesCommit, LeavesNothing, LeavesOpenAbort, abort_entries, commit_entries, end_entries}
-use Rattle.row_entries.specs.LeftEntries.{row_step}
+use Rattle.row_entries.specs.LeftEntries.{step_on_rows}
 use Rattle.row_entries.proofs.Executing.{aborts_with_file, changes_alone_with_file, changes_inside_with_file, ends_with_file}
-use Rattle.row_loads.specs.LoadEnds.{loaded_reply}
+use Rattle.row_loads.specs.LoadEnds.{stored_load_reply}
 use Rattle.row_loads.specs.LoadedSoFar.{HaveGrown, rows_come}
 use Rattle.row_loads.specs.LoadsDone.{LoadsOnRows}
 use Rattle.row_loads.specs.LookedRecords.{LooksAtRows}
@@ -56,7 +56,7 @@ went_back old new after grown back = λ p. record {
 }
 
 came_and_kept : (place : ℕ) (rows : List CodedRow) (old new after : Cubes)
-    → OfEachCube (λ p. IsChanged p (rows_come place rows)) old.rows new.rows
+    → OfEachCube (λ p. HasChange p (rows_come place rows)) old.rows new.rows
     → OfEachCube (λ p. IsKept) new.rows after.rows
     → OfEachCube (λ p. IsChangedAndKept p (rows_come place rows)) old.rows after.rows
 came_and_kept place rows old new after came kept = λ p. record {
@@ -72,7 +72,7 @@ reply_is : (run : RunRecord) (step : SessionStep) (d : Decl) (allowed : ℕ) (va
     → (l : LooksAtRows run step d allowed values bad)
     → reply.Loaded (length (rows_among l.looked)) (length (rejections_among l.looked))
     (take 100 (rejections_among l.looked)) epoch
-    ≡ loaded_reply n bad epoch
+    ≡ stored_load_reply n bad epoch
 reply_is run step d allowed values rows bad n epoch count same l = λ i.
     reply.Loaded ((ap (λ (xs : List Row). length xs) l.rows_are ∙ same ∙ sym count) i) (sym l.bad_are.count i)
     (sym l.bad_are.first i) epoch
@@ -86,14 +86,14 @@ module _ (s : Statement) (allowed place : ℕ) (bytes : List ℕ) (desk : DeskSt
       → OfEachCube (λ p. IsKept) new.rows after.rows → n ≡ length b.loaded.rows → bad.count ≤ allowed
       → LoadsOnRows (loaded_file (whole bytes)) (Says s) desk session old new_desk now
       (record { schemas = after.schemas; names = new.names; rows = after.rows })
-      (loaded_reply n bad (state_of desk.register).ec)
+      (stored_load_reply n bad (state_of desk.register).ec)
   stores_alone n left kept count few = λ beginning past coded h.
       let file = loaded_file (whole bytes) in
       let ec = (state_of desk.register).ec in
       let deps = (state_of desk.register).pending in
       let added = commit_entries desk now left.round in
       let names = names_of new.names in
-      let step = row_step past session (Says s) file added names in
+      let step = step_on_rows past session (Says s) file added names in
       let c = coded_load s allowed place bytes desk session old new bad b (length (past.sentences ++ Says s ∷ [])) ec in
       let cubes : Cubes = record { schemas = after.schemas; names = new.names; rows = after.rows } in
       let own = subst (λ (x : Statement). IsStep step Idle (Says x)
@@ -106,7 +106,7 @@ module _ (s : Statement) (allowed place : ℕ) (bytes : List ℕ) (desk : DeskSt
       let same = length-map b.loaded.rows (row_for (lists_at names place)) in (
         coded ++ c ∷ [],
         changes_alone_with_file (Says s) beginning past file c (row_world desk session old coded)
-            (row_world new_desk now cubes (coded ++ c ∷ [])) (loaded_reply n bad ec) h left
+            (row_world new_desk now cubes (coded ++ c ∷ [])) (stored_load_reply n bad ec) h left
             (record {
               coded = refl;
               change =
@@ -151,7 +151,7 @@ module _ (s : Statement) (allowed place : ℕ) (bytes : List ℕ) (desk : DeskSt
       let deps = (state_of desk.register).pending in
       let added = abort_entries desk now abort.TooManyRejected in
       let names = names_of new.names in
-      let step = row_step past session (Says s) file added names in
+      let step = step_on_rows past session (Says s) file added names in
       let cubes : Cubes = record { schemas = after.schemas; names = new.names; rows = after.rows } in
       let own = subst (λ (x : Statement). IsStep step Idle (Says x)
       (own_abort step ec deps abort.TooManyRejected)) form.is
@@ -180,11 +180,11 @@ module _ (s : Statement) (allowed place : ℕ) (bytes : List ℕ) (desk : DeskSt
       → n ≡ length b.loaded.rows → bad.count ≤ allowed
       → LoadsOnRows (loaded_file (whole bytes)) (Says s) desk session old new_desk now
       (record { schemas = after.schemas; names = new.names; rows = new.rows })
-      (loaded_reply n bad writer.epoch)
+      (stored_load_reply n bad writer.epoch)
   stores_inside writer n left count few = λ beginning past coded h.
       let file = loaded_file (whole bytes) in
       let names = names_of new.names in
-      let step = row_step past session (Says s) file [] names in
+      let step = step_on_rows past session (Says s) file [] names in
       let c = coded_load s allowed place bytes desk session old new bad b (length (past.sentences ++ Says s ∷ []))
       writer.epoch in
       let cubes : Cubes = record { schemas = after.schemas; names = new.names; rows = new.rows } in
@@ -197,7 +197,7 @@ module _ (s : Statement) (allowed place : ℕ) (bytes : List ℕ) (desk : DeskSt
       let same = length-map b.loaded.rows (row_for (lists_at names place)) in (
         coded ++ c ∷ [],
         changes_inside_with_file writer (Says s) beginning past file c (row_world desk session old coded)
-            (row_world new_desk now cubes (coded ++ c ∷ [])) (loaded_reply n bad writer.epoch) h left
+            (row_world new_desk now cubes (coded ++ c ∷ [])) (stored_load_reply n bad writer.epoch) h left
             (record {
               coded = refl;
               change =
@@ -238,7 +238,7 @@ module _ (s : Statement) (allowed place : ℕ) (bytes : List ℕ) (desk : DeskSt
       let file = loaded_file (whole bytes) in
       let added = end_entries writer now abort.TooManyRejected in
       let names = names_of new.names in
-      let step = row_step past session (Says s) file added names in
+      let step = step_on_rows past session (Says s) file added names in
       let cubes : Cubes = record { schemas = after.schemas; names = new.names; rows = after.rows } in
       let own = subst (λ (x : Statement). IsStep step (Open writer) (Says x)
       (open_abort step writer.epoch abort.TooManyRejected)) form.is

@@ -26,7 +26,7 @@ use Rattle.session_replies.proofs.Loading.{file_missing, file_too_long, unread_a
 use Rattle.session_replies.proofs.Reading.{changed_without_memory_inside}
 use Rattle.session_desk.specs.declared.session.Session.{Session}
 use Rattle.session_desk.specs.AtDesk.{IsAtDesk}
-use Rattle.session_desk.specs.Moves.{IsClosed}
+use Rattle.session_desk.specs.Moves.{NothingIsOpen}
 use Rattle.session_desk.specs.RowsDone.{AddsEntries, past_with}
 use Rattle.session_rows.specs.Coded.{CodedOperation, done_operations}
 use Rattle.session_rows.specs.CubesAtDesk.{IsAtCubes, row_world}
@@ -34,21 +34,21 @@ use Rattle.session_rows.specs.RowsBehind.{HasRows}
 use Rattle.session_rows.specs.RowsExecuted.{GoesBack, OfEachCube}
 use Rattle.session_rows.specs.declared.cubes.Cubes.{Cubes}
 use Rattle.row_entries.specs.EntryGroups.{LeavesOpenAbort, LeavesRefusal, end_entries, refusal_entries}
-use Rattle.row_entries.specs.LeftEntries.{row_step}
+use Rattle.row_entries.specs.LeftEntries.{step_on_rows}
 use Rattle.row_entries.specs.RowCalls.{NotesRefusal}
 use Rattle.row_entries.proofs.Executing.{ends_with_file, memory_answers, refused_back_with_file, refused_with_file}
 use Rattle.row_entries.proofs.Lone.{leaves_refusal}
 use Rattle.row_changes.proofs.InRuns.{meets_in_run}
 use Rattle.row_loads.specs.LoadedSoFar.{HaveGrown}
 use Rattle.row_loads.specs.LoadsDone.{LoadsOnRows}
-use Rattle.row_loads.proofs.GrownCubes.{come_none}
+use Rattle.session_rows.proofs.ComingNames.{come_none}
 use Rattle.row_loads.proofs.LoadedRuns.{IsLoad, file_is}
 use Rattle.row_loads.proofs.LoadsExecute.{went_back}
 
 -- ---- want of memory
 
-still_idle : (session now : Session) → mode_of session.mode ≡ Idle → now.mode ≡ session.mode → IsClosed (mode_of now.mode)
-still_idle session now idle same = subst IsClosed (sym (ap mode_of same ∙ idle)) tt
+still_idle : (session now : Session) → mode_of session.mode ≡ Idle → now.mode ≡ session.mode → NothingIsOpen (mode_of now.mode)
+still_idle session now idle same = subst NothingIsOpen (sym (ap mode_of same ∙ idle)) tt
 
 pub forgets_alone : (s : Statement) (file : LoadedFile) (desk : DeskState) (session : Session) (old new : Cubes)
     (new_desk : DeskState) (now : Session) (after : Cubes) → IsAtDesk desk session → mode_of session.mode ≡ Idle
@@ -56,7 +56,7 @@ pub forgets_alone : (s : Statement) (file : LoadedFile) (desk : DeskState) (sess
     → LoadsOnRows file (Says s) desk session old new_desk now
     (record { schemas = after.schemas; names = new.names; rows = after.rows }) (reply.Refused refusal.NoMemory)
 forgets_alone s file desk session old new new_desk now after at idle grown back noted = λ beginning past coded h.
-    let left = leaves_refusal 16 (Says s) desk session new_desk now at noted in
+    let left = leaves_refusal 16 (Says s) desk session new_desk now refl at noted in
     let cubes : Cubes = record { schemas = after.schemas; names = new.names; rows = after.rows } in (
       coded,
       refused_back_with_file 16 (Says s) beginning past file (row_world desk session old coded)
@@ -80,7 +80,7 @@ forgets_inside s allowed file writer desk session old new new_desk now after for
     λ beginning past coded h.
     let names = names_of new.names in
     let cubes : Cubes = record { schemas = after.schemas; names = new.names; rows = after.rows } in
-    let step = row_step past session (Says s) file (end_entries writer now abort.NoMemory) names in
+    let step = step_on_rows past session (Says s) file (end_entries writer now abort.NoMemory) names in
     let own = left.left.own beginning past (names_of old.names) names (done_operations coded) file h.stands in (
       coded,
       ends_with_file writer abort.NoMemory (Says s) beginning past file (row_world desk session old coded)
@@ -93,7 +93,7 @@ pub forgets_at_once : (s : Statement) (file : LoadedFile) (desk : DeskState) (se
     (new_desk : DeskState) (now : Session) → IsAtDesk desk session → NotesRefusal 16 desk session new_desk now
     → LoadsOnRows file (Says s) desk session cubes new_desk now cubes (reply.Refused refusal.NoMemory)
 forgets_at_once s file desk session cubes new_desk now at noted = λ beginning past coded h.
-    let left = leaves_refusal 16 (Says s) desk session new_desk now at noted in (
+    let left = leaves_refusal 16 (Says s) desk session new_desk now refl at noted in (
       coded,
       refused_with_file 16 (Says s) beginning past file (row_world desk session cubes coded)
           (row_world new_desk now cubes coded) (reply.Refused refusal.NoMemory) h left
@@ -115,10 +115,10 @@ module _ (s : Statement) (allowed place : ℕ) (d : Decl) (desk : DeskState) (se
       (coded : List CodedOperation) (run : RunRecord) → HasRows beginning past (row_world desk session cubes coded)
       → AddsEntries (Says s) added desk session new_desk now
       → GoesOn beginning (past_with past (Says s) file added (names_of cubes.names)) run
-      → FitsItsCube run (row_step past session (Says s) file added (names_of cubes.names))
+      → FitsItsCube run (step_on_rows past session (Says s) file added (names_of cubes.names))
       (Load form.cube form.path allowed) d
   fits file added beginning past coded run h adds g =
-      subst (λ (x : Statement). FitsItsCube run (row_step past session (Says s) file added (names_of cubes.names)) x d)
+      subst (λ (x : Statement). FitsItsCube run (step_on_rows past session (Says s) file added (names_of cubes.names)) x d)
       form.is
       (meets_in_run beginning past s file added desk session new_desk now (names_of cubes.names)
       (done_operations coded) cubes place d run h.stands adds at.whole at.schemas (come_none (names_of cubes.names))
@@ -126,17 +126,17 @@ module _ (s : Statement) (allowed place : ℕ) (d : Decl) (desk : DeskState) (se
 
   refuses : (code : ℕ) (file : LoadedFile) (said : Reply) → LeavesRefusal code (Says s) desk session new_desk now
       → ((past : SessionPast) (run : RunRecord)
-      → IsStep (row_step past session (Says s) file (refusal_entries code now) (names_of cubes.names))
+      → IsStep (step_on_rows past session (Says s) file (refusal_entries code now) (names_of cubes.names))
       (mode_of session.mode) (Says (Load form.cube form.path allowed))
-      (lone_refusal (row_step past session (Says s) file (refusal_entries code now) (names_of cubes.names)) code)
-      → FitsItsCube run (row_step past session (Says s) file (refusal_entries code now) (names_of cubes.names))
+      (lone_refusal (step_on_rows past session (Says s) file (refusal_entries code now) (names_of cubes.names)) code)
+      → FitsItsCube run (step_on_rows past session (Says s) file (refusal_entries code now) (names_of cubes.names))
       (Load form.cube form.path allowed) d
-      → IsReply run (row_step past session (Says s) file (refusal_entries code now) (names_of cubes.names)) said)
+      → IsReply run (step_on_rows past session (Says s) file (refusal_entries code now) (names_of cubes.names)) said)
       → LoadsOnRows file (Says s) desk session cubes new_desk now cubes said
   refuses code file said left answers = λ beginning past coded h.
       let names = names_of cubes.names in
       let added = refusal_entries code now in
-      let step = row_step past session (Says s) file added names in
+      let step = step_on_rows past session (Says s) file added names in
       let own = subst (λ (x : Statement). IsStep step (mode_of session.mode) (Says x) (lone_refusal step code)) form.is
       (left.left.own beginning past names names (done_operations coded) file h.stands) in (
         coded,
@@ -156,7 +156,7 @@ module _ (s : Statement) (allowed place : ℕ) (d : Decl) (desk : DeskState) (se
   refuses_missing left may =
       refuses 8 Missing (reply.Refused refusal.NoSuchFile) left
       (λ past run own fit.
-      file_missing run (row_step past session (Says s) Missing (refusal_entries 8 now) (names_of cubes.names))
+      file_missing run (step_on_rows past session (Says s) Missing (refusal_entries 8 now) (names_of cubes.names))
       (mode_of session.mode) form.cube form.path allowed d own
       (subst (λ (x : Statement). refused_by_mode (mode_of session.mode) x ≡ None) form.is may) fit
       (file_is past (Says s) Missing (refusal_entries 8 now) (names_of cubes.names)))
@@ -169,7 +169,7 @@ module _ (s : Statement) (allowed place : ℕ) (d : Decl) (desk : DeskState) (se
       refuses 9 (TooLarge size) (reply.Refused (refusal.FileTooLong size)) left
       (λ past run own fit.
       file_too_long run
-      (row_step past session (Says s) (TooLarge size) (refusal_entries 9 now) (names_of cubes.names))
+      (step_on_rows past session (Says s) (TooLarge size) (refusal_entries 9 now) (names_of cubes.names))
       (mode_of session.mode) form.cube form.path allowed d size own
       (subst (λ (x : Statement). refused_by_mode (mode_of session.mode) x ≡ None) form.is may) fit
       (file_is past (Says s) (TooLarge size) (refusal_entries 9 now) (names_of cubes.names)))
@@ -180,7 +180,7 @@ module _ (s : Statement) (allowed place : ℕ) (d : Decl) (desk : DeskState) (se
   refuses_unread file idle left =
       refuses 11 file (reply.Refused refusal.ReadFault) left
       (λ past run own fit.
-      let step = row_step past session (Says s) file (refusal_entries 11 now) (names_of cubes.names) in
+      let step = step_on_rows past session (Says s) file (refusal_entries 11 now) (names_of cubes.names) in
       unread_alone run step form.cube form.path allowed d
       (coe 0 1 (i. IsStep step (idle i) (Says (Load form.cube form.path allowed)) (lone_refusal step 11)) own) fit)
 
@@ -192,7 +192,7 @@ module _ (s : Statement) (allowed place : ℕ) (d : Decl) (desk : DeskState) (se
   aborts_unread file writer after left back = λ beginning past coded h.
       let names = names_of cubes.names in
       let added = end_entries writer now abort.ReadFault in
-      let step = row_step past session (Says s) file added names in
+      let step = step_on_rows past session (Says s) file added names in
       let others : Cubes = record { schemas = after.schemas; names = cubes.names; rows = after.rows } in
       let own = subst (λ (x : Statement). IsStep step (Open writer) (Says x)
       (open_abort step writer.epoch abort.ReadFault)) form.is

@@ -17,7 +17,7 @@ use Rattle.aosi_register.specs.State.{state_of}
 use Rattle.aosi_desk.specs.Desks.{DeskState}
 use Rattle.row_encoding.specs.declared.load.BadRecords.{BadRecords}
 use Rattle.session_replies.specs.Modes.{mode_of}
-use Rattle.session_desk.specs.Moves.{epoch_in}
+use Rattle.session_desk.specs.Moves.{epoch_open_in}
 use Rattle.session_desk.specs.declared.answered.Answered.{Answered}
 use Rattle.session_desk.specs.declared.answered.Answered.TheVariants.{Replied, Stopped}
 use Rattle.session_desk.specs.declared.session.Session.{Session}
@@ -29,12 +29,12 @@ use Rattle.row_changes.specs.AnswersGiven.{CommitsWhole}
 use Rattle.row_changes.specs.ChangedCubes.{HaveBecome}
 
 -- The reply of a LOAD that is stored.
-abbrev pub loaded_reply : ℕ → BadRecords → ℕ → Reply
-loaded_reply rows bad epoch = reply.Loaded rows bad.count bad.first epoch
+abbrev pub stored_load_reply : ℕ → BadRecords → ℕ → Reply
+stored_load_reply rows bad epoch = reply.Loaded rows bad.count bad.first epoch
 
 -- So it is answered at the epoch that was committed, if a round was made after it as far as one is due.
 abbrev pub loaded_answer : ℕ → BadRecords → Option ℕ → Answered
-loaded_answer rows bad (Some epoch) = Replied (loaded_reply rows bad epoch)
+loaded_answer rows bad (Some epoch) = Replied (stored_load_reply rows bad epoch)
 loaded_answer rows bad None = Stopped
 
 -- The rows of each cube are kept, or go back.
@@ -49,7 +49,7 @@ pub record KeepsAlone (rows : ℕ) (bad : BadRecords) (desk : DeskState) (sessio
     (new_desk : DeskState) (now : Session) (new_cubes : Cubes) (said : Reply) : Type 0 where
   pub commits : CommitsWhole desk session new_desk now
   pub kept : HaveKept cubes new_cubes
-  pub says : said ≡ loaded_reply rows bad (state_of desk.register).ec
+  pub says : said ≡ stored_load_reply rows bad (state_of desk.register).ec
 
 -- Its own transaction is aborted, since one record more than is allowed is bad.
 pub record RejectsAlone (rejected allowed : ℕ) (desk : DeskState) (session : Session) (cubes : Cubes)
@@ -91,7 +91,7 @@ pub record KeepsInside (rows : ℕ) (bad : BadRecords) (epoch : ℕ) (desk : Des
   pub same_desk : new_desk ≡ desk
   pub counted : HasOneMore session now
   pub same_cubes : new_cubes ≡ cubes
-  pub says : said ≡ loaded_reply rows bad epoch
+  pub says : said ≡ stored_load_reply rows bad epoch
 
 -- That transaction is aborted, and the rows go back.
 pub record AbortsInside (epoch : ℕ) (cause : AbortCause) (because : Refusal) (desk : DeskState) (session : Session)
@@ -143,4 +143,4 @@ EndsUnopened NoMemory desk session cubes new_desk now new_cubes said =
 
 -- A session that has no transaction open is idle: no fault ended one that it has not left yet.
 abbrev pub IsLive : Mode → Type 0
-IsLive mode = epoch_in mode ≡ None → mode ≡ Idle
+IsLive mode = epoch_open_in mode ≡ None → mode ≡ Idle

@@ -16,7 +16,7 @@ use Rattle.row_encoding.specs.declared.load.BadRecords.{BadRecords}
 use Rattle.row_encoding.specs.declared.load.BatchEnd.{BatchEnd}
 use Rattle.row_encoding.specs.declared.load.BatchEnd.TheVariants as batch_is
 use Rattle.session_rows.specs.CubesAtDesk.{AreWholeCubes}
-use Rattle.session_rows.specs.RowsExecuted.{IsChanged, OfEachCube}
+use Rattle.session_rows.specs.RowsExecuted.{HasChange, OfEachCube}
 use Rattle.session_rows.specs.declared.cubes.Cubes.{Cubes}
 
 -- ---- a load
@@ -82,7 +82,7 @@ pub record HasLoaded (place allowed : ℕ) (old new : Cubes) (start load : LoadS
   pub rows : List CodedRow
   pub taken : HasTaken place allowed new.names start load before bad rows ended
   pub grown : HaveGrown old new
-  pub changed : OfEachCube (λ p. IsChanged p (rows_come place rows)) old.rows new.rows
+  pub changed : OfEachCube (λ p. HasChange p (rows_come place rows)) old.rows new.rows
 
 -- A load has stopped, and so many rows came; or none is to stay, since one bad record more than are allowed was found.
 abbrev pub BringsRows : ℕ → ℕ → Cubes → Cubes → LoadState → LoadState → BadRecords → BadRecords → Option ℕ → Type 0

@@ -16,6 +16,7 @@ use Rattle.query_plan.specs.Bindings.{IsBoundTo}
 use Rattle.loaded_files.specs.LoadedFiles.{IsLoadFault, LoadAnswer, OpensLoad, loaded_file}
 use Rattle.aosi_desk.specs.Desks.{DeskState}
 use Rattle.session_desk.specs.declared.session.Session.{Session}
+use Rattle.session_desk.specs.FileReplies.{IsRefusedUnread}
 use Rattle.session_rows.specs.CubesAtDesk.{ExecutesOnRows}
 use Rattle.session_rows.specs.declared.cubes.Cubes.{Cubes}
 use Rattle.row_loads.specs.LoadsDone.{LoadsOnRows}
@@ -37,13 +38,21 @@ pub record CountsLoad (seen : ShelfSeen) (answer : LoadAnswer) : Type 0 where
   pub absent : IsLoadFault answer Absent → Rose seen.absences seen.new_absences
   pub present : (IsLoadFault answer Absent → ⊥) → seen.new_absences ≡ seen.absences
 
--- A LOAD whose file was not opened is refused for that.
-abbrev pub RefusesUnopened : LoadAnswer → Reply → Type 0
-RefusesUnopened (Ok load) said = Unit {0}
-RefusesUnopened (Err (Fault Absent)) said = said ≡ reply.Refused refusal.NoSuchFile
-RefusesUnopened (Err (Fault (TooLong size))) said = said ≡ reply.Refused (refusal.FileTooLong size)
-RefusesUnopened (Err (Fault Failed)) said = said ≡ reply.Refused refusal.ReadFault
-RefusesUnopened (Err NoMemory) said = said ≡ reply.Refused refusal.NoMemory
+-- A LOAD whose file was opened is answered with how many of its records are stored, or is refused since too many are
+-- bad, or for want of memory.
+abbrev pub IsOfRecords : Reply → Type 0
+IsOfRecords (reply.Loaded rows rejected first epoch) = Unit {0}
+IsOfRecords (reply.Refused (refusal.TooManyRejected rejected allowed)) = Unit {0}
+IsOfRecords (reply.Refused refusal.NoMemory) = Unit {0}
+IsOfRecords said = ⊥
+
+-- One whose file was not opened is refused for that.
+abbrev pub IsAnsweredFor : LoadAnswer → Reply → Type 0
+IsAnsweredFor (Ok load) said = IsOfRecords said
+IsAnsweredFor (Err (Fault Absent)) said = said ≡ reply.Refused refusal.NoSuchFile
+IsAnsweredFor (Err (Fault (TooLong size))) said = said ≡ reply.Refused (refusal.FileTooLong size)
+IsAnsweredFor (Err (Fault Failed)) said = said ≡ reply.Refused refusal.ReadFault
+IsAnsweredFor (Err NoMemory) said = said ≡ reply.Refused refusal.NoMemory
 
 -- The file of a LOAD.
 abbrev pub path_loaded : Statement → List ℕ
@@ -59,15 +68,17 @@ pub record LoadsItsFile (seen : ShelfSeen) (s : Statement) (desk : DeskState) (s
   pub answer : LoadAnswer
   pub opened : OpensLoad seen.told seen.calls seen.new_calls (path_loaded s) decl answer
   pub counts : CountsLoad seen answer
-  pub refused : RefusesUnopened answer said
+  pub answered : IsAnsweredFor answer said
   pub loads : LoadsOnRows (loaded_file opened.given) (Says s) desk session cubes new_desk now new_cubes said
 
--- A LOAD did not come to its file, and is executed without it: it is bound to no cube, or memory ran out.
+-- A LOAD did not come to its file, and is executed without it: it is refused since it is bound to no cube, or memory ran
+-- out.
 pub record LeavesShelf (seen : ShelfSeen) (s : Statement) (desk : DeskState) (session : Session) (cubes : Cubes)
     (new_desk : DeskState) (now : Session) (new_cubes : Cubes) (said : Reply) : Type 0 where
   pub calls : seen.new_calls ≡ seen.calls
   pub faults : seen.new_faults ≡ seen.faults
   pub absences : seen.new_absences ≡ seen.absences
+  pub refused : IsRefusedUnread said
   pub executed : ExecutesOnRows (Says s) desk session cubes new_desk now new_cubes said
 
 -- It is executed with its file, or without it.

@@ -7,7 +7,7 @@ ghost use Rattle.cube_run.specs.SessionStates.{Idle};
 ghost use Rattle.session_replies.specs.Modes.{mode_of};
 ghost use Rattle.session_desk.specs.AtDesk.{IsAtDesk};
 ghost use Rattle.session_desk.specs.Executed.{IfReplied};
-ghost use Rattle.session_desk.specs.Moves.{epoch_in};
+ghost use Rattle.session_desk.specs.Moves.{epoch_open_in};
 ghost use Rattle.session_rows.specs.CubesAtDesk.{AreWholeCubes, IsAtCubes};
 ghost use Rattle.row_entries.specs.RowCalls.{AbortsAlone};
 ghost use Rattle.row_loads.specs.LoadEnds.{AbortsInside, AbortsOpenAt, EndsAlone, EndsInside, EndsUnopened, EndsUnread, ForgetsAlone, HaveGoneBack, HaveKept, IsLive, KeepsAlone, KeepsInside, RejectsAlone, loaded_answer};
@@ -17,7 +17,7 @@ use cube_journal::{AbortCause, Refusal, Reply};
 use cube_language::MOST_STATEMENTS;
 use cube_values::CallError;
 use outside::FileFault;
-use row_changes::{commit_alone, epoch_in, refuse_next};
+use row_changes::{commit_alone, epoch_open_in, refuse_next};
 use row_encoding::BadRecords;
 use session_desk::{Answered, SESSION, Session};
 use session_replies::SessionMode;
@@ -62,7 +62,7 @@ fn abort_alone(desk: &mut Desk, session: &mut Session, cause: AbortCause) -> Res
 fn abort_open(desk: &mut Desk, session: &mut Session, epoch: u64, cause: AbortCause)
     requires at { IsAtDesk desk.old session.old }
     requires few { session.old.statements < MOST_STATEMENTS }
-    requires open { epoch_in (mode_of session.old.mode) ≡ Some epoch }
+    requires open { epoch_open_in (mode_of session.old.mode) ≡ Some epoch }
     requires not_asked { cause ≢ abort.Asked }
     requires not_at_end { cause ≢ abort.EndOfScript }
     ensures { AbortsOpenAt epoch cause desk.old session.old desk.new session.new }
@@ -189,7 +189,7 @@ pub(crate) fn abort_inside(
 ) -> Answered
     requires at { IsAtCubes desk.old session.old cubes.old }
     requires few { session.old.statements < MOST_STATEMENTS }
-    requires open { epoch_in (mode_of session.old.mode) ≡ Some epoch }
+    requires open { epoch_open_in (mode_of session.old.mode) ≡ Some epoch }
     requires not_asked { cause ≢ abort.Asked }
     requires not_at_end { cause ≢ abort.EndOfScript }
     ensures at { IsAtCubes desk.new session.new cubes.new }
@@ -213,7 +213,7 @@ fn store_inside(
 ) -> Answered
     requires at { IsAtCubes desk.now session.old cubes.now }
     requires few { session.old.statements < MOST_STATEMENTS }
-    requires open { epoch_in (mode_of session.old.mode) ≡ Some epoch }
+    requires open { epoch_open_in (mode_of session.old.mode) ≡ Some epoch }
     ensures at { IsAtCubes desk.now session.new cubes.now }
     ensures number { session.new.statements ≡ session.old.statements + 1 }
     ensures said { IfReplied result (KeepsInside rows bad epoch
@@ -235,7 +235,7 @@ pub(crate) fn end_inside(
 ) -> Answered
     requires at { IsAtCubes desk.old session.old cubes.old }
     requires few { session.old.statements < MOST_STATEMENTS }
-    requires open { epoch_in (mode_of session.old.mode) ≡ Some epoch }
+    requires open { epoch_open_in (mode_of session.old.mode) ≡ Some epoch }
     ensures at { IsAtCubes desk.new session.new cubes.new }
     ensures number { session.new.statements ≡ session.old.statements + 1 }
     ensures said { IfReplied result (EndsInside rows bad allowed epoch
@@ -270,7 +270,7 @@ fn refuse_unread(desk: &mut Desk, session: &mut Session, cubes: &mut Cubes) -> A
     ensures said { IfReplied result (EndsUnread
         desk.old session.old cubes.old desk.new session.new cubes.new) }
 {
-    match epoch_in(&session.mode) {
+    match epoch_open_in(&session.mode) {
         Some(epoch) => {
             let cause = AbortCause::ReadFault;
             abort_inside(desk, session, cubes, epoch, cause, Refusal::ReadFault)

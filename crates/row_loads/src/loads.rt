@@ -7,10 +7,10 @@ ghost use Rattle.cube_run.specs.StepOutcomes.{refused_by_mode};
 ghost use Rattle.query_plan.specs.Bindings.{IsBoundAt, IsBoundTo};
 ghost use Rattle.session_replies.specs.Modes.{mode_of};
 ghost use Rattle.session_desk.specs.Executed.{IfReplied};
-ghost use Rattle.session_desk.specs.Moves.{epoch_in};
+ghost use Rattle.session_desk.specs.Moves.{epoch_open_in};
 ghost use Rattle.session_rows.specs.CubesAtDesk.{IsAtCubes};
 ghost use Rattle.row_loads.specs.LoadEnds.{IsLive};
-ghost use Rattle.row_loads.specs.LoadsFromShelf.{LoadsFromShelf, LoadsItsFile, path_loaded};
+ghost use Rattle.row_loads.specs.LoadsFromShelf.{IsOfRecords, LoadsFromShelf, LoadsItsFile, path_loaded};
 ghost use Rattle.row_loads.specs.LoadsDone.{LoadsItsBytes, LoadsRows, LoadsWith};
 
 use crate::batches::bring_rows;
@@ -23,7 +23,7 @@ use cube_values::CallError;
 use loaded_files::open_load;
 use outside::Shelf;
 use query_plan::bound_place;
-use row_changes::{epoch_in, refuse_bind, refuse_for_memory};
+use row_changes::{epoch_open_in, refuse_bind, refuse_for_memory};
 use row_encoding::BadRecords;
 use session_desk::{Answered, Session};
 use session_rows::Cubes;
@@ -47,6 +47,7 @@ fn load_alone(
     requires bound { IsBoundTo cubes.old.schemas.items statement.now place load.old.decl }
     ensures at { IsAtCubes desk.new session.new cubes.new }
     ensures number { session.new.statements ≡ session.old.statements + 1 }
+    ensures records { IfReplied result IsOfRecords }
     ensures executed { IfReplied result (LoadsItsBytes load.old (Says statement.now)
         desk.old session.old cubes.old desk.new session.new cubes.new) }
 {
@@ -72,10 +73,11 @@ fn load_inside(
     requires at { IsAtCubes desk.old session.old cubes.old }
     requires few { session.old.statements < MOST_STATEMENTS }
     requires form { LoadsWith statement.now allowed }
-    requires open { epoch_in (mode_of session.old.mode) ≡ Some epoch }
+    requires open { epoch_open_in (mode_of session.old.mode) ≡ Some epoch }
     requires bound { IsBoundTo cubes.old.schemas.items statement.now place load.old.decl }
     ensures at { IsAtCubes desk.new session.new cubes.new }
     ensures number { session.new.statements ≡ session.old.statements + 1 }
+    ensures records { IfReplied result IsOfRecords }
     ensures executed { IfReplied result (LoadsItsBytes load.old (Says statement.now)
         desk.old session.old cubes.old desk.new session.new cubes.new) }
 {
@@ -113,12 +115,13 @@ fn load_opened(
     requires bound { IsBoundTo cubes.old.schemas.items statement.now place load.decl }
     ensures at { IsAtCubes desk.new session.new cubes.new }
     ensures number { session.new.statements ≡ session.old.statements + 1 }
+    ensures records { IfReplied result IsOfRecords }
     ensures executed { IfReplied result (LoadsItsBytes load (Says statement.now)
         desk.old session.old cubes.old desk.new session.new cubes.new) }
 {
     let mut records = load;
     let from = &mut records;
-    match epoch_in(&session.mode) {
+    match epoch_open_in(&session.mode) {
         Some(epoch) => {
             load_inside(
                 alloc, desk, session, cubes, statement, place, from, allowed, epoch,

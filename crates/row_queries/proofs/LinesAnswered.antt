@@ -37,7 +37,7 @@ use Rattle.session_desk.proofs.Changing.{one_more_with}
 use Rattle.session_desk.proofs.FindingCubes.{finds_its_cube}
 use Rattle.row_entries.specs.EntryGroups.{LeavesNothing, LeavesReading, reading_entries}
 use Rattle.row_entries.specs.ExecutedHere.{KeepsRows}
-use Rattle.row_entries.specs.LeftEntries.{row_step}
+use Rattle.row_entries.specs.LeftEntries.{step_on_rows}
 use Rattle.row_entries.specs.RowCalls.{ReadsAlone}
 use Rattle.row_entries.proofs.Executing.{reads_inside_on_rows, reads_on_rows}
 use Rattle.session_rows.specs.Coded.{CodedOperation, done_operations}
@@ -92,7 +92,7 @@ fits_there : (beginning : Beginning) (past : SessionPast) (desk : DeskState) (se
     → HasRows beginning past (row_world desk session cubes coded)
     → IsOneMore past (past_with past (Says s) Missing added (names_of cubes.names)) (Says s) added
     → GoesOn beginning (past_with past (Says s) Missing added (names_of cubes.names)) run
-    → FitsItsCube run (row_step past session (Says s) Missing added (names_of cubes.names)) s b.decl
+    → FitsItsCube run (step_on_rows past session (Says s) Missing added (names_of cubes.names)) s b.decl
 fits_there beginning past desk session cubes coded s bound added run at b h more g =
     let asked = asks_rows desk session cubes coded s bound at b in
     record {
@@ -132,7 +132,7 @@ alone_answers desk session cubes new_desk now s table at select (bound, (b, line
     let names = names_of cubes.names in
     let old = row_world desk session cubes coded in
     let more = more_by beginning past desk session cubes coded s added new_desk now h left.left.adds in
-    let step = row_step past session (Says s) Missing added names in (
+    let step = step_on_rows past session (Says s) Missing added names in (
       coded,
       reads_on_rows s beginning past Missing old (row_world new_desk now cubes coded) (reply.Rows (ec - 1) table) h select
           left (keeps desk session cubes new_desk now coded)
@@ -165,7 +165,7 @@ inside_answers writer desk session cubes now s table at select (bound, (b, lines
     let old = row_world desk session cubes coded in
     let more = more_by beginning past desk session cubes coded s [] desk now h left.left.adds in
     let after = past_with past (Says s) Missing [] names in
-    let step = row_step past session (Says s) Missing [] names in (
+    let step = step_on_rows past session (Says s) Missing [] names in (
       coded,
       reads_inside_on_rows writer s beginning past Missing old (row_world desk now cubes coded)
           (reply.Rows writer.epoch table) h select left (keeps desk session cubes desk now coded)

@@ -11,6 +11,7 @@ ghost use Rattle.query_plan.specs.Bindings.{IsBindFault};
 ghost use Rattle.session_replies.specs.Modes.{mode_of};
 ghost use Rattle.session_desk.specs.AtDesk.{IsOpen};
 ghost use Rattle.session_desk.specs.Executed.{IfReplied};
+ghost use Rattle.session_desk.specs.FileReplies.{SpeaksOfNoFile};
 ghost use Rattle.session_rows.specs.CubesAtDesk.{AreWholeCubes, ExecutesOnRows, IsAtCubes};
 ghost use Rattle.row_queries.specs.BoundHere.{AreItsLines, IsWhyUnbound};
 
@@ -49,6 +50,7 @@ fn answer_alone(desk: &mut Desk, session: &mut Session, cubes: &Cubes, table: Ta
     requires idle { mode_of session.old.mode ≡ Idle }
     ensures at { IsAtCubes desk.new session.new cubes.now }
     ensures number { session.new.statements ≡ session.old.statements + 1 }
+    ensures no_file { IfReplied result SpeaksOfNoFile }
     ensures executed { IfReplied result (λ said. (s : Statement)
         → is_select s ≡ true → AreItsLines cubes.now s table
         → ExecutesOnRows (Says s) desk.old session.old cubes.now
@@ -76,6 +78,7 @@ fn answer_inside(desk: &Desk, session: &mut Session, cubes: &Cubes, table: Table
     requires is_open { IsOpen session.old.mode }
     ensures at { IsAtCubes desk.now session.new cubes.now }
     ensures number { session.new.statements ≡ session.old.statements + 1 }
+    ensures no_file { IfReplied result SpeaksOfNoFile }
     ensures executed { IfReplied result (λ said. (s : Statement)
         → is_select s ≡ true → AreItsLines cubes.now s table
         → ExecutesOnRows (Says s) desk.now session.old cubes.now
@@ -107,6 +110,7 @@ fn answer_lines(
     requires lines { AreItsLines cubes.now statement.now table }
     ensures at { IsAtCubes desk.new session.new cubes.now }
     ensures number { session.new.statements ≡ session.old.statements + 1 }
+    ensures no_file { IfReplied result SpeaksOfNoFile }
     ensures executed { IfReplied result (ExecutesOnRows (Says statement.now)
         desk.old session.old cubes.now desk.new session.new cubes.now) }
 {
@@ -131,6 +135,7 @@ fn refuse_lines(
     requires fault { IsWhyUnbound cubes.now.schemas.items statement.now error }
     ensures at { IsAtCubes desk.new session.new cubes.now }
     ensures number { session.new.statements ≡ session.old.statements + 1 }
+    ensures no_file { IfReplied result SpeaksOfNoFile }
     ensures executed { IfReplied result (ExecutesOnRows (Says statement.now)
         desk.old session.old cubes.now desk.new session.new cubes.now) }
 {
@@ -156,6 +161,7 @@ pub fn select(
     requires may { refused_by_mode (mode_of session.old.mode) statement.now ≡ None }
     ensures at { IsAtCubes desk.new session.new cubes.now }
     ensures number { session.new.statements ≡ session.old.statements + 1 }
+    ensures no_file { IfReplied result SpeaksOfNoFile }
     ensures executed { IfReplied result (ExecutesOnRows (Says statement.now)
         desk.old session.old cubes.now desk.new session.new cubes.now) }
 {

@@ -30,9 +30,10 @@ use Rattle.session_desk.specs.declared.answered.Answered.{Answered}
 use Rattle.session_desk.specs.declared.answered.Answered.TheVariants.{Replied, Stopped}
 use Rattle.session_desk.specs.Executed.{ExecutesAtDesk, IfReplied, OnStopped}
 use Rattle.session_desk.specs.Standing.{session_state}
+use Rattle.session_desk.proofs.Agreeing.{none_for}
 use Rattle.session_desk.proofs.Growing.{grown}
 use Rattle.session_desk.proofs.Replying.{at_kept, counted}
-use Rattle.session_desk.proofs.RoundEntries.{desk_more, keeps, round_cubes, round_epoch, round_is_safe, round_keeps, round_of_none, round_owners, round_part, state_more}
+use Rattle.session_desk.proofs.RoundEntries.{desk_more, keeps, round_cubes, round_epoch, round_is_safe, round_keeps, round_of_none, round_owners, round_part, round_speaks, state_more}
 use Rattle.session_desk.proofs.Staying.{Stays, at_stays, flushed_still, purged_still, show_still, stay_executes}
 
 -- After a round that nothing can go wrong with a FLUSH may be noted, and at any place a PURGE at LSE.
@@ -147,6 +148,8 @@ flushes desk session new_desk now epoch h is =
     let added : List JournalEntry = front ++ entry.Flushed 1 now.statements ∷ [] in
     stay_executes (Says Flush) added (entry.Flushed 1) desk session new_desk now (reply.Flushed epoch)
     (flush_stays desk session new_desk now h)
+    (none_for (Says Flush) now.statements desk.cubes added
+    (round_speaks (state_of desk.register) (entry.Flushed 1 now.statements ∷ [])))
     (λ beginning past names done run stands more on told.
     let after = grown past (Says Flush) added in
     let step = last_step after (session_state session) (Says Flush) added in
@@ -193,6 +196,7 @@ purges desk session new_desk now epoch h =
     let added : List JournalEntry = entry.Purged 1 now.statements epoch ∷ [] in
     stay_executes (Says Purge) added (λ n. entry.Purged 1 n epoch) desk session new_desk now (reply.Purged epoch)
     (purge_stays desk session new_desk now epoch h)
+    (none_for (Says Purge) now.statements desk.cubes added refl)
     (λ beginning past names done run stands more on told.
     purged run (last_step (grown past (Says Purge) added) (session_state session) (Says Purge) added)
     (mode_of session.mode) epoch told)
@@ -224,6 +228,7 @@ shows desk session new_desk now counted h is =
     let added : List JournalEntry = entry.Show 1 now.statements ∷ [] in
     stay_executes (Says ShowEpochs) added (entry.Show 1) desk session new_desk now (reply.Epochs counted)
     (show_stays desk session new_desk now h)
+    (none_for (Says ShowEpochs) now.statements desk.cubes added refl)
     (λ beginning past names done run stands more on told.
     let after = grown past (Says ShowEpochs) added in
     let step = last_step after (session_state session) (Says ShowEpochs) added in

@@ -19,6 +19,7 @@ use Rattle.session_desk.specs.declared.session.Session.{Session}
 use Rattle.session_desk.specs.AtDesk.{change_epoch}
 use Rattle.session_desk.specs.Executed.{ExecutesAtDesk}
 use Rattle.session_desk.specs.Standing.{session_state}
+use Rattle.session_desk.proofs.Agreeing.{none_for}
 use Rattle.session_desk.proofs.Growing.{executes, grown}
 
 -- A session begins a transaction at its desk.
@@ -53,6 +54,7 @@ begin_executes desk session new_desk now b =
       own = (omega arith, omega arith, tt);
       owners = refl;
       no_cube = λ run. refl;
+      agrees = none_for (Says Begin) now.statements desk.cubes entries refl;
       epochs =
           subst (λ (mode : Mode). change_epoch s mode
           ≤ change_epoch (state_of new_desk.register) (mode_of now.mode)) (sym b.was)

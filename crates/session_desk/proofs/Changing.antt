@@ -13,18 +13,21 @@ use Rattle.cube_run.specs.RunTransactions.{DoneOperation}
 use Rattle.cube_run.specs.SessionStates.{SessionState, session_after}
 use Rattle.cube_run.specs.SessionSteps.{session_part}
 use Rattle.played_scripts.specs.PlayedRuns.{AreNumbered}
-use Rattle.one_session.specs.Behind.{HasDone, HaveDone, last_step}
+use Rattle.one_session.specs.Behind.{HasDone, HaveDone, last_step, run_so_far}
 use Rattle.one_session.specs.Changes.{StandInOrder}
 use Rattle.one_session.specs.Pasts.{Beginning, GoesOn, IsOneMore, NamesOnlyCome, SessionPast, last_number}
 use Rattle.one_session.proofs.Backwards.{goes_on_before}
+use Rattle.one_session.proofs.CubesBehind.{cubes_behind_more}
 use Rattle.one_session.proofs.Entries.{longer_by_one}
 use Rattle.one_session.proofs.InOrder.{order_kept, order_more}
 use Rattle.one_session.proofs.Steps.{change_more, no_change_more}
 use Rattle.aosi_desk.specs.Desks.{DeskState}
 use Rattle.session_desk.specs.declared.session.Session.{Session}
+use Rattle.session_desk.specs.CubesBefore.{AgreeWithCubes}
 use Rattle.session_desk.specs.Executed.{HasExecuted}
 use Rattle.session_desk.specs.RowsDone.{AddsEntries, EpochsRise, done_with, next_change, past_with}
 use Rattle.session_desk.specs.Standing.{StandsBehind, session_state}
+use Rattle.session_desk.proofs.Agreeing.{agree_then, none_agree}
 use Rattle.session_desk.proofs.Growing.{all_more, never_fall_more, world_of}
 
 -- The files behind stay.
@@ -107,6 +110,12 @@ executes_on_rows beginning past sentence file added desk session new_desk now na
         journal =
             ap (λ (d : DeskState). d.register.journal) g.desk_is
             ∙ ap (λ (es : List JournalEntry). es ++ added) h.journal;
+        there =
+            cubes_behind_more beginning past after sentence added h.done.turn h.owned more
+            ∙ ap (λ (cubes : List Decl). cubes ++ filter_map (made_by (run_so_far beginning after)) added) h.there
+            ∙ ap (λ (cubes : List Decl). desk.cubes ++ cubes) (g.no_cube (run_so_far beginning after))
+            ∙ append-nil desk.cubes
+            ∙ sym (ap (λ (d : DeskState). d.cubes) g.desk_is);
         cubes = λ run on.
             ap (λ (cubes : List Decl). run.cubes ++ cubes) (filter_map-append (made_by run) past.journal added)
             ∙ sym (append_assoc run.cubes (filter_map (made_by run) past.journal) (filter_map (made_by run) added))
@@ -115,6 +124,11 @@ executes_on_rows beginning past sentence file added desk session new_desk now na
             ∙ ap (λ (cubes : List Decl). desk.cubes ++ cubes) (g.no_cube run)
             ∙ append-nil desk.cubes
             ∙ sym (ap (λ (d : DeskState). d.cubes) g.desk_is);
+        agrees = λ run on.
+            agree_then run run.cubes desk.cubes new_desk.cubes past.journal added
+            (h.agrees run (goes_on_before beginning past after sentence added run more on))
+            (subst (AgreeWithCubes run desk.cubes added) (sym (ap (λ (d : DeskState). d.cubes) g.desk_is))
+            (none_agree run desk.cubes added g.speaks_of_none));
         names = refl;
         number =
             longer_by_one past after sentence added more ∙ ap (λ (n : ℕ). n + 1) h.number ∙ sym g.statements;

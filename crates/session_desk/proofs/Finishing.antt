@@ -1,7 +1,7 @@
 -- COMMIT and ROLLBACK.
 use Rattle.std.proofs.Common.{◌≡◌, ◌∙◌, ℕ, ◌+◌, ◌≤◌, Bool, true, false, cond, List, [], ◌∷◌, ◌++◌, None, refl, sym, ap, subst, arith}
 use Rattle.std.specs.Prelude.{fold, unwrap_or}
-use Rattle.std.specs.List.{count_by, filter_map, list_all}
+use Rattle.std.specs.List.{count_by, filter_map, list_all, list_any}
 use Rattle.std.specs.Option.{option_map_or}
 use Rattle.std.proofs.Math.Nat.{add-zero}
 use Rattle.std.proofs.lemmas.List.Sums.{fold-append, sum_by_from}
@@ -25,7 +25,7 @@ use Rattle.one_session.specs.Behind.{last_step}
 use Rattle.one_session.specs.Pasts.{has_one_owner, last_number}
 use Rattle.one_session.proofs.Entries.{longer_by_one}
 use Rattle.aosi_register.specs.State.{after_abort, after_commit, held_epoch, state_of}
-use Rattle.aosi_desk.specs.Desks.{DeskState, desk_over}
+use Rattle.aosi_desk.specs.Desks.{DeskState, desk_over, speaks_of_cubes}
 use Rattle.session_replies.specs.declared.mode.SessionMode.{SessionMode}
 use Rattle.session_replies.specs.declared.mode.SessionMode.TheVariants as variant
 use Rattle.session_replies.specs.Modes.{mode_of, round_follows}
@@ -35,8 +35,9 @@ use Rattle.session_desk.specs.AtDesk.{IsAtDesk, IsOpenAt, IsServing, change_epoc
 use Rattle.session_desk.specs.Entries.{FollowsCommit, HasFollowed, RoundAfter, is_done, round_entries, wants_memory}
 use Rattle.session_desk.specs.Executed.{ExecutesAtDesk}
 use Rattle.session_desk.specs.Standing.{session_state}
+use Rattle.session_desk.proofs.Agreeing.{none_for}
 use Rattle.session_desk.proofs.Growing.{executes, grown}
-use Rattle.session_desk.proofs.RoundEntries.{desk_more, round_cubes, round_epoch, round_owners, round_part, state_more}
+use Rattle.session_desk.proofs.RoundEntries.{desk_more, round_cubes, round_epoch, round_owners, round_part, round_speaks, state_more}
 
 -- The writer of a mode that has a transaction open with an epoch.
 pub record HasOpen (m : SessionMode) (epoch : ℕ) : Type 0 where
@@ -61,6 +62,7 @@ pub record Rear (statement : ℕ) (is_due : Bool) (s : JournalState) (added : Li
   pub commits : count_by is_commit (session_part 1 added) ≡ 0
   pub owners : list_all has_one_owner added ≡ true
   pub cubes : (run : RunRecord) → filter_map (made_by run) added ≡ []
+  pub speaks_of_none : list_any speaks_of_cubes added ≡ false
   pub epoch : (fold state_after s added).ec ≡ s.ec
 
 fold_more : (s : JournalState) (es more : List JournalEntry)
@@ -80,6 +82,7 @@ rear_of_round statement s (is_done epoch) =
       commits = ap (count_by is_commit) part;
       owners = round_owners s rest;
       cubes = round_cubes s rest;
+      speaks_of_none = round_speaks s rest;
       epoch = ap (λ (t : JournalState). t.ec) (fold_more s (round_entries s) rest) ∙ round_epoch s;
     }
 rear_of_round statement s wants_memory = record {
@@ -88,6 +91,7 @@ rear_of_round statement s wants_memory = record {
   commits = refl;
   owners = refl;
   cubes = λ run. refl;
+  speaks_of_none = refl;
   epoch = refl;
 }
 
@@ -101,6 +105,7 @@ rear_after statement s false added h =
       commits = refl;
       owners = refl;
       cubes = λ run. refl;
+      speaks_of_none = refl;
       epoch = refl;
     })
 
@@ -160,6 +165,7 @@ commit_executes epoch desk session new_desk now at h =
       own = (omega arith, omega arith, tail.numbered);
       owners = tail.owners;
       no_cube = tail.cubes;
+      agrees = none_for (Says Commit) now.statements desk.cubes entries tail.speaks_of_none;
       epochs =
           let last = serving.writer.last in
           let ec : (state_of new_desk.register).ec ≡ s.ec =
@@ -229,6 +235,7 @@ rolls_back epoch desk session new_desk now at h =
       own = (omega arith, omega arith, tt);
       owners = refl;
       no_cube = λ run. refl;
+      agrees = none_for (Says Rollback) now.statements desk.cubes entries refl;
       epochs =
           let last = serving.writer.last in
           let ec : (state_of new_desk.register).ec ≡ s.ec =
@@ -291,6 +298,7 @@ clear_executes epoch desk session new_desk now h =
       own = (omega arith, omega arith, tt);
       owners = refl;
       no_cube = λ run. refl;
+      agrees = none_for (Says Rollback) now.statements desk.cubes entries refl;
       epochs =
           let ec : (state_of new_desk.register).ec ≡ s.ec =
           ap (λ (t : JournalState). t.ec) (state_cleared epoch desk session new_desk now h)

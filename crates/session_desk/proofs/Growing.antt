@@ -15,20 +15,23 @@ use Rattle.cube_run.specs.RunTransactions.{DoneOperation, operation_done}
 use Rattle.cube_run.specs.SessionStates.{session_after}
 use Rattle.cube_run.specs.SessionSteps.{session_part}
 use Rattle.played_scripts.specs.PlayedRuns.{AreNumbered}
-use Rattle.one_session.specs.Behind.{HaveDone, last_step}
+use Rattle.one_session.specs.Behind.{HaveDone, cubes_behind, last_step, run_so_far}
 use Rattle.one_session.specs.Changes.{EpochsNeverFall}
 use Rattle.one_session.specs.Pasts.{Beginning, GoesOn, IsOneMore, SessionPast, has_one_owner, last_number}
 use Rattle.one_session.proofs.Backwards.{goes_on_before}
+use Rattle.one_session.proofs.CubesBehind.{cubes_behind_more}
 use Rattle.one_session.proofs.Entries.{longer_by_one}
 use Rattle.one_session.proofs.InOrder.{order_kept}
-use Rattle.one_session.proofs.Steps.{executed, no_change_more}
+use Rattle.one_session.proofs.Steps.{executed, no_change_more, there}
 use Rattle.aosi_register.specs.State.{state_of}
 use Rattle.aosi_desk.specs.Desks.{DeskState}
 use Rattle.session_replies.specs.Modes.{mode_of}
 use Rattle.session_desk.specs.declared.session.Session.{Session}
 use Rattle.session_desk.specs.AtDesk.{change_epoch, desk_with_entries}
+use Rattle.session_desk.specs.CubesBefore.{AgreeWithCubes}
 use Rattle.session_desk.specs.Executed.{ExecutesAtDesk}
 use Rattle.session_desk.specs.Standing.{StandsBehind, World, session_state}
+use Rattle.session_desk.proofs.Agreeing.{AgreeFor, agree_then}
 
 -- What is behind the session, with one statement more that has no file and changes no dictionary.
 abbrev pub grown : SessionPast → Sentence → List JournalEntry → SessionPast
@@ -55,6 +58,7 @@ pub record GrowWith (sentence : Sentence) (added : List JournalEntry) (made : Li
   pub owners : list_all has_one_owner added ≡ true
   pub makes : (run : RunRecord) → slice_get (script_of run 1) (now.statements - 1) ≡ Some sentence
       → filter_map (made_by run) added ≡ made
+  pub agrees : AgreeFor sentence now.statements desk.cubes added new_desk.cubes
   pub epochs : change_epoch (state_of desk.register) (mode_of session.mode)
       ≤ change_epoch (state_of new_desk.register) (mode_of now.mode)
   pub no_change : (catalog : Catalog) (number : ℕ) (file : LoadedFile)
@@ -77,6 +81,7 @@ pub record Grow (sentence : Sentence) (added : List JournalEntry) (desk : DeskSt
   pub own : AreNumbered now.statements now.statements (session_part 1 added)
   pub owners : list_all has_one_owner added ≡ true
   pub no_cube : (run : RunRecord) → filter_map (made_by run) added ≡ []
+  pub agrees : AgreeFor sentence now.statements desk.cubes added desk.cubes
   pub epochs : change_epoch (state_of desk.register) (mode_of session.mode)
       ≤ change_epoch (state_of new_desk.register) (mode_of now.mode)
   pub no_change : (catalog : Catalog) (number : ℕ) (file : LoadedFile)
@@ -142,6 +147,7 @@ executes_with sentence added made desk session new_desk now said g answers = λ 
     let number : last_number past + 1 - 1 ≡ now.statements - 1 =
     let a = h.number in let b = g.statements in omega (arith, a, b)
     in
+    let place : now.statements - 1 ≡ last_number past = let a = h.number in let b = g.statements in omega (arith, a, b) in
     record {
       after = after;
       added = added;
@@ -151,6 +157,13 @@ executes_with sentence added made desk session new_desk now said g answers = λ 
       stands = record {
         safe = g.safe ∙ h.safe;
         journal = g.journal ∙ ap (λ (es : List JournalEntry). es ++ added) h.journal;
+        there =
+            cubes_behind_more beginning past after sentence added h.done.turn h.owned more
+            ∙ ap (λ (cubes : List Decl). cubes ++ filter_map (made_by (run_so_far beginning after)) added) h.there
+            ∙ ap (λ (cubes : List Decl). desk.cubes ++ cubes)
+            (g.makes (run_so_far beginning after)
+            (ap (slice_get after.sentences) place ∙ there past.sentences sentence []))
+            ∙ sym g.cubes;
         cubes = λ run on.
             ap (λ (cubes : List Decl). run.cubes ++ cubes) (filter_map-append (made_by run) past.journal added)
             ∙ sym (append_assoc run.cubes (filter_map (made_by run) past.journal) (filter_map (made_by run) added))
@@ -159,6 +172,10 @@ executes_with sentence added made desk session new_desk now said g answers = λ 
             ∙ ap (λ (cubes : List Decl). desk.cubes ++ cubes)
             (g.makes run (ap (slice_get (script_of run 1)) (sym number) ∙ stands run on))
             ∙ sym g.cubes;
+        agrees = λ run on.
+            agree_then run run.cubes desk.cubes new_desk.cubes past.journal added
+            (h.agrees run (goes_on_before beginning past after sentence added run more on))
+            (g.agrees run (ap (slice_get (script_of run 1)) (sym number) ∙ stands run on));
         names = h.names;
         number =
             longer_by_one past after sentence added more
@@ -190,6 +207,9 @@ executes sentence added desk session new_desk now said g answers =
       own = g.own;
       owners = g.owners;
       makes = λ run said. g.no_cube run;
+      agrees = λ run said.
+          subst (AgreeWithCubes run desk.cubes added) (sym (ap (λ (d : DeskState). d.cubes) g.desk_is))
+          (g.agrees run said);
       epochs = g.epochs;
       no_change = g.no_change;
     }) answers

@@ -1,6 +1,7 @@
 pub mod RoundEntries
 pub mod Following
 pub mod May
+pub mod Agreeing
 pub mod Growing
 pub mod Begun
 pub mod Staying
@@ -8,6 +9,7 @@ pub mod Refused
 pub mod Replying
 pub mod Finishing
 pub mod Asking
+pub mod CubesGiven
 pub mod Making
 pub mod MakingCubes
 pub mod NamedApart
@@ -16,5 +18,7 @@ pub mod FindingCubes
 pub mod Changing
 pub mod OpenBegun
 pub mod SettledAtDesk
+pub mod LegalRuns
 pub mod Moving
 pub mod Turning
+pub mod Unread

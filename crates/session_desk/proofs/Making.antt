@@ -1,6 +1,5 @@
 -- CREATE CUBE.
-use Rattle.std.proofs.Common.{◌≡◌, ◌∙◌, ℕ, ◌+◌, ◌-◌, ◌≤◌, ◌==◌, Bool, true, false, if◌then◌else◌, length, List, [], ◌∷◌, Option, Some, None, slice_get, refl, sym, ap, subst, arith}
-use Rattle.std.proofs.lemmas.Bool.{both_ways}
+use Rattle.std.proofs.Common.{◌≡◌, ◌∙◌, ℕ, ◌+◌, ◌-◌, ◌<◌, ◌≤◌, true, false, length, List, [], ◌∷◌, Option, Some, None, slice_get, refl, sym, ap, subst, arith}
 use Rattle.std.specs.List.{cons_option}
 use Rattle.std.specs.Option.{option_and_then}
 use Rattle.std.proofs.Math.Nat.{add-zero}
@@ -24,6 +23,7 @@ use Rattle.aosi_register.specs.State.{state_of}
 use Rattle.cube_language.specs.CubesText.{cubes_limit}
 use Rattle.cube_journal.specs.Legal.{has_cube}
 use Rattle.aosi_desk.specs.Desks.{DeskState, cube_answer, decl_names, desk_after_answer, desk_with_cube}
+use Rattle.aosi_desk.proofs.Kept.{cube_allowed, exists_fits, names_more, too_many_fits}
 use Rattle.aosi_desk.specs.declared.cube.CubeAnswer.{CubeAnswer}
 use Rattle.aosi_desk.specs.declared.cube.CubeAnswer.TheVariants.{Created, Exists, TooMany}
 use Rattle.session_desk.specs.CubeReplies.{created_reply}
@@ -34,6 +34,8 @@ use Rattle.session_desk.specs.declared.session.Session.{Session}
 use Rattle.session_desk.specs.AtDesk.{IsAtDesk, IsServing, change_epoch}
 use Rattle.session_desk.specs.Executed.{ExecutesAtDesk}
 use Rattle.session_desk.specs.Standing.{session_state}
+use Rattle.session_desk.proofs.Agreeing.{none_for, one_for}
+use Rattle.session_desk.proofs.CubesGiven.{existing_there, full_there, made_there}
 use Rattle.session_desk.proofs.Growing.{executes_with, grown}
 use Rattle.session_desk.proofs.Refused.{Refuses, at_refused, refused_stays}
 use Rattle.session_desk.proofs.Replying.{counted, refuses_next}
@@ -43,6 +45,8 @@ use Rattle.session_desk.proofs.Staying.{stay_executes}
 pub record Creates (d : Decl) (desk : DeskState) (session : Session) (new_desk : DeskState) (now : Session)
     : Type 0 where
   pub was : mode_of session.mode ≡ Idle
+  pub room : length desk.cubes < cubes_limit
+  pub new_name : has_cube (decl_names desk.cubes) d.name ≡ false
   pub desk_is : new_desk ≡ desk_with_cube desk 1 now.statements (state_of desk.register).ec d
   pub mode_is : now.mode ≡ session.mode
   pub statements : now.statements ≡ session.statements + 1
@@ -113,6 +117,10 @@ create_executes d desk session new_desk now h sound =
       own = (omega arith, omega arith, tt);
       owners = refl;
       makes = λ run said. made_here d run now.statements s.ec said;
+      agrees =
+          one_for (CreateCube d) now.statements desk.cubes new_desk.cubes (λ n. entry.Cube 1 n s.ec) d.name
+          (λ run. refl) refl (cube_allowed desk.cubes d 1 now.statements s.ec h.room h.new_name)
+          (names_more desk.cubes new_desk.cubes d (ap (λ (x : DeskState). x.cubes) h.desk_is));
       epochs =
           let ec : (state_of new_desk.register).ec ≡ s.ec + 1 =
           ap (λ (t : JournalState). t.ec) (state_created d desk session new_desk now h)
@@ -145,6 +153,7 @@ refuses_faulty d fault desk session new_desk now was h is =
     let added : List JournalEntry = entry.Refused 1 now.statements 20 ∷ [] in
     stay_executes (Says (CreateCube d)) added (λ n. entry.Refused 1 n 20) desk session new_desk now
     (reply.Refused (refusal.BadCube fault)) (refused_stays 20 desk session new_desk now h)
+    (none_for (Says (CreateCube d)) now.statements desk.cubes added refl)
     (λ beginning past names done run stands more on step.
     faulty_cube run
     (last_step (grown past (Says (CreateCube d)) added) (session_state session) (Says (CreateCube d)) added) d fault
@@ -152,11 +161,14 @@ refuses_faulty d fault desk session new_desk now was h is =
 
 pub refuses_existing : (d : Decl) (desk : DeskState) (session : Session) (new_desk : DeskState)
     (now : Session) → mode_of session.mode ≡ Idle → Refuses 19 desk session new_desk now → schema_fault d ≡ None
+    → has_cube (decl_names desk.cubes) d.name ≡ true
     → ExecutesAtDesk (Says (CreateCube d)) desk session new_desk now (reply.Refused (refusal.CubeExists d.name))
-refuses_existing d desk session new_desk now was h is =
+refuses_existing d desk session new_desk now was h is has =
     let added : List JournalEntry = entry.Refused 1 now.statements 19 ∷ [] in
     stay_executes (Says (CreateCube d)) added (λ n. entry.Refused 1 n 19) desk session new_desk now
     (reply.Refused (refusal.CubeExists d.name)) (refused_stays 19 desk session new_desk now h)
+    (one_for (CreateCube d) now.statements desk.cubes desk.cubes (λ n. entry.Refused 1 n 19) d.name (λ run. refl) refl
+    (exists_fits desk.cubes d.name has) refl)
     (λ beginning past names done run stands more on step.
     cube_exists run
     (last_step (grown past (Says (CreateCube d)) added) (session_state session) (Says (CreateCube d)) added) d
@@ -164,47 +176,31 @@ refuses_existing d desk session new_desk now was h is =
 
 pub refuses_too_many : (d : Decl) (desk : DeskState) (session : Session) (new_desk : DeskState)
     (now : Session) → mode_of session.mode ≡ Idle → Refuses 21 desk session new_desk now → schema_fault d ≡ None
+    → length desk.cubes ≡ cubes_limit → has_cube (decl_names desk.cubes) d.name ≡ false
     → ExecutesAtDesk (Says (CreateCube d)) desk session new_desk now (reply.Refused refusal.TooManyCubes)
-refuses_too_many d desk session new_desk now was h is =
+refuses_too_many d desk session new_desk now was h is full none =
     let added : List JournalEntry = entry.Refused 1 now.statements 21 ∷ [] in
     stay_executes (Says (CreateCube d)) added (λ n. entry.Refused 1 n 21) desk session new_desk now
     (reply.Refused refusal.TooManyCubes) (refused_stays 21 desk session new_desk now h)
+    (one_for (CreateCube d) now.statements desk.cubes desk.cubes (λ n. entry.Refused 1 n 21) d.name (λ run. refl) refl
+    (too_many_fits desk.cubes d.name full none) refl)
     (λ beginning past names done run stands more on step.
     too_many_cubes run
     (last_step (grown past (Says (CreateCube d)) added) (session_state session) (Says (CreateCube d)) added) d
     (record { mode_is = step.mode_is ∙ was; sentence_is = step.sentence_is; entries_are = step.entries_are }) is)
 
-abbrev is_made : CubeAnswer → Bool
-is_made (Created epoch place) = true
-is_made answer = false
-
-abbrev epoch_made : CubeAnswer → ℕ
-epoch_made (Created epoch place) = epoch
-epoch_made answer = 0
-
--- A cube is made with EC.
-epoch_is_next : (desk : DeskState) (name : List ℕ) (epoch place : ℕ) → Created epoch place ≡ cube_answer desk name
-    → epoch ≡ (state_of desk.register).ec
-epoch_is_next desk name epoch place h =
-    at (has_cube (decl_names desk.cubes) name) (length desk.cubes == cubes_limit) h
-  where
-    at : (a b : Bool) → Created epoch place
-        ≡ (if a then Exists
-        else (if b then TooMany else Created (state_of desk.register).ec (length desk.cubes)))
-        → epoch ≡ (state_of desk.register).ec
-    at true b h = absurd (both_ways true (ap is_made h) refl)
-    at false true h = absurd (both_ways true (ap is_made h) refl)
-    at false false h = ap epoch_made h
-
 makes_next : (d : Decl) (desk : DeskState) (session : Session) (new_desk : DeskState) (epoch place : ℕ)
-    → mode_of session.mode ≡ Idle → Created epoch place ≡ cube_answer desk d.name
+    → mode_of session.mode ≡ Idle → length desk.cubes ≤ cubes_limit → Created epoch place ≡ cube_answer desk d.name
     → new_desk ≡ desk_after_answer desk 1 (session.statements + 1) d (Created epoch place)
     → Creates d desk session new_desk (counted session)
-makes_next d desk session new_desk epoch place was answer desk_is = record {
+makes_next d desk session new_desk epoch place was few answer desk_is = record {
   was = was;
+  room = (made_there desk d.name epoch place few answer).room;
+  new_name = (made_there desk d.name epoch place few answer).new_name;
   desk_is =
       desk_is
-      ∙ ap (λ (e : ℕ). desk_with_cube desk 1 (session.statements + 1) e d) (epoch_is_next desk d.name epoch place answer);
+      ∙ ap (λ (e : ℕ). desk_with_cube desk 1 (session.statements + 1) e d)
+      (made_there desk d.name epoch place few answer).epoch_is;
   mode_is = refl;
   statements = refl;
   commits = refl;
@@ -213,30 +209,33 @@ makes_next d desk session new_desk epoch place was answer desk_is = record {
 
 -- What the desk gave is answered.
 pub answers_made : (d : Decl) (desk : DeskState) (session : Session) (new_desk : DeskState) (answer : CubeAnswer)
-    → mode_of session.mode ≡ Idle → schema_fault d ≡ None → answer ≡ cube_answer desk d.name
+    → mode_of session.mode ≡ Idle → length desk.cubes ≤ cubes_limit → schema_fault d ≡ None
+    → answer ≡ cube_answer desk d.name
     → new_desk ≡ desk_after_answer desk 1 (session.statements + 1) d answer
     → ExecutesAtDesk (Says (CreateCube d)) desk session new_desk (counted session) (created_reply answer d.name)
-answers_made d desk session new_desk (Created epoch place) was sound answer desk_is =
+answers_made d desk session new_desk (Created epoch place) was few sound answer desk_is =
     subst (λ (e : ℕ). ExecutesAtDesk (Says (CreateCube d)) desk session new_desk (counted session) (reply.Created e))
-    (sym (epoch_is_next desk d.name epoch place answer))
+    (sym (made_there desk d.name epoch place few answer).epoch_is)
     (create_executes d desk session new_desk (counted session)
-    (makes_next d desk session new_desk epoch place was answer desk_is) sound)
-answers_made d desk session new_desk Exists was sound answer desk_is =
+    (makes_next d desk session new_desk epoch place was few answer desk_is) sound)
+answers_made d desk session new_desk Exists was few sound answer desk_is =
     refuses_existing d desk session new_desk (counted session) was
-    (refuses_next 19 desk session desk new_desk refl desk_is) sound
-answers_made d desk session new_desk TooMany was sound answer desk_is =
+    (refuses_next 19 desk session desk new_desk refl desk_is) sound (existing_there desk d.name answer)
+answers_made d desk session new_desk TooMany was few sound answer desk_is =
     refuses_too_many d desk session new_desk (counted session) was
-    (refuses_next 21 desk session desk new_desk refl desk_is) sound
+    (refuses_next 21 desk session desk new_desk refl desk_is) sound (full_there desk d.name answer).full
+    (full_there desk d.name answer).new_name
 
 pub at_answer : (d : Decl) (desk : DeskState) (session : Session) (new_desk : DeskState) (answer : CubeAnswer)
-    → IsAtDesk desk session → mode_of session.mode ≡ Idle → answer ≡ cube_answer desk d.name
+    → IsAtDesk desk session → mode_of session.mode ≡ Idle → length desk.cubes ≤ cubes_limit
+    → answer ≡ cube_answer desk d.name
     → new_desk ≡ desk_after_answer desk 1 (session.statements + 1) d answer → IsAtDesk new_desk (counted session)
-at_answer d desk session new_desk (Created epoch place) at was answer desk_is =
+at_answer d desk session new_desk (Created epoch place) at was few answer desk_is =
     at_created d desk session new_desk (counted session) at
-    (makes_next d desk session new_desk epoch place was answer desk_is)
-at_answer d desk session new_desk Exists at was answer desk_is =
+    (makes_next d desk session new_desk epoch place was few answer desk_is)
+at_answer d desk session new_desk Exists at was few answer desk_is =
     at_refused 19 desk session new_desk (counted session) at
     (refuses_next 19 desk session desk new_desk refl desk_is)
-at_answer d desk session new_desk TooMany at was answer desk_is =
+at_answer d desk session new_desk TooMany at was few answer desk_is =
     at_refused 21 desk session new_desk (counted session) at
     (refuses_next 21 desk session desk new_desk refl desk_is)

@@ -18,6 +18,7 @@ use Rattle.session_replies.proofs.Refusing.{refused_by_its_mode, spells_none, wi
 use Rattle.session_desk.specs.declared.session.Session.{Session}
 use Rattle.session_desk.specs.AtDesk.{IsAtDesk, IsServing}
 use Rattle.session_desk.specs.Executed.{ExecutesAtDesk}
+use Rattle.session_desk.proofs.Agreeing.{mode_refusal, none_for}
 use Rattle.session_desk.proofs.Growing.{grown}
 use Rattle.session_desk.proofs.Staying.{Stays, at_stays, refused_still, stay_executes}
 use Rattle.one_session.specs.Behind.{last_step}
@@ -70,6 +71,7 @@ executes_without_memory sentence desk session new_desk now h =
     let added : List JournalEntry = entry.Refused 1 now.statements 16 ∷ [] in
     stay_executes sentence added (λ n. entry.Refused 1 n 16) desk session new_desk now (reply.Refused refusal.NoMemory)
     (refused_stays 16 desk session new_desk now h)
+    (none_for sentence now.statements desk.cubes added refl)
     (λ beginning past names done run stands more on step.
     without_memory run (last_step (grown past sentence added) (session_state session) sentence added)
     (mode_of session.mode) sentence step)
@@ -83,6 +85,7 @@ refuses_syntax at desk session new_desk now h =
     let added : List JournalEntry = entry.Refused 1 now.statements 1 ∷ [] in
     stay_executes (SaysNone at) added (λ n. entry.Refused 1 n 1) desk session new_desk now
     (reply.Refused (refusal.Syntax (record { at = at }))) (refused_stays 1 desk session new_desk now h)
+    (none_for (SaysNone at) now.statements desk.cubes added refl)
     (λ beginning past names done run stands more on step.
     spells_none run (last_step (grown past (SaysNone at) added) (session_state session) (SaysNone at) added)
     (mode_of session.mode) at step)
@@ -95,6 +98,7 @@ refuses_by_mode s r desk session new_desk now h is =
     let added : List JournalEntry = entry.Refused 1 now.statements (code r) ∷ [] in
     stay_executes (Says s) added (λ n. entry.Refused 1 n (code r)) desk session new_desk now
     (reply.Refused r) (refused_stays (code r) desk session new_desk now h)
+    (none_for (Says s) now.statements desk.cubes added (mode_refusal (mode_of session.mode) s r now.statements is))
     (λ beginning past names done run stands more on step.
     refused_by_its_mode run (last_step (grown past (Says s) added) (session_state session) (Says s) added)
     (mode_of session.mode) s r step is)

@@ -13,7 +13,7 @@ use Rattle.cube_run.specs.SessionStates.{Mode, Idle, Open, Aborted}
 use Rattle.cube_run.specs.SessionSteps.{session_part}
 use Rattle.one_session.specs.Pasts.{has_one_owner}
 use Rattle.aosi_register.specs.State.{state_of}
-use Rattle.aosi_desk.specs.Desks.{DeskState}
+use Rattle.aosi_desk.specs.Desks.{DeskState, speaks_of_cubes}
 use Rattle.session_desk.specs.AtDesk.{IsServing, KeepsServing, change_epoch, desk_with_entries}
 use Rattle.session_desk.specs.Entries.{round_entries}
 
@@ -108,6 +108,17 @@ round_cubes s es run = at (target s == s.lse)
     at : (b : Bool) → filter_map (made_by run)
         ((if b then entry.Idle (target s) ∷ [] else entry.Round (target s) ∷ entry.Safe (target s) ∷ []) ++ es)
         ≡ filter_map (made_by run) es
+    at true = refl
+    at false = refl
+
+-- Nor do they speak of one.
+pub round_speaks : (s : JournalState) (es : List JournalEntry)
+    → list_any speaks_of_cubes (round_entries s ++ es) ≡ list_any speaks_of_cubes es
+round_speaks s es = at (target s == s.lse)
+  where
+    at : (b : Bool) → list_any speaks_of_cubes
+        ((if b then entry.Idle (target s) ∷ [] else entry.Round (target s) ∷ entry.Safe (target s) ∷ []) ++ es)
+        ≡ list_any speaks_of_cubes es
     at true = refl
     at false = refl
 

@@ -26,6 +26,7 @@ use Rattle.session_desk.specs.declared.session.Session.{Session}
 use Rattle.session_desk.specs.AtDesk.{IsAtDesk, IsServing, change_epoch, desk_with_entries}
 use Rattle.session_desk.specs.Executed.{ExecutesAtDesk}
 use Rattle.session_desk.specs.Standing.{StandsBehind, session_state}
+use Rattle.session_desk.proofs.Agreeing.{AgreeFor}
 use Rattle.session_desk.proofs.Growing.{executes, grown, world_of}
 
 -- An entry changes no session's mode, commits nothing and changes no row.
@@ -175,9 +176,10 @@ no_commits e h = ap (λ (b : Bool). 0 + cond b 1 0) h
 
 pub stay_executes : (sentence : Sentence) (added : List JournalEntry) (own : ℕ → JournalEntry) (desk : DeskState)
     (session : Session) (new_desk : DeskState) (now : Session) (said : Reply)
-    → Stays added own desk session new_desk now → Tells sentence added own desk session said
+    → Stays added own desk session new_desk now → AgreeFor sentence now.statements desk.cubes added desk.cubes
+    → Tells sentence added own desk session said
     → ExecutesAtDesk sentence desk session new_desk now said
-stay_executes sentence added own desk session new_desk now said h tells =
+stay_executes sentence added own desk session new_desk now said h agrees tells =
     let mode = mode_of session.mode in
     executes sentence added desk session new_desk now said
     (record {
@@ -201,6 +203,7 @@ stay_executes sentence added own desk session new_desk now said h tells =
           (numbered_one now.statements (own now.statements) h.numbered);
       owners = h.owners;
       no_cube = h.no_cube;
+      agrees = agrees;
       epochs =
           subst (λ (m : Mode). change_epoch (state_of desk.register) mode
           ≤ change_epoch (state_of new_desk.register) m) (sym (ap mode_of h.mode_is))

@@ -13,7 +13,7 @@ use Rattle.session_replies.specs.Modes.{mode_of}
 use Rattle.session_replies.specs.declared.mode.SessionMode.{SessionMode}
 use Rattle.session_desk.specs.declared.session.Session.{Session}
 use Rattle.session_desk.specs.AtDesk.{IsAtDesk, IsOpenAt, desk_with_entries}
-use Rattle.session_desk.specs.Moves.{KeepsOpen, MovesOn, epoch_in, is_committed_at}
+use Rattle.session_desk.specs.Moves.{KeepsOpen, MovesOn, epoch_open_in, is_committed_at}
 use Rattle.session_desk.proofs.Finishing.{held_open, open_of}
 use Rattle.session_desk.proofs.Moving.{moves_by, moves_refused, moves_then, or_none, same_test}
 
@@ -62,11 +62,11 @@ moves_answered n d TooMany desk new_desk h = moves_refused n 21 desk new_desk h
 pub moves_committed : (n : ℕ) (desk : DeskState) (session : Session) (epoch : ℕ) (middle new_desk : DeskState)
     → IsAtDesk desk session → IsOpenAt session.mode epoch
     → middle ≡ desk_over desk (after_commit desk.register 1 n) → MovesOn None middle new_desk
-    → MovesOn (epoch_in (mode_of session.mode)) desk new_desk
+    → MovesOn (epoch_open_in (mode_of session.mode)) desk new_desk
 moves_committed n desk session epoch middle new_desk at is middle_is m =
     let o = open_of session.mode epoch is in
-    let one : Some epoch ≡ epoch_in (mode_of session.mode) =
-    ap (λ (e : ℕ). Some e) o.epoch_is ∙ sym (ap (λ (mode : SessionMode). epoch_in (mode_of mode)) o.mode_is)
+    let one : Some epoch ≡ epoch_open_in (mode_of session.mode) =
+    ap (λ (e : ℕ). Some e) o.epoch_is ∙ sym (ap (λ (mode : SessionMode). epoch_open_in (mode_of mode)) o.mode_is)
     in
     let ended : middle ≡ desk_with_entries desk (entry.Committed 1 n epoch ∷ []) =
     middle_is

@@ -27,6 +27,8 @@ use Rattle.session_replies.proofs.Refusing.{unknown_cube}
 use Rattle.session_desk.specs.declared.session.Session.{Session}
 use Rattle.session_desk.specs.Executed.{ExecutesAtDesk}
 use Rattle.session_desk.specs.Standing.{session_state}
+use Rattle.aosi_desk.proofs.Kept.{unknown_fits}
+use Rattle.session_desk.proofs.Agreeing.{misfit_refusal, needed_spoken, none_for, none_has, one_for}
 use Rattle.session_desk.proofs.FindingCubes.{finds_its_cube}
 use Rattle.session_desk.proofs.Growing.{grown, world_of}
 use Rattle.session_desk.proofs.NamedApart.{named_apart}
@@ -41,12 +43,14 @@ no_watch s name h = refl
 -- No cube has the name that it needs.
 pub refuses_unknown : (s : Statement) (name : List ℕ) (desk : DeskState) (session : Session) (new_desk : DeskState)
     (now : Session) → Refuses 2 desk session new_desk now → refused_by_mode (mode_of session.mode) s ≡ None
-    → cube_needed s ≡ Some name
+    → cube_needed s ≡ Some name → cube_called desk.cubes name ≡ None
     → ExecutesAtDesk (Says s) desk session new_desk now (reply.Refused (refusal.UnknownCube name))
-refuses_unknown s name desk session new_desk now h may needed =
+refuses_unknown s name desk session new_desk now h may needed lacks =
     let added : List JournalEntry = entry.Refused 1 now.statements 2 ∷ [] in
     stay_executes (Says s) added (λ n. entry.Refused 1 n 2) desk session new_desk now
     (reply.Refused (refusal.UnknownCube name)) (refused_stays 2 desk session new_desk now h)
+    (one_for s now.statements desk.cubes desk.cubes (λ n. entry.Refused 1 n 2) name (λ run. refl)
+    (needed_spoken s name needed) (unknown_fits desk.cubes name (none_has desk.cubes name lacks)) refl)
     (λ beginning past names done run stands more on step.
     unknown_cube run (last_step (grown past (Says s) added) (session_state session) (Says s) added)
     (mode_of session.mode) s name step may (no_watch s name needed) needed)
@@ -62,6 +66,7 @@ refuses_unfit s place d misfit desk session new_desk now h may apart there neede
     let added : List JournalEntry = entry.Refused 1 now.statements n ∷ [] in
     stay_executes (Says s) added (λ k. entry.Refused 1 k n) desk session new_desk now
     (reply.Refused (of_misfit misfit)) (refused_stays n desk session new_desk now h)
+    (none_for (Says s) now.statements desk.cubes added (misfit_refusal misfit now.statements))
     (λ beginning past names done run stands more on step.
     let last = last_step (grown past (Says s) added) (session_state session) (Says s) added in
     unfit run last (mode_of session.mode) s d misfit step may (no_watch s d.name needed)

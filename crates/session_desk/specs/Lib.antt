@@ -1,4 +1,5 @@
 pub mod AtDesk
+pub mod CubesBefore
 pub mod Standing
 pub mod Executed
 pub mod Entries
@@ -6,3 +7,4 @@ pub mod Ended
 pub mod CubeReplies
 pub mod RowsDone
 pub mod Moves
+pub mod FileReplies

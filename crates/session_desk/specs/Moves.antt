@@ -21,9 +21,9 @@ is_open_at (Open writer) epoch = epoch == writer.epoch
 is_open_at mode epoch = false
 
 -- No transaction is open.
-abbrev pub IsClosed : Mode → Type 0
-IsClosed (Open writer) = ⊥
-IsClosed mode = Unit {0}
+abbrev pub NothingIsOpen : Mode → Type 0
+NothingIsOpen (Open writer) = ⊥
+NothingIsOpen mode = Unit {0}
 
 -- A transaction that is open stays so; one that begins takes the next epoch.
 abbrev pub KeepsOpen : ℕ → Mode → Mode → Type 0
@@ -47,6 +47,6 @@ pub record MovesOn (committed : Option ℕ) (old new : DeskState) : Type 0 where
       → is_committed_at new epoch ≡ (is_committed_at old epoch || is_epoch_of committed epoch)
 
 -- The epoch of the transaction that is open, if there is one.
-abbrev pub epoch_in : Mode → Option ℕ
-epoch_in (Open writer) = Some writer.epoch
-epoch_in mode = None
+abbrev pub epoch_open_in : Mode → Option ℕ
+epoch_open_in (Open writer) = Some writer.epoch
+epoch_open_in mode = None

@@ -1,6 +1,6 @@
 -- A statement on rows is executed: the dictionaries may gain names by it, and rows a change.
 -- Source: this project's own.
-use Rattle.std.specs.Prelude.{◌≡◌, ℕ, ◌+◌, ◌≤◌, true, ◌==◌, List, [], ◌∷◌, ◌++◌, Option, Some, None, if◌then◌else◌}
+use Rattle.std.specs.Prelude.{◌≡◌, ℕ, ◌+◌, ◌≤◌, true, false, ◌==◌, List, [], ◌∷◌, ◌++◌, Option, Some, None, if◌then◌else◌}
 use Rattle.std.specs.List.{filter_map, list_all, list_any}
 use Rattle.cube_journal.specs.declared.journal_entry.JournalEntry.{JournalEntry}
 use Rattle.cube_run.specs.RunRecords.{LoadedFile, RunRecord, Sentence, made_by}
@@ -11,7 +11,7 @@ use Rattle.played_scripts.specs.PlayedRuns.{AreNumbered}
 use Rattle.one_session.specs.Changes.{is_begin_of}
 use Rattle.one_session.specs.Pasts.{SessionPast, has_one_owner, last_number}
 use Rattle.aosi_register.specs.State.{state_of}
-use Rattle.aosi_desk.specs.Desks.{DeskState}
+use Rattle.aosi_desk.specs.Desks.{DeskState, speaks_of_cubes}
 use Rattle.session_replies.specs.Modes.{mode_of}
 use Rattle.session_desk.specs.declared.session.Session.{Session}
 use Rattle.session_desk.specs.AtDesk.{change_epoch, desk_with_entries}
@@ -27,8 +27,8 @@ past_with past sentence file added names = record {
   names = names;
 }
 
--- The desk has these entries more, which are the statement's or the flusher's and make no cube, and the session is as
--- they make it.
+-- The desk has these entries more, which are the statement's or the flusher's, make no cube and speak of none, and the
+-- session is as they make it.
 pub record AddsEntries (sentence : Sentence) (added : List JournalEntry) (desk : DeskState) (session : Session)
     (new_desk : DeskState) (now : Session) : Type 0 where
   pub desk_is : new_desk ≡ desk_with_entries desk added
@@ -38,6 +38,7 @@ pub record AddsEntries (sentence : Sentence) (added : List JournalEntry) (desk :
   pub own : AreNumbered now.statements now.statements (session_part 1 added)
   pub owners : list_all has_one_owner added ≡ true
   pub no_cube : (run : RunRecord) → filter_map (made_by run) added ≡ []
+  pub speaks_of_none : list_any speaks_of_cubes added ≡ false
 
 -- The operations done after a statement.
 abbrev pub done_with : List DoneOperation → Option DoneOperation → List DoneOperation

@@ -4,7 +4,7 @@ use Rattle.std.specs.Prelude.{◌≡◌, ℕ, List, None, unwrap_or}
 use Rattle.cube_run.specs.RunRecords.{RunRecord, cubes_at}
 use Rattle.cube_run.specs.RunTransactions.{DoneOperation}
 use Rattle.cube_run.specs.SessionStates.{SessionState}
-use Rattle.one_session.specs.Behind.{HaveDone}
+use Rattle.one_session.specs.Behind.{HaveDone, cubes_behind}
 use Rattle.one_session.specs.Changes.{StandInOrder}
 use Rattle.one_session.specs.Pasts.{Beginning, GoesOn, IsOwned, SessionPast, last_number}
 use Rattle.aosi_register.specs.State.{state_of}
@@ -12,6 +12,7 @@ use Rattle.aosi_desk.specs.Desks.{DeskState}
 use Rattle.session_replies.specs.Modes.{mode_of}
 use Rattle.session_desk.specs.declared.session.Session.{Session}
 use Rattle.session_desk.specs.AtDesk.{change_epoch}
+use Rattle.session_desk.specs.CubesBefore.{AgreeWithCubes}
 
 -- The state of a session, which has no watch.
 abbrev pub session_state : Session → SessionState
@@ -26,12 +27,16 @@ pub record World : Type 0 where
   pub done : List DoneOperation
 
 -- What is behind the session stands behind all this, whatever may follow: the desk has its journal, and the cubes that
--- each run that goes on has there; the dictionaries have its names; the session's statements are counted; they have done
--- these operations and left the session so; and the operations stand in order up to the epoch of the next one.
+-- are there by it, and in each run that goes on, with which the journal agrees; the dictionaries have its names; the
+-- session's statements are counted; they have done these operations and left the session so; and the operations stand
+-- in order up to the epoch of the next one.
 pub record StandsBehind (beginning : Beginning) (past : SessionPast) (now : World) : Type 0 where
   pub safe : now.desk.register.safe ≡ beginning.safe
   pub journal : now.desk.register.journal ≡ past.journal
+  pub there : cubes_behind beginning past ≡ now.desk.cubes
   pub cubes : (run : RunRecord) → GoesOn beginning past run → cubes_at run past.journal ≡ now.desk.cubes
+  pub agrees : (run : RunRecord) → GoesOn beginning past run
+      → AgreeWithCubes run run.cubes past.journal now.desk.cubes
   pub names : past.names ≡ now.names
   pub number : last_number past ≡ now.session.statements
   pub every : beginning.round_every ≡ unwrap_or now.session.round_every 0

@@ -12,6 +12,7 @@ ghost use Rattle.session_replies.specs.Modes.{mode_of};
 ghost use Rattle.session_desk.specs.AtDesk.{IsAtDesk};
 ghost use Rattle.session_desk.specs.CubeReplies.{HasNewName, created_reply, cubes_after_answer, cubes_after_create};
 ghost use Rattle.session_desk.specs.Executed.{ExecutesAtDesk, IfReplied};
+ghost use Rattle.session_desk.specs.FileReplies.{SpeaksOfNoFile};
 ghost use Rattle.session_desk.specs.Moves.{MovesOn, OpenStays};
 
 use crate::answered::Answered;
@@ -74,10 +75,12 @@ fn create_named(
     ensures turns { OpenStays desk.old session.old session.new }
     ensures schemas { cubes.new.items ≡ cubes_after_create cubes.old.items decl result }
     ensures new { HasNewName desk.old.cubes decl result }
+    ensures no_file { IfReplied result SpeaksOfNoFile }
     ensures executed { IfReplied result
         (ExecutesAtDesk (Says (statement.CreateCube decl))
         desk.old session.old desk.new session.new) }
 {
+    desk.is_in_order();
     session.statements += 1;
     match desk.create_cube(SESSION, session.statements, decl) {
         Ok(answer) => {
@@ -104,6 +107,7 @@ fn refuse_create(desk: &mut Desk, session: &mut Session, decl: &Decl) -> Answere
     ensures moves { MovesOn None desk.old desk.new }
     ensures turns { OpenStays desk.old session.old session.new }
     ensures said { IfReplied result (λ said. said ≡ reply.Refused cause.NoMemory) }
+    ensures no_file { IfReplied result SpeaksOfNoFile }
     ensures executed { IfReplied result (ExecutesAtDesk (Says (statement.CreateCube decl.now))
         desk.old session.old desk.new session.new) }
 {
@@ -131,6 +135,7 @@ fn create_with_room(
     ensures turns { OpenStays desk.old session.old session.new }
     ensures schemas { cubes.new.items ≡ cubes_after_create cubes.old.items decl result }
     ensures new { HasNewName desk.old.cubes decl result }
+    ensures no_file { IfReplied result SpeaksOfNoFile }
     ensures executed { IfReplied result
         (ExecutesAtDesk (Says (statement.CreateCube decl))
         desk.old session.old desk.new session.new) }
@@ -161,6 +166,7 @@ fn create_storable(
     ensures turns { OpenStays desk.old session.old session.new }
     ensures schemas { cubes.new.items ≡ cubes_after_create cubes.old.items decl result }
     ensures new { HasNewName desk.old.cubes decl result }
+    ensures no_file { IfReplied result SpeaksOfNoFile }
     ensures executed { IfReplied result
         (ExecutesAtDesk (Says (statement.CreateCube decl))
         desk.old session.old desk.new session.new) }
@@ -183,6 +189,7 @@ fn refuse_fault(desk: &mut Desk, session: &mut Session, decl: &Decl, fault: Sche
     ensures moves { MovesOn None desk.old desk.new }
     ensures turns { OpenStays desk.old session.old session.new }
     ensures said { IfReplied result (λ said. said ≡ reply.Refused (cause.BadCube fault)) }
+    ensures no_file { IfReplied result SpeaksOfNoFile }
     ensures executed { IfReplied result (ExecutesAtDesk (Says (statement.CreateCube decl.now))
         desk.old session.old desk.new session.new) }
 {
@@ -209,6 +216,7 @@ pub fn create_cube(
     ensures turns { OpenStays desk.old session.old session.new }
     ensures schemas { cubes.new.items ≡ cubes_after_create cubes.old.items decl result }
     ensures new { HasNewName desk.old.cubes decl result }
+    ensures no_file { IfReplied result SpeaksOfNoFile }
     ensures executed { IfReplied result
         (ExecutesAtDesk (Says (statement.CreateCube decl))
         desk.old session.old desk.new session.new) }

@@ -8,7 +8,7 @@ ghost use Rattle.session_replies.specs.Modes.{mode_of};
 ghost use Rattle.session_desk.specs.AtDesk.{IsAtDesk, IsOpen, desk_with_entries};
 ghost use Rattle.session_desk.specs.Entries.{round_entries};
 ghost use Rattle.session_desk.specs.Ended.{EndsAtDesk, HasEnded};
-ghost use Rattle.session_desk.specs.Moves.{IsClosed, MovesOn};
+ghost use Rattle.session_desk.specs.Moves.{NothingIsOpen, MovesOn};
 
 use crate::rounds::make_round;
 use crate::session::{SESSION, Session};
@@ -27,7 +27,7 @@ pub fn end(desk: &mut Desk, session: &mut Session)
     ensures ended { EndsAtDesk desk.old session.old desk.new }
     ensures cubes { desk.new.cubes ≡ desk.old.cubes }
     ensures moves { MovesOn None desk.old desk.new }
-    ensures turns { IsClosed (mode_of session.new.mode) }
+    ensures turns { NothingIsOpen (mode_of session.new.mode) }
 {
     if let SessionMode::Open { .. } = session.mode {
         desk.abort_end(SESSION, session.statements + 1, AbortCause::EndOfScript);

@@ -8,10 +8,10 @@ ghost use Rattle.cube_language.specs.declared.statement.Statement.{Statement};
 ghost use Rattle.cube_journal.specs.Counters.{journal_state};
 ghost use Rattle.cube_journal.specs.declared.journal_entry.JournalEntry.{JournalEntry};
 ghost use Rattle.cube_journal.specs.declared.reply.Reply.{Reply};
-ghost use Rattle.cube_run.specs.RunRecords.{LoadedFile, RunRecord, Says, Sentence, cube_needed};
+ghost use Rattle.cube_run.specs.RunRecords.{IsLegalRun, LoadedFile, RunRecord, Says, Sentence, cube_needed};
 ghost use Rattle.cube_run.specs.RunText.{IsReply};
 ghost use Rattle.cube_run.specs.RunTransactions.{DoneOperation};
-ghost use Rattle.cube_run.specs.SessionStates.{Open};
+ghost use Rattle.cube_run.specs.SessionStates.{Open, SessionState};
 ghost use Rattle.cube_run.specs.SessionSteps.{session_part};
 ghost use Rattle.condition_spans.specs.Codes.{lists_at};
 ghost use Rattle.one_session.specs.Behind.{HasDone, IsSettled, last_step};
@@ -23,6 +23,7 @@ ghost use Rattle.session_replies.specs.Modes.{mode_of};
 ghost use Rattle.session_replies.specs.RowSteps.{IsOnCube, final_names};
 ghost use Rattle.session_desk.specs.declared.session.Session.{Session};
 ghost use Rattle.session_desk.specs.AtDesk.{IsServing};
+ghost use Rattle.session_desk.specs.Ended.{HasEnded};
 ghost use Rattle.session_desk.specs.Executed.{HasExecuted};
 ghost use Rattle.session_desk.specs.RowsDone.{AddsEntries, EpochsRise, done_with, next_change, past_with};
 ghost use Rattle.session_desk.specs.Standing.{StandsBehind, World, session_state};
@@ -98,4 +99,13 @@ pub fn a_session_at_its_desk_is_settled()
         → IsServing (state_of now.desk.register) safe (mode_of now.session.mode)
         → IsSettled (journal_state beginning.safe past.journal) (mode_of now.session.mode)
         (next_change now.desk now.session) }
+{}
+
+/// The journal of a run of one session that has ended at its desk is legal.
+pub fn a_run_that_has_ended_is_legal()
+    ensures { (beginning : Beginning) (past : SessionPast) (now : World) (state : SessionState)
+        (desk : DeskState) (run : RunRecord)
+        → StandsBehind beginning past now → HasEnded beginning past state desk
+        → GoesOn beginning past run → run.journal ≡ desk.register.journal
+        → IsLegalRun run }
 {}

@@ -18,7 +18,7 @@ pub use answered::Answered;
 pub use cubes::create_cube;
 pub use ending::{close, end};
 pub use law::{
-    a_session_at_its_desk_is_settled, an_open_transaction_was_begun,
+    a_run_that_has_ended_is_legal, a_session_at_its_desk_is_settled, an_open_transaction_was_begun,
     cubes_of_a_desk_are_named_apart, statements_find_their_cubes, statements_on_rows_are_executed,
 };
 pub use refusals::{refuse_by_mode, refuse_memory, refuse_syntax};

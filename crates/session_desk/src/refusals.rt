@@ -9,6 +9,7 @@ ghost use Rattle.cube_run.specs.StepOutcomes.{refused_by_mode};
 ghost use Rattle.session_replies.specs.Modes.{mode_of};
 ghost use Rattle.session_desk.specs.AtDesk.{IsAtDesk};
 ghost use Rattle.session_desk.specs.Executed.{ExecutesAtDesk, IfReplied};
+ghost use Rattle.session_desk.specs.FileReplies.{IsRefusedUnread, SpeaksOfNoFile};
 ghost use Rattle.session_desk.specs.Moves.{MovesOn, OpenStays};
 
 use crate::answered::Answered;
@@ -28,6 +29,7 @@ pub fn refuse_syntax(desk: &mut Desk, session: &mut Session, fault: Syntax) -> A
     ensures moves { MovesOn None desk.old desk.new }
     ensures turns { OpenStays desk.old session.old session.new }
     ensures said { IfReplied result (λ said. said ≡ reply.Refused (cause.Syntax fault)) }
+    ensures no_file { IfReplied result SpeaksOfNoFile }
     ensures executed { IfReplied result
         (ExecutesAtDesk (SaysNone fault.at) desk.old session.old desk.new session.new) }
 {
@@ -47,6 +49,8 @@ pub fn refuse_by_mode(desk: &mut Desk, session: &mut Session, refusal: Refusal) 
     ensures moves { MovesOn None desk.old desk.new }
     ensures turns { OpenStays desk.old session.old session.new }
     ensures said { IfReplied result (λ said. said ≡ reply.Refused refusal) }
+    ensures no_file { IfReplied result SpeaksOfNoFile }
+    ensures unread { IfReplied result IsRefusedUnread }
     ensures executed { IfReplied result (λ said. (s : Statement)
         → refused_by_mode (mode_of session.old.mode) s ≡ Some refusal
         → ExecutesAtDesk (Says s) desk.old session.old desk.new session.new said) }
@@ -65,6 +69,7 @@ pub fn refuse_memory(desk: &mut Desk, session: &mut Session) -> Answered
     ensures moves { MovesOn None desk.old desk.new }
     ensures turns { OpenStays desk.old session.old session.new }
     ensures said { IfReplied result (λ said. said ≡ reply.Refused cause.NoMemory) }
+    ensures no_file { IfReplied result SpeaksOfNoFile }
     ensures executed { IfReplied result (λ said. (sentence : Sentence)
         → ExecutesAtDesk sentence desk.old session.old desk.new session.new said) }
 {

@@ -6,6 +6,7 @@ ghost use Rattle.cube_journal.specs.declared.journal_entry.JournalEntry.TheVaria
 ghost use Rattle.cube_journal.specs.declared.reply.Reply.TheVariants as reply;
 ghost use Rattle.aosi_desk.specs.Desks.{desk_with_entry, is_cube_code};
 ghost use Rattle.session_desk.specs.Executed.{IfReplied, OnStopped};
+ghost use Rattle.session_desk.specs.FileReplies.{IsRefusedUnread, SpeaksOfNoFile};
 ghost use Rattle.session_desk.specs.Moves.{MovesOn};
 
 use crate::answered::Answered;
@@ -40,6 +41,8 @@ pub fn refuse(desk: &mut Desk, statement: u32, refusal: Refusal) -> Answered
     ensures desk { IfReplied result (λ said. desk.new
         ≡ desk_with_entry desk.old (entry.Refused 1 statement (code refusal))) }
     ensures same { OnStopped result (desk.new ≡ desk.old) }
+    ensures no_file { SpeaksOfNoFile (reply.Refused refusal) → IfReplied result SpeaksOfNoFile }
+    ensures unread { SpeaksOfNoFile (reply.Refused refusal) → IfReplied result IsRefusedUnread }
     ensures cubes { desk.new.cubes ≡ desk.old.cubes }
     ensures moves { MovesOn None desk.old desk.new }
 {

@@ -10,6 +10,7 @@ ghost use Rattle.cube_journal.specs.declared.reply.Reply.TheVariants as reply;
 ghost use Rattle.aosi_register.specs.State.{state_of};
 ghost use Rattle.aosi_desk.specs.Desks.{desk_with_entry};
 ghost use Rattle.session_desk.specs.Executed.{ExecutesAtDesk, IfReplied, OnStopped};
+ghost use Rattle.session_desk.specs.FileReplies.{SpeaksOfNoFile};
 ghost use Rattle.session_desk.specs.Moves.{MovesOn, OpenStays};
 
 use crate::answered::Answered;
@@ -28,6 +29,7 @@ fn note_flush(desk: &mut Desk, statement: u32) -> Answered
     ensures said { IfReplied result (λ said. said
         ≡ reply.Flushed (state_of desk.old.register).lse) }
     ensures same { OnStopped result (desk.new ≡ desk.old) }
+    ensures no_file { IfReplied result SpeaksOfNoFile }
     ensures cubes { desk.new.cubes ≡ desk.old.cubes }
     ensures moves { MovesOn None desk.old desk.new }
 {
@@ -52,6 +54,7 @@ pub fn flush(desk: &mut Desk, session: &mut Session) -> Answered
     ensures cubes { desk.new.cubes ≡ desk.old.cubes }
     ensures moves { MovesOn None desk.old desk.new }
     ensures turns { OpenStays desk.old session.old session.new }
+    ensures no_file { IfReplied result SpeaksOfNoFile }
     ensures executed { IfReplied result
         (ExecutesAtDesk (Says statement.Flush) desk.old session.old desk.new session.new) }
 {
@@ -71,6 +74,7 @@ pub fn purge(desk: &mut Desk, session: &mut Session) -> Answered
     ensures cubes { desk.new.cubes ≡ desk.old.cubes }
     ensures moves { MovesOn None desk.old desk.new }
     ensures turns { OpenStays desk.old session.old session.new }
+    ensures no_file { IfReplied result SpeaksOfNoFile }
     ensures executed { IfReplied result
         (ExecutesAtDesk (Says statement.Purge) desk.old session.old desk.new session.new) }
 {
@@ -96,6 +100,7 @@ pub fn show_epochs(desk: &mut Desk, session: &mut Session) -> Answered
     ensures cubes { desk.new.cubes ≡ desk.old.cubes }
     ensures moves { MovesOn None desk.old desk.new }
     ensures turns { OpenStays desk.old session.old session.new }
+    ensures no_file { IfReplied result SpeaksOfNoFile }
     ensures executed { IfReplied result
         (ExecutesAtDesk (Says statement.ShowEpochs) desk.old session.old desk.new session.new) }
 {

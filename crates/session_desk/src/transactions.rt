@@ -8,7 +8,8 @@ ghost use Rattle.session_replies.specs.Modes.{mode_of};
 ghost use Rattle.session_replies.specs.declared.mode.SessionMode.TheVariants as variant;
 ghost use Rattle.session_desk.specs.AtDesk.{IsAtDesk, IsOpen, IsOpenAt};
 ghost use Rattle.session_desk.specs.Executed.{ExecutesAtDesk, IfReplied};
-ghost use Rattle.session_desk.specs.Moves.{IsClosed, MovesOn, OpenStays, epoch_in};
+ghost use Rattle.session_desk.specs.FileReplies.{SpeaksOfNoFile};
+ghost use Rattle.session_desk.specs.Moves.{NothingIsOpen, MovesOn, OpenStays, epoch_open_in};
 
 use crate::answered::Answered;
 use crate::refusing::refuse;
@@ -29,6 +30,7 @@ pub fn begin(desk: &mut Desk, session: &mut Session) -> Answered
     ensures cubes { desk.new.cubes ≡ desk.old.cubes }
     ensures moves { MovesOn None desk.old desk.new }
     ensures turns { OpenStays desk.old session.old session.new }
+    ensures no_file { IfReplied result SpeaksOfNoFile }
     ensures executed { IfReplied result
         (ExecutesAtDesk (Says statement.Begin) desk.old session.old desk.new session.new) }
 {
@@ -62,8 +64,9 @@ pub fn commit(desk: &mut Desk, session: &mut Session) -> Answered
     ensures at { IsAtDesk desk.new session.new }
     ensures number { session.new.statements ≡ session.old.statements + 1 }
     ensures cubes { desk.new.cubes ≡ desk.old.cubes }
-    ensures moves { MovesOn (epoch_in (mode_of session.old.mode)) desk.old desk.new }
-    ensures turns { IsClosed (mode_of session.new.mode) }
+    ensures moves { MovesOn (epoch_open_in (mode_of session.old.mode)) desk.old desk.new }
+    ensures turns { NothingIsOpen (mode_of session.new.mode) }
+    ensures no_file { IfReplied result SpeaksOfNoFile }
     ensures executed { IfReplied result
         (ExecutesAtDesk (Says statement.Commit) desk.old session.old desk.new session.new) }
 {
@@ -89,7 +92,8 @@ fn roll_back_open(desk: &mut Desk, session: &mut Session) -> Answered
     ensures number { session.new.statements ≡ session.old.statements + 1 }
     ensures cubes { desk.new.cubes ≡ desk.old.cubes }
     ensures moves { MovesOn None desk.old desk.new }
-    ensures turns { IsClosed (mode_of session.new.mode) }
+    ensures turns { NothingIsOpen (mode_of session.new.mode) }
+    ensures no_file { IfReplied result SpeaksOfNoFile }
     ensures executed { IfReplied result
         (ExecutesAtDesk (Says statement.Rollback) desk.old session.old desk.new session.new) }
 {
@@ -109,7 +113,8 @@ fn clear(desk: &mut Desk, session: &mut Session, epoch: u64) -> Answered
     ensures number { session.new.statements ≡ session.old.statements + 1 }
     ensures cubes { desk.new.cubes ≡ desk.old.cubes }
     ensures moves { MovesOn None desk.old desk.new }
-    ensures turns { IsClosed (mode_of session.new.mode) }
+    ensures turns { NothingIsOpen (mode_of session.new.mode) }
+    ensures no_file { IfReplied result SpeaksOfNoFile }
     ensures executed { IfReplied result
         (ExecutesAtDesk (Says statement.Rollback) desk.old session.old desk.new session.new) }
 {
@@ -137,7 +142,8 @@ pub fn rollback(desk: &mut Desk, session: &mut Session) -> Answered
     ensures number { session.new.statements ≡ session.old.statements + 1 }
     ensures cubes { desk.new.cubes ≡ desk.old.cubes }
     ensures moves { MovesOn None desk.old desk.new }
-    ensures turns { IsClosed (mode_of session.new.mode) }
+    ensures turns { NothingIsOpen (mode_of session.new.mode) }
+    ensures no_file { IfReplied result SpeaksOfNoFile }
     ensures executed { IfReplied result
         (ExecutesAtDesk (Says statement.Rollback) desk.old session.old desk.new session.new) }
 {

@@ -10,6 +10,7 @@ ghost use Rattle.session_replies.specs.Modes.{mode_of};
 ghost use Rattle.session_desk.specs.AtDesk.{IsAtDesk};
 ghost use Rattle.session_desk.specs.Entries.{HasRefusal};
 ghost use Rattle.session_desk.specs.Executed.{ExecutesAtDesk, IfReplied};
+ghost use Rattle.session_desk.specs.FileReplies.{IsRefusedUnread, SpeaksOfNoFile};
 ghost use Rattle.session_desk.specs.Moves.{MovesOn, OpenStays};
 
 use crate::answered::Answered;
@@ -55,6 +56,8 @@ fn refuse_unknown(
         (λ said. HasRefusal session.new.statements desk.old desk.new) }
     ensures moves { MovesOn None desk.old desk.new }
     ensures turns { OpenStays desk.old session.old session.new }
+    ensures no_file { IfReplied result SpeaksOfNoFile }
+    ensures unread { IfReplied result IsRefusedUnread }
     ensures executed { IfReplied result
         (ExecutesAtDesk (Says statement.now) desk.old session.old desk.new session.new) }
 {
@@ -87,6 +90,8 @@ fn refuse_unfit(
         (λ said. HasRefusal session.new.statements desk.old desk.new) }
     ensures moves { MovesOn None desk.old desk.new }
     ensures turns { OpenStays desk.old session.old session.new }
+    ensures no_file { IfReplied result SpeaksOfNoFile }
+    ensures unread { IfReplied result IsRefusedUnread }
     ensures executed { IfReplied result
         (ExecutesAtDesk (Says statement.now) desk.old session.old desk.new session.new) }
 {
@@ -116,6 +121,8 @@ pub fn refuse_unbound(
         (λ said. HasRefusal session.new.statements desk.old desk.new) }
     ensures moves { MovesOn None desk.old desk.new }
     ensures turns { OpenStays desk.old session.old session.new }
+    ensures no_file { IfReplied result SpeaksOfNoFile }
+    ensures unread { IfReplied result IsRefusedUnread }
     ensures executed { IfReplied result
         (ExecutesAtDesk (Says statement.now) desk.old session.old desk.new session.new) }
 {

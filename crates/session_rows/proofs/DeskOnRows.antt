@@ -10,7 +10,7 @@ use Rattle.plain_rows.specs.HeldRows.{HeldRows, no_rows, rows_at, with_rows_back
 use Rattle.session_replies.specs.Modes.{mode_of}
 use Rattle.session_desk.specs.declared.session.Session.{Session}
 use Rattle.session_desk.specs.Executed.{HasExecuted}
-use Rattle.session_desk.specs.Moves.{IsClosed, OpenStays, epoch_in}
+use Rattle.session_desk.specs.Moves.{NothingIsOpen, OpenStays, epoch_open_in}
 use Rattle.session_rows.specs.Coded.{done_operations}
 use Rattle.session_rows.specs.CubesAtDesk.{ExecutesOnRows, row_world}
 use Rattle.session_rows.specs.DeskOnRows.{GainsCube, IsDoneAtDesk, cubes_back, cubes_kept}
@@ -49,7 +49,7 @@ desk_stays sentence desk session cubes new_desk now said x same turns = λ begin
 pub desk_rolls_back : (sentence : Sentence) (desk : DeskState) (session : Session) (cubes : Cubes)
     (new_desk : DeskState) (now : Session) (said : Reply)
     → IsDoneAtDesk sentence None desk session cubes new_desk now said → new_desk.cubes ≡ desk.cubes
-    → IsClosed (mode_of now.mode)
+    → NothingIsOpen (mode_of now.mode)
     → ExecutesOnRows sentence desk session cubes new_desk now (cubes_back cubes) said
 desk_rolls_back sentence desk session cubes new_desk now said x same turns = λ beginning past coded h. (
   coded,
@@ -67,8 +67,8 @@ desk_rolls_back sentence desk session cubes new_desk now said x same turns = λ 
 
 pub desk_commits : (sentence : Sentence) (desk : DeskState) (session : Session) (cubes : Cubes) (new_desk : DeskState)
     (now : Session) (said : Reply)
-    → IsDoneAtDesk sentence (epoch_in (mode_of session.mode)) desk session cubes new_desk now said
-    → new_desk.cubes ≡ desk.cubes → IsClosed (mode_of now.mode)
+    → IsDoneAtDesk sentence (epoch_open_in (mode_of session.mode)) desk session cubes new_desk now said
+    → new_desk.cubes ≡ desk.cubes → NothingIsOpen (mode_of now.mode)
     → ExecutesOnRows sentence desk session cubes new_desk now (cubes_kept cubes) said
 desk_commits sentence desk session cubes new_desk now said x same turns = λ beginning past coded h. (
   coded,

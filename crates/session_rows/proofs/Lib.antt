@@ -6,6 +6,12 @@ pub mod RowsStay
 pub mod RowsJoin
 pub mod RowsAreRead
 pub mod RunsEnd
+pub mod ComingNames
+pub mod EndingNames
+pub mod FittingNames
+pub mod NamesFit
+pub mod OffersInRuns
+pub mod NewlyOffered
 pub mod DeskOnRows
 pub mod WholeCubes
 pub mod PlayedStatements

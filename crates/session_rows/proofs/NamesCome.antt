@@ -49,7 +49,7 @@ no_names : (names : List (List ℕ)) → length names ≤ 0 → names ≡ []
 no_names [] l = refl
 no_names (name ∷ names) l = absurd (omega (arith, l))
 
-number_has_none : (dim : DimDecl) (d : Dictionary) → IsDictionaryOf dim d → dim.text ≡ false → d.names ≡ []
+pub number_has_none : (dim : DimDecl) (d : Dictionary) → IsDictionaryOf dim d → dim.text ≡ false → d.names ≡ []
 number_has_none dim d h is =
     let most : d.cardinality ≡ 0 = h.most ∙ ap (λ (b : Bool). if b then dim.cardinality else 0) is in
     let few = h.few in

@@ -17,6 +17,7 @@ use Rattle.session_rows.specs.PlayedOnRows.{HasPlayedOnRows}
 use Rattle.session_rows.specs.RowsBehind.{HasRows}
 use Rattle.session_rows.specs.RowsExecuted.{HasExecutedOnRows}
 use Rattle.session_rows.specs.declared.cubes.Cubes.{Cubes}
+use Rattle.session_rows.proofs.ComingNames.{come_both, come_none}
 
 pub none_played : (beginning : Beginning) (desk : DeskState) (session : Session) (cubes : Cubes)
     → HasRows beginning (nothing_behind beginning) (row_world desk session cubes [])
@@ -29,9 +30,10 @@ none_played beginning desk session cubes h fresh = record {
       subst (λ (state : SessionState). IsPlayed (GoesOn beginning) 1 [] (nothing_behind beginning) [] state) (sym fresh)
       (nothing_played (GoesOn beginning) 1 (nothing_behind beginning));
   rows = h;
+  come = come_none beginning.kept_names;
 }
 
-more_played : (beginning : Beginning) (script : List Sentence) (replies : List Reply) (sentence : Sentence)
+pub more_played : (beginning : Beginning) (script : List Sentence) (replies : List Reply) (sentence : Sentence)
     (desk : DeskState) (session : Session) (cubes : Cubes) (new_desk : DeskState) (now : Session) (new_cubes : Cubes)
     (said : Reply) (p : HasPlayedOnRows beginning script replies desk session cubes) (more : List CodedOperation)
     → HasExecutedOnRows beginning p.past sentence (row_world desk session cubes p.coded)
@@ -57,7 +59,19 @@ more_played beginning script replies sentence desk session cubes new_desk now ne
           (coe 0 1 (i. IsExecuted (GoesOn beginning) 1 (length (p.says i) + 1) state sentence p.past e.after said
           (session_after state sentence (session_part 1 e.added))) done));
       rows = x.rows;
+      come = come_both beginning.kept_names p.past.names e.after.names p.come e.more.names;
     }
+
+-- What is then behind the session is what the statement left behind it.
+pub more_played_past : (beginning : Beginning) (script : List Sentence) (replies : List Reply) (sentence : Sentence)
+    (desk : DeskState) (session : Session) (cubes : Cubes) (new_desk : DeskState) (now : Session) (new_cubes : Cubes)
+    (said : Reply) (p : HasPlayedOnRows beginning script replies desk session cubes) (more : List CodedOperation)
+    (x : HasExecutedOnRows beginning p.past sentence (row_world desk session cubes p.coded)
+    (row_world new_desk now new_cubes more) said)
+    → (more_played beginning script replies sentence desk session cubes new_desk now new_cubes said p more x).past
+    ≡ x.executed.after
+unfolding more_played
+more_played_past beginning script replies sentence desk session cubes new_desk now new_cubes said p more x = refl
 
 pub next_played : (beginning : Beginning) (script : List Sentence) (replies : List Reply) (sentence : Sentence)
     (desk : DeskState) (session : Session) (cubes : Cubes) (new_desk : DeskState) (now : Session) (new_cubes : Cubes)

@@ -34,7 +34,7 @@ use Rattle.session_desk.specs.Moves.{is_committed_at}
 use Rattle.session_desk.specs.Standing.{session_state}
 use Rattle.session_desk.proofs.SettledAtDesk.{settled_at_desk}
 use Rattle.session_rows.specs.Coded.{CodedOperation, counts_now, done_operations}
-use Rattle.session_rows.specs.RowsBehind.{HasRows, RowWorld, world_of}
+use Rattle.session_rows.specs.RowsBehind.{HasRows, RowWorld, StandsForOperation, world_of}
 use Rattle.session_rows.specs.RowsRead.{AsksRowsOf, IsAnswerNow, table_now}
 use Rattle.session_rows.proofs.CountedChanges.{all_turn, or_none, same_changes}
 
@@ -149,7 +149,10 @@ is_read beginning past now run d s query snapshot h g a same =
           (filter (λ (x : CodedOperation). counts_for past snapshot x.done) now.coded)
           (all_where
           (λ c. StandsForDone (record { cubes = now.desk.cubes; names = run.names }) c.change c.done)
-          (λ x. counts_for past snapshot x.done) now.coded (h.changes run g)));
+          (λ x. counts_for past snapshot x.done) now.coded
+          (all_turn (StandsForOperation (record { cubes = now.desk.cubes; names = run.names }))
+          (λ c. StandsForDone (record { cubes = now.desk.cubes; names = run.names }) c.change c.done)
+          (λ c s. s.stands) now.coded (h.changes run g))));
       now =
           coe 1 0 (i. AllStandForValues d (lists_at (h.stands.names i) query.cube) (same i))
           a.named;

@@ -10,15 +10,15 @@ use Rattle.cube_run.specs.RunRecords.{Sentence}
 use Rattle.cube_run.specs.SessionStates.{Mode, Idle, Open, Aborted}
 use Rattle.aosi_register.specs.State.{state_of}
 use Rattle.aosi_desk.specs.Desks.{DeskState}
-use Rattle.one_session.specs.Changes.{StandsForDone, rows_with_change}
+use Rattle.one_session.specs.Changes.{rows_with_change}
 use Rattle.one_session.specs.Pasts.{Beginning, SessionPast}
 use Rattle.plain_rows.specs.HeldRows.{HeldRows, rows_at}
 use Rattle.session_replies.specs.Modes.{mode_of}
 use Rattle.session_desk.specs.Executed.{HasExecuted}
-use Rattle.session_desk.specs.Moves.{IsClosed, MovesOn, epoch_in, is_committed_at, is_open_at}
+use Rattle.session_desk.specs.Moves.{NothingIsOpen, MovesOn, epoch_open_in, is_committed_at, is_open_at}
 use Rattle.session_rows.specs.Coded.{CodedOperation, HoldsRows, counts_now, rows_left}
-use Rattle.session_rows.specs.RowsBehind.{EpochsStand, HasRows, RowWorld, world_of}
-use Rattle.session_rows.specs.RowsExecuted.{ChangesAlone, ChangesInside, HasExecutedOnRows, IsChanged, IsChangedAndKept}
+use Rattle.session_rows.specs.RowsBehind.{EpochsStand, HasRows, RowWorld, StandsForOperation, world_of}
+use Rattle.session_rows.specs.RowsExecuted.{ChangesAlone, ChangesInside, HasExecutedOnRows, HasChange, IsChangedAndKept}
 use Rattle.session_rows.proofs.CountedChanges.{all_one_more, all_turn, below_is_other, counted_last, equal_is, is_itself, or_none, same_rows, uncounted_last}
 use Rattle.session_rows.proofs.RowsStay.{back_to, closed_none, done_below, none_more, one_or_other, rows_same}
 
@@ -40,7 +40,7 @@ own_counts old new own m =
     m.commits own ∙ ap (λ (b : Bool). is_committed_at old own || b) (is_itself own) ∙ or_true (is_committed_at old own)
 
 epochs_alone : (old new : DeskState) (mode after : Mode) (coded : List CodedOperation) (c : CodedOperation)
-    → MovesOn (Some c.done.epoch) old new → IsClosed after → c.done.epoch ≡ (state_of old.register).ec
+    → MovesOn (Some c.done.epoch) old new → NothingIsOpen after → c.done.epoch ≡ (state_of old.register).ec
     → (state_of old.register).ec < (state_of new.register).ec → EpochsStand old mode coded
     → EpochsStand new after (coded ++ c ∷ [])
 epochs_alone old new mode after coded c m closed is later h = record {
@@ -57,7 +57,7 @@ epochs_alone old new mode after coded c m closed is later h = record {
 }
 
 rows_alone : (old new : DeskState) (after : Mode) (coded : List CodedOperation) (c : CodedOperation) (place : ℕ)
-    (held now : HeldRows) → MovesOn (Some c.done.epoch) old new → IsClosed after
+    (held now : HeldRows) → MovesOn (Some c.done.epoch) old new → NothingIsOpen after
     → c.done.epoch ≡ (state_of old.register).ec
     → AllByRecursion (λ x. x.done.epoch < (state_of old.register).ec) coded → IsChangedAndKept place c.change held now
     → HoldsRows old Idle coded place held → HoldsRows new after (coded ++ c ∷ []) place now
@@ -98,11 +98,11 @@ changes_alone beginning past sentence c old now said h x s =
         none_kept = h.none_kept;
         changes = λ run g.
             coe 1 0 (i. AllByRecursion
-            (λ b. StandsForDone (record { cubes = now.desk.cubes; names = run.names }) b.change b.done) (s.coded i))
-            (all_one_more (λ b. StandsForDone (record { cubes = now.desk.cubes; names = run.names }) b.change b.done)
+            (StandsForOperation (record { cubes = now.desk.cubes; names = run.names })) (s.coded i))
+            (all_one_more (StandsForOperation (record { cubes = now.desk.cubes; names = run.names }))
             old.coded c
             (coe 1 0 (i. AllByRecursion
-            (λ b. StandsForDone (record { cubes = cubes i; names = run.names }) b.change b.done) old.coded)
+            (StandsForOperation (record { cubes = cubes i; names = run.names })) old.coded)
             (h.changes run (back_to beginning past sentence old now said x run g)))
             (s.change.stands x.after run x.stands g));
         places =
@@ -132,7 +132,7 @@ abbrev is_there : Option ℕ → Bool
 is_there None = false
 is_there (Some n) = true
 
-open_at_own : (mode : Mode) (epoch : ℕ) → Some epoch ≡ epoch_in mode → is_open_at mode epoch ≡ true
+open_at_own : (mode : Mode) (epoch : ℕ) → Some epoch ≡ epoch_open_in mode → is_open_at mode epoch ≡ true
 open_at_own Idle epoch is = absurd (false≢true (ap is_there (sym is)))
 open_at_own (Open writer) epoch is =
     ap (λ (e : ℕ). e == writer.epoch) (some_same epoch writer.epoch is) ∙ is_itself writer.epoch
@@ -154,7 +154,7 @@ epochs_inside old new mode coded c m below h = record {
 
 rows_inside : (old new : DeskState) (mode : Mode) (coded : List CodedOperation) (c : CodedOperation) (place : ℕ)
     (held now : HeldRows) → MovesOn None old new → is_open_at mode c.done.epoch ≡ true
-    → is_committed_at old c.done.epoch ≡ false → IsChanged place c.change held now
+    → is_committed_at old c.done.epoch ≡ false → HasChange place c.change held now
     → HoldsRows old mode coded place held → HoldsRows new mode (coded ++ c ∷ []) place now
 rows_inside old new mode coded c place held now m own pending changed h = record {
   before =
@@ -185,11 +185,11 @@ changes_inside beginning past sentence c old now said h x s =
         none_kept = h.none_kept;
         changes = λ run g.
             coe 1 0 (i. AllByRecursion
-            (λ b. StandsForDone (record { cubes = now.desk.cubes; names = run.names }) b.change b.done) (s.coded i))
-            (all_one_more (λ b. StandsForDone (record { cubes = now.desk.cubes; names = run.names }) b.change b.done)
+            (StandsForOperation (record { cubes = now.desk.cubes; names = run.names })) (s.coded i))
+            (all_one_more (StandsForOperation (record { cubes = now.desk.cubes; names = run.names }))
             old.coded c
             (coe 1 0 (i. AllByRecursion
-            (λ b. StandsForDone (record { cubes = cubes i; names = run.names }) b.change b.done) old.coded)
+            (StandsForOperation (record { cubes = cubes i; names = run.names })) old.coded)
             (h.changes run (back_to beginning past sentence old now said x run g)))
             (s.change.stands x.after run x.stands g));
         places =

@@ -12,7 +12,7 @@ use Rattle.cube_run.specs.SessionStates.{Mode, Idle, Open, Aborted}
 use Rattle.cube_run.specs.SessionSteps.{session_part}
 use Rattle.aosi_register.specs.State.{state_of}
 use Rattle.aosi_desk.specs.Desks.{DeskState}
-use Rattle.one_session.specs.Changes.{StandsForDone, rows_with_changes, rows_changed}
+use Rattle.one_session.specs.Changes.{rows_with_changes, rows_changed}
 use Rattle.one_session.specs.Pasts.{Beginning, GoesOn, SessionPast, nothing_behind}
 use Rattle.one_session.proofs.Backwards.{goes_on_before}
 use Rattle.one_session.proofs.CubesBehind.{some_front}
@@ -20,9 +20,9 @@ use Rattle.plain_rows.specs.HeldRows.{HeldRows, rows_at}
 use Rattle.session_replies.specs.Modes.{mode_of}
 use Rattle.session_desk.specs.AtDesk.{HasLastWriter}
 use Rattle.session_desk.specs.Executed.{HasExecuted}
-use Rattle.session_desk.specs.Moves.{IsClosed, KeepsOpen, MovesOn, epoch_in, is_committed_at, is_epoch_of, is_open_at}
+use Rattle.session_desk.specs.Moves.{NothingIsOpen, KeepsOpen, MovesOn, epoch_open_in, is_committed_at, is_epoch_of, is_open_at}
 use Rattle.session_rows.specs.Coded.{CodedOperation, HoldsRows, changes_at_epochs, counts_now, rows_left}
-use Rattle.session_rows.specs.RowsBehind.{ChangesStand, EpochsStand, HasRows, RowWorld, world_of}
+use Rattle.session_rows.specs.RowsBehind.{ChangesStand, EpochsStand, HasRows, RowWorld, StandsForOperation, world_of}
 use Rattle.session_rows.specs.RowsExecuted.{Commits, Creates, GoesBack, HasExecutedOnRows, IsKept, RollsBack, Stays, StaysHeld}
 use Rattle.session_rows.specs.RowsRead.{BeginsEmpty}
 use Rattle.session_rows.proofs.CountedChanges.{all_turn, below_is_other, equal_is, or_none, same_rows}
@@ -33,7 +33,7 @@ pub none_more : (old new : DeskState) → MovesOn None old new → (epoch : ℕ)
     → is_committed_at new epoch ≡ is_committed_at old epoch
 none_more old new m epoch = m.commits epoch ∙ or_none (is_committed_at old epoch)
 
-pub closed_none : (mode : Mode) → IsClosed mode → (epoch : ℕ) → is_open_at mode epoch ≡ false
+pub closed_none : (mode : Mode) → NothingIsOpen mode → (epoch : ℕ) → is_open_at mode epoch ≡ false
 closed_none Idle closed epoch = refl
 closed_none (Open writer) closed epoch = absurd closed
 closed_none (Aborted was) closed epoch = refl
@@ -82,7 +82,7 @@ epochs_stay old new mode after coded m keeps h = record {
 }
 
 epochs_back : (old new : DeskState) (mode after : Mode) (coded : List CodedOperation) → MovesOn None old new
-    → IsClosed after → EpochsStand old mode coded → EpochsStand new after coded
+    → NothingIsOpen after → EpochsStand old mode coded → EpochsStand new after coded
 epochs_back old new mode after coded m closed h = record {
   done = done_below coded (state_of old.register).ec (state_of new.register).ec m.next h.done;
   committed = λ epoch is.
@@ -92,13 +92,13 @@ epochs_back old new mode after coded m closed h = record {
   pending = λ epoch is. absurd (false≢true (sym (closed_none after closed epoch) ∙ is));
 }
 
-one_of : (mode : Mode) (epoch : ℕ) → is_epoch_of (epoch_in mode) epoch ≡ is_open_at mode epoch
+one_of : (mode : Mode) (epoch : ℕ) → is_epoch_of (epoch_open_in mode) epoch ≡ is_open_at mode epoch
 one_of Idle epoch = refl
 one_of (Open writer) epoch = refl
 one_of (Aborted was) epoch = refl
 
 -- After the commit of what is open, that is committed which counted before.
-commit_counts : (old new : DeskState) (mode : Mode) → MovesOn (epoch_in mode) old new → (epoch : ℕ)
+commit_counts : (old new : DeskState) (mode : Mode) → MovesOn (epoch_open_in mode) old new → (epoch : ℕ)
     → is_committed_at new epoch ≡ counts_now old mode epoch
 commit_counts old new mode m epoch =
     m.commits epoch ∙ ap (λ (b : Bool). is_committed_at old epoch || b) (one_of mode epoch)
@@ -116,7 +116,7 @@ one_or_other P true b left right is = left refl
 one_or_other P false b left right is = right is
 
 epochs_commit : (old new : DeskState) (mode after : Mode) (coded : List CodedOperation)
-    → MovesOn (epoch_in mode) old new → HasLastWriter (state_of old.register).ec mode → IsClosed after
+    → MovesOn (epoch_open_in mode) old new → HasLastWriter (state_of old.register).ec mode → NothingIsOpen after
     → EpochsStand old mode coded → EpochsStand new after coded
 epochs_commit old new mode after coded m last closed h = record {
   done = done_below coded (state_of old.register).ec (state_of new.register).ec m.next h.done;
@@ -133,7 +133,7 @@ epochs_commit old new mode after coded m last closed h = record {
 
 -- ---- rows
 
-none_counts : (desk : DeskState) (mode : Mode) → IsClosed mode → (epoch : ℕ)
+none_counts : (desk : DeskState) (mode : Mode) → NothingIsOpen mode → (epoch : ℕ)
     → counts_now desk mode epoch ≡ is_committed_at desk epoch
 none_counts desk mode closed epoch =
     ap (λ (b : Bool). is_committed_at desk epoch || b) (closed_none mode closed epoch)
@@ -166,7 +166,7 @@ rows_stay old new mode after coded place held now m keeps below stays h = record
 }
 
 rows_back : (old new : DeskState) (mode after : Mode) (coded : List CodedOperation) (place : ℕ)
-    (held now : HeldRows) → MovesOn None old new → IsClosed after → GoesBack held now
+    (held now : HeldRows) → MovesOn None old new → NothingIsOpen after → GoesBack held now
     → HoldsRows old mode coded place held → HoldsRows new after coded place now
 rows_back old new mode after coded place held now m closed back h =
     let same = rows_same place (is_committed_at old) (is_committed_at new) coded
@@ -181,7 +181,7 @@ rows_back old new mode after coded place held now m closed back h =
     }
 
 rows_commit : (old new : DeskState) (mode after : Mode) (coded : List CodedOperation) (place : ℕ)
-    (held now : HeldRows) → MovesOn (epoch_in mode) old new → IsClosed after → IsKept held now
+    (held now : HeldRows) → MovesOn (epoch_open_in mode) old new → NothingIsOpen after → IsKept held now
     → HoldsRows old mode coded place held → HoldsRows new after coded place now
 rows_commit old new mode after coded place held now m closed kept h =
     let same = rows_same place (counts_now old mode) (is_committed_at new) coded
@@ -310,15 +310,18 @@ more_cubes : (cubes : List Decl) (d : Decl) → length (cubes ++ d ∷ []) ≡ l
 more_cubes cubes d = length-append cubes (d ∷ [])
 
 stands_with_more : (cubes : List Decl) (d : Decl) (names : List (List (List (List ℕ)))) (coded : List CodedOperation)
-    → AllByRecursion (λ c. StandsForDone (record { cubes = cubes; names = names }) c.change c.done) coded
-    → AllByRecursion (λ c. StandsForDone (record { cubes = cubes ++ d ∷ []; names = names }) c.change c.done) coded
+    → AllByRecursion (StandsForOperation (record { cubes = cubes; names = names })) coded
+    → AllByRecursion (StandsForOperation (record { cubes = cubes ++ d ∷ []; names = names })) coded
 stands_with_more cubes d names coded h =
-    all_turn (λ c. StandsForDone (record { cubes = cubes; names = names }) c.change c.done)
-    (λ c. StandsForDone (record { cubes = cubes ++ d ∷ []; names = names }) c.change c.done)
+    all_turn (StandsForOperation (record { cubes = cubes; names = names }))
+    (StandsForOperation (record { cubes = cubes ++ d ∷ []; names = names }))
     (λ c s. record {
-      decl = s.decl;
-      cube_is = some_front cubes (d ∷ []) c.change.cube s.decl s.cube_is;
-      stands = s.stands;
+      stands = record {
+        decl = s.stands.decl;
+        cube_is = some_front cubes (d ∷ []) c.change.cube s.stands.decl s.stands.cube_is;
+        stands = s.stands.stands;
+      };
+      places = s.places;
     }) coded h
 
 -- It is the last one, or was there.

@@ -10,7 +10,7 @@ use Rattle.condition_spans.specs.Codes.{lists_at}
 use Rattle.one_session.specs.Changes.{AreNamedApart}
 use Rattle.plain_rows.specs.HeldRows.{HeldRows, no_rows, rows_at, with_rows_back, with_rows_kept}
 use Rattle.row_encoding.specs.DictsAsEncoder.{Suit}
-use Rattle.session_rows.specs.CubesAtDesk.{AllAreNamed, AreItsNames, AreItsRows, AreNamed, AreWholeCubes, HasShape}
+use Rattle.session_rows.specs.CubesAtDesk.{AllAreNamed, AreItsNames, AreItsRows, HasNamedRows, AreWholeCubes, HasItsColumns}
 use Rattle.session_rows.specs.DeskOnRows.{GainsCube, cubes_back, cubes_kept}
 use Rattle.session_rows.specs.declared.cubes.Cubes.{Cubes}
 use Rattle.session_rows.proofs.DeskOnRows.{last_of}
@@ -32,11 +32,11 @@ whole_back cubes w = record {
   rows = record {
     count = length-map cubes.rows with_rows_back ∙ w.rows.count;
     shapes = λ place d is.
-        subst (λ (h : HeldRows). HasShape d h) (sym (back_at cubes.rows place))
+        subst (λ (h : HeldRows). HasItsColumns d h) (sym (back_at cubes.rows place))
         (record { dims = (w.rows.shapes place d is).dims; width = (w.rows.shapes place d is).width });
   };
   named = λ place d is.
-      subst (λ (h : HeldRows). AreNamed d (lists_at (names_of cubes.names) place) h) (sym (back_at cubes.rows place))
+      subst (λ (h : HeldRows). HasNamedRows d (lists_at (names_of cubes.names) place) h) (sym (back_at cubes.rows place))
       (record { before = (w.named place d is).before; now = (w.named place d is).before });
 }
 
@@ -48,11 +48,11 @@ whole_kept cubes w = record {
   rows = record {
     count = length-map cubes.rows with_rows_kept ∙ w.rows.count;
     shapes = λ place d is.
-        subst (λ (h : HeldRows). HasShape d h) (sym (kept_at cubes.rows place))
+        subst (λ (h : HeldRows). HasItsColumns d h) (sym (kept_at cubes.rows place))
         (record { dims = (w.rows.shapes place d is).dims; width = (w.rows.shapes place d is).width });
   };
   named = λ place d is.
-      subst (λ (h : HeldRows). AreNamed d (lists_at (names_of cubes.names) place) h) (sym (kept_at cubes.rows place))
+      subst (λ (h : HeldRows). HasNamedRows d (lists_at (names_of cubes.names) place) h) (sym (kept_at cubes.rows place))
       (record { before = (w.named place d is).now; now = (w.named place d is).now });
 }
 
@@ -109,11 +109,11 @@ rows_of_more cubes d held h =
           let there = length-append cubes (d ∷ []) in
           omega (arith, here, there, count);
       shapes =
-          each_of_more cubes d (λ place e. HasShape e (rows_at (held ++ none ∷ []) place))
+          each_of_more cubes d (λ place e. HasItsColumns e (rows_at (held ++ none ∷ []) place))
           (λ place e l is.
-          subst (λ (g : HeldRows). HasShape e g) (sym (front_at held none place (omega (arith, l, count))))
+          subst (λ (g : HeldRows). HasItsColumns e g) (sym (front_at held none place (omega (arith, l, count))))
           (h.shapes place e is))
-          (subst (λ (g : HeldRows). HasShape d g) (sym (last_of held none (length cubes) count))
+          (subst (λ (g : HeldRows). HasItsColumns d g) (sym (last_of held none (length cubes) count))
           (record { dims = refl; width = refl }));
     }
 
@@ -122,11 +122,11 @@ named_of_more : (cubes : List Decl) (d : Decl) (names : List (List (List (List �
     → AllAreNamed (cubes ++ d ∷ []) names (held ++ no_rows (length d.dims) (length d.metrics) ∷ [])
 named_of_more cubes d names held count h =
     let none = no_rows (length d.dims) (length d.metrics) in
-    each_of_more cubes d (λ place e. AreNamed e (lists_at names place) (rows_at (held ++ none ∷ []) place))
+    each_of_more cubes d (λ place e. HasNamedRows e (lists_at names place) (rows_at (held ++ none ∷ []) place))
     (λ place e l is.
-    subst (λ (g : HeldRows). AreNamed e (lists_at names place) g)
+    subst (λ (g : HeldRows). HasNamedRows e (lists_at names place) g)
     (sym (front_at held none place (omega (arith, l, count)))) (h place e is))
-    (subst (λ (g : HeldRows). AreNamed d (lists_at names (length cubes)) g)
+    (subst (λ (g : HeldRows). HasNamedRows d (lists_at names (length cubes)) g)
     (sym (last_of held none (length cubes) count)) (record { before = tt; now = tt }))
 
 pub whole_with_cube : (d : Decl) (old new : Cubes) → AreWholeCubes old → GainsCube d old new

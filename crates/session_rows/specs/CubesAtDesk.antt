@@ -20,7 +20,7 @@ use Rattle.session_rows.specs.Coded.{CodedOperation}
 use Rattle.session_rows.specs.declared.cubes.Cubes.{Cubes}
 
 -- The rows are of so many dimensions and metrics as the cube declares.
-pub record HasShape (d : Decl) (held : HeldRows) : Type 0 where
+pub record HasItsColumns (d : Decl) (held : HeldRows) : Type 0 where
   pub dims : held.dims ≡ length d.dims
   pub width : held.width ≡ length d.metrics
 
@@ -32,16 +32,16 @@ pub record AreItsNames (cubes : List Decl) (dictionaries : List (List Dictionary
 -- There are rows for each cube, and for no other.
 pub record AreItsRows (cubes : List Decl) (held : List HeldRows) : Type 0 where
   pub count : length held ≡ length cubes
-  pub shapes : (place : ℕ) (d : Decl) → slice_get cubes place ≡ Some d → HasShape d (rows_at held place)
+  pub shapes : (place : ℕ) (d : Decl) → slice_get cubes place ≡ Some d → HasItsColumns d (rows_at held place)
 
 -- Each row of each cube stands for a row of values by the names so far.
-pub record AreNamed (d : Decl) (lists : List (List (List ℕ))) (held : HeldRows) : Type 0 where
+pub record HasNamedRows (d : Decl) (lists : List (List (List ℕ))) (held : HeldRows) : Type 0 where
   pub before : AllStandForValues d lists held.before
   pub now : AllStandForValues d lists held.now
 
 abbrev pub AllAreNamed : List Decl → List (List (List (List ℕ))) → List HeldRows → Type 0
 AllAreNamed cubes names held =
-    (place : ℕ) (d : Decl) → slice_get cubes place ≡ Some d → AreNamed d (lists_at names place) (rows_at held place)
+    (place : ℕ) (d : Decl) → slice_get cubes place ≡ Some d → HasNamedRows d (lists_at names place) (rows_at held place)
 
 -- Texts were given to the dictionaries of the cube at a place: none is taken back, and those of the others stay its.
 pub record GainsNames (place : ℕ) (d : Decl) (old new : List (List Dictionary)) : Type 0 where

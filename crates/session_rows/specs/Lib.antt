@@ -4,4 +4,6 @@ pub mod RowsBehind
 pub mod RowsExecuted
 pub mod RowsRead
 pub mod DeskOnRows
+pub mod NamesInTheEnd
+pub mod OfferedTexts
 pub mod PlayedOnRows

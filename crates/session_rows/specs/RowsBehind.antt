@@ -2,15 +2,19 @@
 -- Source: this project's own.
 use Rattle.std.specs.Prelude.{◌≡◌, ℕ, ◌<◌, true, false, List, [], length}
 use Rattle.std.specs.List.{AllByRecursion}
+use Rattle.cube_values.specs.declared.operation.Operation.{Operation}
+use Rattle.cube_values.specs.declared.operation.Operation.TheVariants.{Put, Drop}
 use Rattle.cube_language.specs.declared.decl.Decl.{Decl}
-use Rattle.cube_run.specs.RunRecords.{RunRecord}
+use Rattle.cube_run.specs.RunRecords.{Catalog, RunRecord}
 use Rattle.cube_run.specs.SessionStates.{Mode}
 use Rattle.names_dict.specs.Dictionaries.{Dictionary, names_of}
+use Rattle.condition_spans.specs.Codes.{lists_at}
 use Rattle.one_session.specs.Changes.{StandsForDone}
 use Rattle.one_session.specs.Pasts.{Beginning, GoesOn, SessionPast}
 use Rattle.aosi_register.specs.State.{state_of}
 use Rattle.aosi_desk.specs.Desks.{DeskState}
 use Rattle.plain_rows.specs.HeldRows.{HeldRows, rows_at}
+use Rattle.row_encoding.specs.CodedTexts.{HavePlaces}
 use Rattle.session_replies.specs.Modes.{mode_of}
 use Rattle.session_desk.specs.declared.session.Session.{Session}
 use Rattle.session_desk.specs.Moves.{is_committed_at, is_open_at}
@@ -35,11 +39,21 @@ world_of now = record {
   done = done_operations now.coded;
 }
 
--- By the cubes that are there, and whatever names come, each change stands for its operation.
+-- The texts that a deletion compares with have their places in the dictionaries.
+abbrev pub HasItsPlaces : Decl → List (List (List ℕ)) → Operation → Type 0
+HasItsPlaces d lists (Put rows) = Unit {0}
+HasItsPlaces d lists (Drop region) = HavePlaces d.dims lists region.conditions
+
+-- By the cubes and dictionaries in the end a change stands for its operation.
+pub record StandsForOperation (catalog : Catalog) (c : CodedOperation) : Type 0 where
+  pub stands : StandsForDone catalog c.change c.done
+  pub places : HasItsPlaces stands.decl (lists_at catalog.names c.change.cube) c.done.operation
+
+-- By the cubes that are there, and whatever names come, each change does.
 abbrev pub ChangesStand : Beginning → SessionPast → List Decl → List CodedOperation → Type 0
 ChangesStand beginning past cubes coded =
     (run : RunRecord) → GoesOn beginning past run
-    → AllByRecursion (λ c. StandsForDone (record { cubes = cubes; names = run.names }) c.change c.done) coded
+    → AllByRecursion (StandsForOperation (record { cubes = cubes; names = run.names })) coded
 
 -- Each operation was done, and each commit is, at an epoch below the next one; the open transaction is not committed.
 pub record EpochsStand (desk : DeskState) (mode : Mode) (coded : List CodedOperation) : Type 0 where

@@ -5,17 +5,17 @@ use Rattle.cube_journal.specs.declared.reply.Reply.{Reply}
 use Rattle.cube_language.specs.declared.decl.Decl.{Decl}
 use Rattle.cube_run.specs.RunRecords.{RunRecord, Sentence}
 use Rattle.cube_run.specs.SessionStates.{Idle}
-use Rattle.one_session.specs.Changes.{ChangeAt, StandsForDone, rows_with_change}
+use Rattle.one_session.specs.Changes.{ChangeAt, rows_with_change}
 use Rattle.one_session.specs.Pasts.{Beginning, GoesOn, SessionPast}
 use Rattle.aosi_register.specs.State.{state_of}
 use Rattle.plain_rows.specs.HeldRows.{HeldRows, rows_at}
 use Rattle.session_replies.specs.Modes.{mode_of}
 use Rattle.session_desk.specs.AtDesk.{HasLastWriter}
 use Rattle.session_desk.specs.Executed.{HasExecuted}
-use Rattle.session_desk.specs.Moves.{IsClosed, KeepsOpen, MovesOn, epoch_in}
+use Rattle.session_desk.specs.Moves.{NothingIsOpen, KeepsOpen, MovesOn, epoch_open_in}
 use Rattle.session_desk.specs.Standing.{StandsBehind}
 use Rattle.session_rows.specs.Coded.{CodedOperation}
-use Rattle.session_rows.specs.RowsBehind.{HasRows, RowWorld, world_of}
+use Rattle.session_rows.specs.RowsBehind.{HasRows, RowWorld, StandsForOperation, world_of}
 
 -- A statement that says this is executed and answered so, and what is then behind the session stands behind its rows.
 pub record HasExecutedOnRows (beginning : Beginning) (before : SessionPast) (sentence : Sentence) (old now : RowWorld)
@@ -45,7 +45,7 @@ pub record IsChangedAndKept (place : ℕ) (c : ChangeAt) (old new : HeldRows) : 
   pub before : new.before ≡ rows_with_change place old.now c
   pub now : new.now ≡ rows_with_change place old.now c
 
-pub record IsChanged (place : ℕ) (c : ChangeAt) (old new : HeldRows) : Type 0 where
+pub record HasChange (place : ℕ) (c : ChangeAt) (old new : HeldRows) : Type 0 where
   pub before : new.before ≡ old.before
   pub now : new.now ≡ rows_with_change place old.now c
 
@@ -68,7 +68,7 @@ pub record RollsBack (old now : RowWorld) : Type 0 where
   pub cubes : now.desk.cubes ≡ old.desk.cubes
   pub coded : now.coded ≡ old.coded
   pub moves : MovesOn None old.desk now.desk
-  pub turns : IsClosed (mode_of now.session.mode)
+  pub turns : NothingIsOpen (mode_of now.session.mode)
   pub held : OfEachCube (λ place. GoesBack) old.held now.held
 
 -- The transaction that is open, which took the last epoch, is committed, and the rows are kept.
@@ -76,8 +76,8 @@ pub record Commits (old now : RowWorld) : Type 0 where
   pub cubes : now.desk.cubes ≡ old.desk.cubes
   pub coded : now.coded ≡ old.coded
   pub last : HasLastWriter (state_of old.desk.register).ec (mode_of old.session.mode)
-  pub moves : MovesOn (epoch_in (mode_of old.session.mode)) old.desk now.desk
-  pub turns : IsClosed (mode_of now.session.mode)
+  pub moves : MovesOn (epoch_open_in (mode_of old.session.mode)) old.desk now.desk
+  pub turns : NothingIsOpen (mode_of now.session.mode)
   pub held : OfEachCube (λ place. IsKept) old.held now.held
 
 -- A cube is made, which has no rows and no names yet; nothing is open.
@@ -96,7 +96,7 @@ pub record IsNewChange (beginning : Beginning) (now : RowWorld) (c : CodedOperat
   pub cube_is : slice_get now.desk.cubes c.change.cube ≡ Some decl
   pub stands : (past : SessionPast) (run : RunRecord) → StandsBehind beginning past (world_of now)
       → GoesOn beginning past run
-      → StandsForDone (record { cubes = now.desk.cubes; names = run.names }) c.change c.done
+      → StandsForOperation (record { cubes = now.desk.cubes; names = run.names }) c
 
 -- A transaction of its own, which took the next epoch, changes rows and is committed.
 pub record ChangesAlone (beginning : Beginning) (c : CodedOperation) (old now : RowWorld) : Type 0 where
@@ -107,7 +107,7 @@ pub record ChangesAlone (beginning : Beginning) (c : CodedOperation) (old now : 
   pub epoch : c.done.epoch ≡ (state_of old.desk.register).ec
   pub later : (state_of old.desk.register).ec < (state_of now.desk.register).ec
   pub moves : MovesOn (Some c.done.epoch) old.desk now.desk
-  pub turns : IsClosed (mode_of now.session.mode)
+  pub turns : NothingIsOpen (mode_of now.session.mode)
   pub held : OfEachCube (λ place. IsChangedAndKept place c.change) old.held now.held
 
 -- The transaction that is open changes rows.
@@ -116,7 +116,7 @@ pub record ChangesInside (beginning : Beginning) (c : CodedOperation) (old now :
   pub coded : now.coded ≡ old.coded ++ c ∷ []
   pub change : IsNewChange beginning now c
   pub same_mode : mode_of now.session.mode ≡ mode_of old.session.mode
-  pub epoch : Some c.done.epoch ≡ epoch_in (mode_of old.session.mode)
+  pub epoch : Some c.done.epoch ≡ epoch_open_in (mode_of old.session.mode)
   pub below : c.done.epoch < (state_of now.desk.register).ec
   pub moves : MovesOn None old.desk now.desk
-  pub held : OfEachCube (λ place. IsChanged place c.change) old.held now.held
+  pub held : OfEachCube (λ place. HasChange place c.change) old.held now.held

@@ -21,7 +21,7 @@ use Rattle.one_session.specs.Changes.{AllStandForValues, AreNamedApart}
 use Rattle.one_session.specs.Pasts.{Beginning, SessionPast, last_number, nothing_behind}
 use Rattle.plain_rows.specs.HeldRows.{rows_at}
 use Rattle.session_replies.specs.Modes.{mode_of}
-use Rattle.session_desk.specs.Moves.{IsClosed}
+use Rattle.session_desk.specs.Moves.{NothingIsOpen}
 use Rattle.session_desk.specs.Standing.{StandsBehind}
 use Rattle.session_rows.specs.RowsBehind.{RowWorld, world_of}
 
@@ -30,7 +30,7 @@ pub record BeginsEmpty (beginning : Beginning) (now : RowWorld) : Type 0 where
   pub stands : StandsBehind beginning (nothing_behind beginning) (world_of now)
   pub none_kept : beginning.kept ≡ []
   pub coded : now.coded ≡ []
-  pub closed : IsClosed (mode_of now.session.mode)
+  pub closed : NothingIsOpen (mode_of now.session.mode)
   pub before : (place : ℕ) → (rows_at now.held place).before ≡ []
   pub now_none : (place : ℕ) → (rows_at now.held place).now ≡ []
 

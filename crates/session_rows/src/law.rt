@@ -1,17 +1,19 @@
 //! What holds of the rows of a session by what stands behind it.
 
-ghost use Rattle.std.specs.Prelude.{◌≡◌, ◌++◌, ◌∷◌, ◌≤◌, [], ℕ, Bool, List, Some, None, filter, length, slice_get};
+ghost use Rattle.std.specs.Prelude.{◌≡◌, ◌+◌, ◌++◌, ◌∷◌, ◌≤◌, [], ℕ, Bool, List, Some, None, filter, length, slice_get};
 ghost use Rattle.cube_values.specs.declared.query.BoundQuery.{BoundQuery};
 ghost use Rattle.cube_values.specs.declared.row.CodedRow.{CodedRow};
 ghost use Rattle.cube_language.specs.CubesText.{cubes_limit};
 ghost use Rattle.cube_language.specs.declared.decl.Decl.{Decl};
 ghost use Rattle.cube_language.specs.declared.statement.Statement.{Statement};
 ghost use Rattle.cube_journal.specs.declared.reply.Reply.{Reply};
-ghost use Rattle.cube_run.specs.RunRecords.{RunRecord, Sentence};
+ghost use Rattle.cube_run.specs.FinalNames.{FinalNamesFit};
+ghost use Rattle.cube_run.specs.RunRecords.{LoadedFile, RunRecord, Says, Sentence, catalog_of};
+ghost use Rattle.cube_journal.specs.declared.journal_entry.JournalEntry.{JournalEntry};
 ghost use Rattle.names_dict.specs.Dictionaries.{Dictionary, names_of};
 ghost use Rattle.cube_run.specs.SessionStates.{fresh_session};
 ghost use Rattle.one_session.specs.Changes.{AllStandForValues, AreNamedApart};
-ghost use Rattle.one_session.specs.Pasts.{Beginning, EndsWithMore, GoesOn, SessionPast, nothing_behind};
+ghost use Rattle.one_session.specs.Pasts.{Beginning, EndsWithMore, GoesOn, IsOneMore, SessionPast, last_number, nothing_behind};
 ghost use Rattle.aosi_register.specs.State.{state_of};
 ghost use Rattle.row_encoding.specs.DictsAsEncoder.{MayEndWith};
 ghost use Rattle.plain_rows.specs.HeldRows.{HeldRows};
@@ -19,13 +21,15 @@ ghost use Rattle.session_replies.specs.Modes.{mode_of};
 ghost use Rattle.session_desk.specs.AtDesk.{IsServing};
 ghost use Rattle.session_desk.specs.declared.session.Session.{Session};
 ghost use Rattle.session_desk.specs.Executed.{HasExecuted};
-ghost use Rattle.session_desk.specs.Moves.{IsClosed, OpenStays, epoch_in};
+ghost use Rattle.session_desk.specs.Moves.{NothingIsOpen, OpenStays, epoch_open_in};
 ghost use Rattle.aosi_desk.specs.Desks.{DeskState};
 ghost use Rattle.session_desk.specs.Standing.{StandsBehind, World, session_state};
 ghost use Rattle.session_rows.specs.Coded.{CodedOperation};
 ghost use Rattle.session_rows.specs.CubesAtDesk.{AllAreNamed, AreItsNames, AreWholeCubes, ExecutesOnRows, GainsNames, HaveCome, row_world};
 ghost use Rattle.session_rows.specs.DeskOnRows.{GainsCube, IsDoneAtDesk, cubes_back, cubes_kept};
 ghost use Rattle.session_rows.specs.declared.cubes.Cubes.{Cubes};
+ghost use Rattle.session_rows.specs.NamesInTheEnd.{AreOffered, HasOfferedNames, IsWholeRun};
+ghost use Rattle.session_rows.specs.OfferedTexts.{AreNewlyOffered, ComesByOffers};
 ghost use Rattle.session_rows.specs.PlayedOnRows.{HasPlayedOnRows};
 ghost use Rattle.session_rows.specs.RowsBehind.{HasRows, RowWorld, world_of};
 ghost use Rattle.session_rows.specs.RowsExecuted.{ChangesAlone, ChangesInside, Commits, Creates, HasExecutedOnRows, RollsBack, Stays};
@@ -114,6 +118,36 @@ pub fn dictionaries_may_end_as_runs_do()
         → MayEndWith dictionaries run.names }
 {}
 
+/// A run that ends with the dictionaries of its cubes as they are ends as one that goes on may.
+pub fn runs_end_with_the_dictionaries()
+    ensures { (run : RunRecord) (dictionaries : List (List Dictionary))
+        → AreItsNames (catalog_of run).cubes dictionaries → run.names ≡ names_of dictionaries
+        → EndsWithMore run (names_of dictionaries) }
+{}
+
+/// Names that a statement offered come to the dictionaries as names that were offered in each run that goes on. So each name
+/// behind a session was kept or offered, from the beginning on.
+pub fn names_that_come_are_offered()
+    ensures newly { (beginning : Beginning) (past : SessionPast) (s : Statement) (file : LoadedFile)
+        (old now : RowWorld) (said : Reply)
+        → HasRows beginning past old
+        → (x : HasExecuted beginning past (Says s) (world_of old) (world_of now) said)
+        → x.after.files (last_number past + 1) ≡ file → ComesByOffers s file old now said
+        → AreNewlyOffered beginning past x.after }
+    ensures none { (beginning : Beginning) → AreOffered beginning (nothing_behind beginning) }
+    ensures more { (beginning : Beginning) (before after : SessionPast) (sentence : Sentence)
+        (added : List JournalEntry)
+        → IsOneMore before after sentence added → AreOffered beginning before
+        → AreNewlyOffered beginning before after → AreOffered beginning after }
+{}
+
+/// The dictionaries of a session's cubes fit the run that ends with them, where each name was kept or offered.
+pub fn the_dictionaries_fit_the_run()
+    ensures { (beginning : Beginning) (past : SessionPast) (now : RowWorld) (run : RunRecord)
+        → HasOfferedNames beginning past now → IsWholeRun beginning past now run
+        → FinalNamesFit run }
+{}
+
 /// Rows that come are named as those that are there, and rows that go leave none unnamed.
 pub fn changed_rows_are_named()
     ensures come { (d : Decl) (lists : List (List (List ℕ))) (rows new : List CodedRow)
@@ -135,12 +169,12 @@ pub fn statements_at_the_desk_are_executed_on_rows()
     ensures rolled_back { (sentence : Sentence) (desk : DeskState) (session : Session)
         (cubes : Cubes) (new_desk : DeskState) (now : Session) (said : Reply)
         → IsDoneAtDesk sentence None desk session cubes new_desk now said
-        → new_desk.cubes ≡ desk.cubes → IsClosed (mode_of now.mode)
+        → new_desk.cubes ≡ desk.cubes → NothingIsOpen (mode_of now.mode)
         → ExecutesOnRows sentence desk session cubes new_desk now (cubes_back cubes) said }
     ensures committed { (sentence : Sentence) (desk : DeskState) (session : Session)
         (cubes : Cubes) (new_desk : DeskState) (now : Session) (said : Reply)
-        → IsDoneAtDesk sentence (epoch_in (mode_of session.mode)) desk session cubes new_desk now said
-        → new_desk.cubes ≡ desk.cubes → IsClosed (mode_of now.mode)
+        → IsDoneAtDesk sentence (epoch_open_in (mode_of session.mode)) desk session cubes new_desk now said
+        → new_desk.cubes ≡ desk.cubes → NothingIsOpen (mode_of now.mode)
         → ExecutesOnRows sentence desk session cubes new_desk now (cubes_kept cubes) said }
     ensures created { (sentence : Sentence) (d : Decl) (desk : DeskState) (session : Session)
         (cubes : Cubes) (new_desk : DeskState) (now : Session) (new_cubes : Cubes) (said : Reply)

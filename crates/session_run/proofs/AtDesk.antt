@@ -11,7 +11,7 @@ use Rattle.session_desk.specs.declared.answered.Answered.TheVariants.{Replied, S
 use Rattle.session_desk.specs.declared.session.Session.{Session}
 use Rattle.session_desk.specs.AtDesk.{IsAtDesk}
 use Rattle.session_desk.specs.Executed.{ExecutesAtDesk, IfReplied}
-use Rattle.session_desk.specs.Moves.{IsClosed, MovesOn, OpenStays, epoch_in}
+use Rattle.session_desk.specs.Moves.{NothingIsOpen, MovesOn, OpenStays, epoch_open_in}
 use Rattle.session_rows.specs.CubesAtDesk.{ExecutesOnRows, IsAtCubes}
 use Rattle.session_rows.specs.DeskOnRows.{cubes_back, cubes_kept}
 use Rattle.session_rows.specs.declared.cubes.Cubes.{Cubes}
@@ -52,7 +52,7 @@ answered_stays Stopped sentence desk session cubes new_desk now h x same moves t
 pub answered_rolls_back : (answered : Answered) (sentence : Sentence) (desk : DeskState) (session : Session)
     (cubes : Cubes) (new_desk : DeskState) (now : Session) → IsAtCubes desk session cubes
     → IfReplied answered (ExecutesAtDesk sentence desk session new_desk now) → new_desk.cubes ≡ desk.cubes
-    → MovesOn None desk new_desk → IsClosed (mode_of now.mode)
+    → MovesOn None desk new_desk → NothingIsOpen (mode_of now.mode)
     → IfReplied answered (ExecutesOnRows sentence desk session cubes new_desk now (cubes_back cubes))
 answered_rolls_back (Replied said) sentence desk session cubes new_desk now h x same moves turns =
     desk_rolls_back sentence desk session cubes new_desk now said (record { at = h; executed = x; moves = moves }) same
@@ -62,7 +62,7 @@ answered_rolls_back Stopped sentence desk session cubes new_desk now h x same mo
 pub answered_commits : (answered : Answered) (sentence : Sentence) (desk : DeskState) (session : Session)
     (cubes : Cubes) (new_desk : DeskState) (now : Session) → IsAtCubes desk session cubes
     → IfReplied answered (ExecutesAtDesk sentence desk session new_desk now) → new_desk.cubes ≡ desk.cubes
-    → MovesOn (epoch_in (mode_of session.mode)) desk new_desk → IsClosed (mode_of now.mode)
+    → MovesOn (epoch_open_in (mode_of session.mode)) desk new_desk → NothingIsOpen (mode_of now.mode)
     → IfReplied answered (ExecutesOnRows sentence desk session cubes new_desk now (cubes_kept cubes))
 answered_commits (Replied said) sentence desk session cubes new_desk now h x same moves turns =
     desk_commits sentence desk session cubes new_desk now said (record { at = h; executed = x; moves = moves }) same

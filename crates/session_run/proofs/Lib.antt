@@ -1,3 +1,3 @@
 pub mod AtDesk
 pub mod MadeCubes
-pub mod PlayedTexts
+pub mod FromShelf

@@ -17,6 +17,7 @@ use Rattle.session_desk.specs.Executed.{ExecutesAtDesk, IfReplied}
 use Rattle.session_desk.specs.Moves.{MovesOn, OpenStays}
 use Rattle.session_rows.specs.CubesAtDesk.{AllAreNamed, AreItsNames, AreItsRows, AreWholeCubes, ExecutesOnRows, IsAtCubes}
 use Rattle.session_rows.specs.declared.cubes.Cubes.{Cubes}
+use Rattle.row_loads.proofs.MovedLoads.{moved_on_rows}
 use Rattle.session_rows.proofs.DeskOnRows.{desk_creates, desk_stays}
 use Rattle.session_rows.proofs.WholeCubes.{whole_with_cube}
 use Rattle.session_run.specs.RowsMade.{HasPlaceFor, rows_after_create}
@@ -90,7 +91,6 @@ answered_creates (Replied (reply.Created epoch)) sentence d desk session cubes n
     (record { at = h; executed = x; moves = moves }) made turns
     (record { schemas = a.schemas; names = a.names; rows = a.rows })
 answered_creates (Replied said) sentence d desk session cubes new_desk now new_cubes h x made a moves turns =
-    coe 1 0 (i. ExecutesOnRows sentence desk session cubes new_desk now
-    (record { schemas = new_cubes.schemas; names = a.names i; rows = a.rows i }) said)
+    moved_on_rows sentence desk session cubes new_desk now cubes new_cubes said (sym a.names) (sym a.rows)
     (desk_stays sentence desk session cubes new_desk now said (record { at = h; executed = x; moves = moves }) made turns)
 answered_creates Stopped sentence d desk session cubes new_desk now new_cubes h x made a moves turns = tt

@@ -1,3 +1,4 @@
 pub mod RowsMade
 pub mod Forms
-pub mod Scripts
+pub mod FromShelf
+pub mod Counted

@@ -6,6 +6,7 @@ ghost use Rattle.cube_run.specs.RunRecords.{Says};
 ghost use Rattle.cube_run.specs.StepOutcomes.{refused_by_mode};
 ghost use Rattle.session_replies.specs.Modes.{mode_of};
 ghost use Rattle.session_desk.specs.Executed.{IfReplied};
+ghost use Rattle.session_desk.specs.FileReplies.{SpeaksOfNoFile};
 ghost use Rattle.session_run.specs.RowsMade.{HasPlaceFor, rows_after_create};
 ghost use Rattle.session_rows.specs.CubesAtDesk.{ExecutesOnRows, IsAtCubes};
 
@@ -41,6 +42,7 @@ pub fn create_cube(
     requires may { refused_by_mode (mode_of session.old.mode) (statement.CreateCube decl) ≡ None }
     ensures at { IsAtCubes desk.new session.new cubes.new }
     ensures number { session.new.statements ≡ session.old.statements + 1 }
+    ensures no_file { IfReplied result SpeaksOfNoFile }
     ensures executed { IfReplied result (ExecutesOnRows (Says (statement.CreateCube decl))
         desk.old session.old cubes.old desk.new session.new cubes.new) }
 {

@@ -7,6 +7,7 @@ ghost use Rattle.cube_run.specs.RunRecords.{Says, SaysNone, Sentence};
 ghost use Rattle.cube_run.specs.StepOutcomes.{refused_by_mode};
 ghost use Rattle.session_replies.specs.Modes.{mode_of};
 ghost use Rattle.session_desk.specs.Executed.{IfReplied};
+ghost use Rattle.session_desk.specs.FileReplies.{IsRefusedUnread, SpeaksOfNoFile};
 ghost use Rattle.session_rows.specs.CubesAtDesk.{ExecutesOnRows, IsAtCubes};
 
 use aosi_desk::Desk;
@@ -22,6 +23,7 @@ pub fn begin(desk: &mut Desk, session: &mut Session, cubes: &Cubes) -> Answered
     requires may { refused_by_mode (mode_of session.old.mode) statement.Begin ≡ None }
     ensures at { IsAtCubes desk.new session.new cubes.now }
     ensures number { session.new.statements ≡ session.old.statements + 1 }
+    ensures no_file { IfReplied result SpeaksOfNoFile }
     ensures executed { IfReplied result (ExecutesOnRows (Says statement.Begin)
         desk.old session.old cubes.now desk.new session.new cubes.now) }
 {
@@ -34,6 +36,7 @@ pub fn flush(desk: &mut Desk, session: &mut Session, cubes: &Cubes) -> Answered
     requires few { session.old.statements < MOST_STATEMENTS }
     ensures at { IsAtCubes desk.new session.new cubes.now }
     ensures number { session.new.statements ≡ session.old.statements + 1 }
+    ensures no_file { IfReplied result SpeaksOfNoFile }
     ensures executed { IfReplied result (ExecutesOnRows (Says statement.Flush)
         desk.old session.old cubes.now desk.new session.new cubes.now) }
 {
@@ -46,6 +49,7 @@ pub fn purge(desk: &mut Desk, session: &mut Session, cubes: &Cubes) -> Answered
     requires few { session.old.statements < MOST_STATEMENTS }
     ensures at { IsAtCubes desk.new session.new cubes.now }
     ensures number { session.new.statements ≡ session.old.statements + 1 }
+    ensures no_file { IfReplied result SpeaksOfNoFile }
     ensures executed { IfReplied result (ExecutesOnRows (Says statement.Purge)
         desk.old session.old cubes.now desk.new session.new cubes.now) }
 {
@@ -58,6 +62,7 @@ pub fn show_epochs(desk: &mut Desk, session: &mut Session, cubes: &Cubes) -> Ans
     requires few { session.old.statements < MOST_STATEMENTS }
     ensures at { IsAtCubes desk.new session.new cubes.now }
     ensures number { session.new.statements ≡ session.old.statements + 1 }
+    ensures no_file { IfReplied result SpeaksOfNoFile }
     ensures executed { IfReplied result (ExecutesOnRows (Says statement.ShowEpochs)
         desk.old session.old cubes.now desk.new session.new cubes.now) }
 {
@@ -75,6 +80,7 @@ pub fn refuse_syntax(
     requires few { session.old.statements < MOST_STATEMENTS }
     ensures at { IsAtCubes desk.new session.new cubes.now }
     ensures number { session.new.statements ≡ session.old.statements + 1 }
+    ensures no_file { IfReplied result SpeaksOfNoFile }
     ensures executed { IfReplied result (ExecutesOnRows (SaysNone fault.at)
         desk.old session.old cubes.now desk.new session.new cubes.now) }
 {
@@ -94,6 +100,8 @@ pub fn refuse_by_mode(
         × (refused_by_mode (mode_of session.old.mode) s ≡ Some refusal) }
     ensures at { IsAtCubes desk.new session.new cubes.now }
     ensures number { session.new.statements ≡ session.old.statements + 1 }
+    ensures no_file { IfReplied result SpeaksOfNoFile }
+    ensures unread { IfReplied result IsRefusedUnread }
     ensures executed { IfReplied result (λ said. (s : Statement)
         → refused_by_mode (mode_of session.old.mode) s ≡ Some refusal
         → ExecutesOnRows (Says s) desk.old session.old cubes.now
@@ -108,6 +116,7 @@ pub fn refuse_memory(desk: &mut Desk, session: &mut Session, cubes: &Cubes) -> A
     requires few { session.old.statements < MOST_STATEMENTS }
     ensures at { IsAtCubes desk.new session.new cubes.now }
     ensures number { session.new.statements ≡ session.old.statements + 1 }
+    ensures no_file { IfReplied result SpeaksOfNoFile }
     ensures executed { IfReplied result (λ said. (sentence : Sentence)
         → ExecutesOnRows sentence desk.old session.old cubes.now
         desk.new session.new cubes.now said) }

@@ -6,6 +6,7 @@ ghost use Rattle.cube_run.specs.RunRecords.{Says};
 ghost use Rattle.cube_run.specs.StepOutcomes.{refused_by_mode};
 ghost use Rattle.session_replies.specs.Modes.{mode_of};
 ghost use Rattle.session_desk.specs.Executed.{IfReplied};
+ghost use Rattle.session_desk.specs.FileReplies.{SpeaksOfNoFile};
 ghost use Rattle.session_rows.specs.CubesAtDesk.{ExecutesOnRows, IsAtCubes};
 
 use aosi_desk::Desk;
@@ -20,6 +21,7 @@ pub fn commit(desk: &mut Desk, session: &mut Session, cubes: &mut Cubes) -> Answ
     requires may { refused_by_mode (mode_of session.old.mode) statement.Commit ≡ None }
     ensures at { IsAtCubes desk.new session.new cubes.new }
     ensures number { session.new.statements ≡ session.old.statements + 1 }
+    ensures no_file { IfReplied result SpeaksOfNoFile }
     ensures executed { IfReplied result (ExecutesOnRows (Says statement.Commit)
         desk.old session.old cubes.old desk.new session.new cubes.new) }
 {
@@ -36,6 +38,7 @@ pub fn rollback(desk: &mut Desk, session: &mut Session, cubes: &mut Cubes) -> An
     requires may { refused_by_mode (mode_of session.old.mode) statement.Rollback ≡ None }
     ensures at { IsAtCubes desk.new session.new cubes.new }
     ensures number { session.new.statements ≡ session.old.statements + 1 }
+    ensures no_file { IfReplied result SpeaksOfNoFile }
     ensures executed { IfReplied result (ExecutesOnRows (Says statement.Rollback)
         desk.old session.old cubes.old desk.new session.new cubes.new) }
 {

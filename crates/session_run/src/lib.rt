@@ -13,4 +13,4 @@ pub use desk_forms::{
 };
 pub use endings::{commit, rollback};
 pub use executing::exec;
-pub use playing::{Said, exec_said, play};
+pub use playing::exec_said;

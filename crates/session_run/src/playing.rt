@@ -1,33 +1,27 @@
-//! A script, statement by statement.
+//! What the text of a statement says, and is executed.
 
-ghost use Rattle.std.specs.Prelude.{◌≡◌, ◌+◌, ◌<◌, ◌≤◌, length, vec_capacity, vec_len};
-ghost use Rattle.std.specs.Bool.{OnTrue};
-ghost use Rattle.std.specs.List.{AllByRecursion};
+ghost use Rattle.std.specs.Prelude.{◌≡◌, ◌+◌, ◌<◌, ◌≤◌};
 ghost use Rattle.session_desk.specs.Executed.{IfReplied};
-ghost use Rattle.session_rows.specs.CubesAtDesk.{ExecutesOnRows, IsAtCubes};
-ghost use Rattle.session_run.specs.Scripts.{IsPlayableText, PlaysOn, sentence_of};
+ghost use Rattle.session_rows.specs.CubesAtDesk.{IsAtCubes};
+ghost use Rattle.session_run.specs.Counted.{CountsAbsence, CountsFault};
+ghost use Rattle.session_run.specs.FromShelf.{ExecutesFromShelf};
+ghost use Rattle.script_sentences.specs.Sentences.{IsRunnable, sentence_of};
 
 use crate::desk_forms::refuse_syntax;
 use crate::executing::exec;
 use aosi_desk::Desk;
-use cube_journal::Reply;
-use cube_language::{MOST_STATEMENTS, Statement, Syntax};
+use cube_language::MOST_STATEMENTS;
+use outside::Shelf;
+use script_sentences::Said;
 use session_desk::{Answered, Session};
 use session_rows::Cubes;
 use std::alloc::Global;
 
-/// What the text of a statement says.
-#[derive(Debug, Drop)]
-pub enum Said {
-    /// A statement.
-    Statement { statement: Statement },
-    /// None, which a place shows.
-    Nothing { fault: Syntax },
-}
-
 /// Executes what a text says, and answers it.
-pub fn exec_said(
+#[tactic(auto, using(crate::proofs::FromShelf::counts_no_fault, crate::proofs::FromShelf::counts_no_absence, crate::proofs::FromShelf::executes_without))]
+pub fn exec_said<S: Shelf>(
     alloc: Global,
+    shelf: &mut S,
     desk: &mut Desk,
     session: &mut Session,
     cubes: &mut Cubes,
@@ -35,41 +29,20 @@ pub fn exec_said(
 ) -> Answered
     requires at { IsAtCubes desk.old session.old cubes.old }
     requires few { session.old.statements < MOST_STATEMENTS }
-    requires form { IsPlayableText said }
+    requires form { IsRunnable said }
     ensures at { IsAtCubes desk.new session.new cubes.new }
     ensures number { session.new.statements ≡ session.old.statements + 1 }
-    ensures executed { IfReplied result (ExecutesOnRows (sentence_of said)
+    ensures same { S.told shelf.new ≡ S.told shelf.old }
+    ensures later { S.fault_count shelf.old ≤ S.fault_count shelf.new }
+    ensures faults { IfReplied result (λ said.
+        CountsFault said (S.fault_count shelf.old) (S.fault_count shelf.new)) }
+    ensures absences { IfReplied result (λ said.
+        CountsAbsence said (S.absence_count shelf.old) (S.absence_count shelf.new)) }
+    ensures executed { IfReplied result (ExecutesFromShelf (S.told shelf.old) (sentence_of said)
         desk.old session.old cubes.old desk.new session.new cubes.new) }
 {
     match said {
-        Said::Statement { statement } => exec(alloc, desk, session, cubes, statement),
+        Said::Statement { statement } => exec(alloc, shelf, desk, session, cubes, statement),
         Said::Nothing { fault } => refuse_syntax(desk, session, cubes, fault),
     }
-}
-
-/// Executes the texts of a script in their order, and adds their replies, for which there is room. False where a
-/// statement stopped for want of memory; nothing is executed behind it.
-pub fn play(
-    alloc: Global,
-    desk: &mut Desk,
-    session: &mut Session,
-    cubes: &mut Cubes,
-    script: Vec<Said>,
-    replies: &mut Vec<Reply>,
-) -> bool
-    requires at { IsAtCubes desk.old session.old cubes.old }
-    requires few { session.old.statements + length script.items ≤ MOST_STATEMENTS }
-    requires forms { AllByRecursion IsPlayableText script.items }
-    requires room { vec_len replies.old + length script.items ≤ vec_capacity replies.old }
-    ensures at { IsAtCubes desk.new session.new cubes.new }
-    ensures played { OnTrue result (PlaysOn script.items replies.old.items desk.old session.old cubes.old
-        replies.new.items desk.new session.new cubes.new) }
-{
-    'script: for said in script {
-        match exec_said(alloc, desk, session, cubes, said) {
-            Answered::Replied(reply) => replies.push_reserved(reply),
-            Answered::Stopped => return false,
-        }
-    }
-    true
 }

@@ -10,10 +10,11 @@ use Rattle.cube_rounds.specs.Bricks.{EntryRows, entries_with_rows}
 use Rattle.epochs_vector.proofs.Ends.{lead_more, rows_led}
 use Rattle.epochs_vector.proofs.VisibleRows.{lead_up}
 use Rattle.brick_store.specs.Copies.{entries_of_epochs, is_of_epochs, rows_of_entries, vector_with_rows}
+use Rattle.brick_map.specs.Births.{BrickContent}
 use Rattle.brick_map.specs.Copied.{round_part_with}
-use Rattle.core_events.specs.ShardView.{BrickEntry, RowRun, RowMark, ShowAlike, entries_of_round}
-use Rattle.shard_views.specs.Views.{CopiesTheSame, brick_entry, brick_view, entries_newest_first, part_view}
-use Rattle.shard_views.proofs.Alike.{alike_newest, alike_same, alike_then, joined_alike, leads_push, view_from, view_push}
+use Rattle.core_events.specs.ShardView.{BrickEntry, RowRun, RowMark, entries_of_round}
+use Rattle.shard_views.specs.Views.{CopiesTheSame, IsWholeContent, brick_entry, brick_view, entries_newest_first, part_view}
+use Rattle.shard_views.proofs.Alike.{AreAlike, show_alike, alike_newest, alike_same, alike_then, joined_alike, leads_push, view_from, view_push}
 use Rattle.shard_views.proofs.Grown.{view_more}
 
 -- a run has rows, and a mark has none
@@ -42,7 +43,7 @@ filter_have test (e ∷ entries) h = by_test (test e) (filter_have test entries 
   by_test false rest = rest
 
 -- one entry more, with its rows
-one_alike : (entry : Entry) (more : List CodedRow) (xs : List Entry) (rows : List CodedRow) → HasRows entry more → Leads 0 xs (length rows) → ShowAlike (view_from [] 0 (rows ++ more) (vector_with_entry xs (with_rows_after entry (rows_of xs + length more)))) (brick_entry entry more ∷ view_from [] 0 rows xs)
+one_alike : (entry : Entry) (more : List CodedRow) (xs : List Entry) (rows : List CodedRow) → HasRows entry more → Leads 0 xs (length rows) → AreAlike (view_from [] 0 (rows ++ more) (vector_with_entry xs (with_rows_after entry (rows_of xs + length more)))) (brick_entry entry more ∷ view_from [] 0 rows xs)
 one_alike (Run k end) more xs rows some l =
     let n : ℕ = length rows in
     let to : ℕ = rows_of xs + length more in
@@ -77,7 +78,7 @@ one_leads (Mark k at) more xs rows none l =
     let zero_long = ap length none in
     lead_more xs (Mark k (rows_of xs + length more)) 0 (length rows) (length (rows ++ more)) l (omega (arith, led, zero_long), omega (arith, long, zero_long))
 
-all_alike : (es : List EntryRows) (xs : List Entry) (rows : List CodedRow) → HaveRows es → Leads 0 xs (length rows) → ShowAlike (view_from [] 0 (rows ++ rows_of_entries es) (fold vector_with_rows xs es)) (entries_newest_first (view_from [] 0 rows xs) es)
+all_alike : (es : List EntryRows) (xs : List Entry) (rows : List CodedRow) → HaveRows es → Leads 0 xs (length rows) → AreAlike (view_from [] 0 (rows ++ rows_of_entries es) (fold vector_with_rows xs es)) (entries_newest_first (view_from [] 0 rows xs) es)
 all_alike [] xs rows h l = alike_same (view_from [] 0 (rows ++ []) xs) (view_from [] 0 rows xs) (ap (λ r. view_from [] 0 r xs) (append-nil rows))
 all_alike (e ∷ es) xs rows h l =
     let next : List Entry = vector_with_rows xs e in
@@ -106,11 +107,14 @@ module _ (from to : ℕ) where
         by_test true = refl
         by_test false = refl
 
-pub copies_the_same : CopiesTheSame
-copies_the_same from to number c v =
+copied_alike : (from to number : ℕ) (c : BrickContent) → IsWholeContent c → AreAlike (part_view (round_part_with from to number c)) (entries_of_round from to (brick_view c))
+copied_alike from to number c v =
     let all : List EntryRows = entries_with_rows 0 c.rows c.entries in
     let some : List EntryRows = entries_of_epochs from to all in
     let have = filter_have (λ e. is_of_epochs from to e.entry) all (entries_have c.entries 0 (length c.rows) c.rows v.leads (omega arith)) in
     alike_then (part_view (round_part_with from to number c)) (entries_newest_first [] some) (entries_of_round from to (brick_view c))
     (all_alike some [] [] have refl)
     (alike_same (entries_newest_first [] some) (entries_of_round from to (brick_view c)) (all_of_round from to all []))
+
+pub copies_the_same : CopiesTheSame
+copies_the_same from to number c v = show_alike (part_view (round_part_with from to number c)) (entries_of_round from to (brick_view c)) (copied_alike from to number c v)

@@ -1,6 +1,5 @@
 -- What calls make of a brick stays whole, and what appends and deletions make of it in the core's words.
-use Rattle.std.proofs.Common.{◌≡◌, ℕ, ◌+◌, ◌-◌, ◌<◌, ◌≤◌, ◌&&◌, ◌||◌, not, nat_lt, Bool, true, false, List, [], ◌∷◌, ◌++◌, length, take, drop, refl, sym, ap, subst, ◌∙◌, arith}
-use Rattle.std.proofs.lemmas.Bool.Decides.{nat_tests}
+use Rattle.std.proofs.Common.{◌≡◌, ℕ, ◌+◌, ◌-◌, ◌<◌, ◌≤◌, Bool, List, [], ◌∷◌, ◌++◌, length, take, drop, refl, sym, ap, subst, ◌∙◌, arith}
 use Rattle.std.proofs.lemmas.List.{drop-append-le, length-append, length-drop, take-append-le, take_all}
 use Rattle.std.proofs.Math.Seq.{drop-append_seam}
 use Rattle.cube_values.specs.declared.entry.Entry.{Entry}
@@ -15,9 +14,10 @@ use Rattle.purge_plan.specs.Purged.{purged_entries, spared_bits}
 use Rattle.purge_plan.proofs.Counts.{length-kept, vector_purged}
 use Rattle.brick_columns.proofs.KeptItems.{kept_length}
 use Rattle.brick_map.specs.Births.{BrickContent, content_purged, content_with_mark, content_with_rows, content_without}
-use Rattle.core_events.specs.ShardView.{BrickEntry, RowRun, RowMark, ShowAlike, epochs_before_mark, rows_where}
-use Rattle.shard_views.specs.Views.{CallsGrowTheSame, ContentsAreWhole, IsUniform, IsWholeContent, ShowAlikeAbove, brick_view}
-use Rattle.shard_views.proofs.Alike.{alike_empty, alike_same, alike_then, joined_alike, leads_push, view_from, view_push}
+use Rattle.core_events.specs.ShardView.{BrickEntry, RowRun, RowMark}
+use Rattle.shard_views.specs.Views.{CallsGrowTheSame, ContentsAreWhole, IsWholeContent, brick_view}
+use Rattle.shard_views.proofs.Above.{mark_above, run_above, then_above}
+use Rattle.shard_views.proofs.Alike.{AreAlike, alike_empty, alike_same, alike_then, joined_alike, leads_push, view_from, view_push}
 
 -- a brick stays whole
 appended_whole : (epoch : ℕ) (more : List CodedRow) (c : BrickContent) → IsWholeContent c → IsWholeContent (content_with_rows epoch more c)
@@ -62,10 +62,10 @@ view_more (Run k end ∷ xs) rows more n to older l m =
 view_more (Mark k at ∷ xs) rows more n to older l m = view_more xs rows more n to (RowMark k ∷ older) l.1 m
 
 -- rows are appended
-appended_alike : (epoch : ℕ) (more : List CodedRow) (c : BrickContent) → IsWholeContent c → ShowAlike (brick_view (content_with_rows epoch more c)) (RowRun epoch more ∷ brick_view c)
+appended_alike : (epoch : ℕ) (more : List CodedRow) (c : BrickContent) → IsWholeContent c → AreAlike (brick_view (content_with_rows epoch more c)) (RowRun epoch more ∷ brick_view c)
 appended_alike epoch [] c v = alike_empty epoch (brick_view c)
 appended_alike epoch (row ∷ rest) c v = grown (row ∷ rest) (omega arith) where
-  grown : (all : List CodedRow) → 0 < length all → ShowAlike (view_from [] 0 (c.rows ++ all) (vector_with_entry c.entries (Run epoch (length c.rows + length all)))) (RowRun epoch all ∷ brick_view c)
+  grown : (all : List CodedRow) → 0 < length all → AreAlike (view_from [] 0 (c.rows ++ all) (vector_with_entry c.entries (Run epoch (length c.rows + length all)))) (RowRun epoch all ∷ brick_view c)
   grown all some =
       let n : ℕ = length c.rows in
       let to : ℕ = n + length all in
@@ -79,44 +79,13 @@ appended_alike epoch (row ∷ rest) c v = grown (row ∷ rest) (omega arith) whe
       (alike_same (view_from [] 0 rows (c.entries ++ new ∷ [])) (RowRun epoch all ∷ brick_view c) (pushed ∙ (λ t. RowRun epoch (part t) ∷ before t)))
 
 -- a box is deleted
-marked_alike : (epoch : ℕ) (c : BrickContent) → IsWholeContent c → ShowAlike (brick_view (content_with_mark epoch c)) (RowMark epoch ∷ brick_view c)
+marked_alike : (epoch : ℕ) (c : BrickContent) → IsWholeContent c → AreAlike (brick_view (content_with_mark epoch c)) (RowMark epoch ∷ brick_view c)
 marked_alike epoch c v =
     let n : ℕ = length c.rows in
     let new : Entry = Mark epoch n in
     alike_then (view_from [] 0 c.rows (vector_with_entry c.entries new)) (view_from [] 0 c.rows (c.entries ++ new ∷ [])) (RowMark epoch ∷ brick_view c)
     (joined_alike c.entries new c.rows 0 n [] (leads_push c.entries new 0 n n v.leads (refl, refl)))
     (alike_same (view_from [] 0 c.rows (c.entries ++ new ∷ [])) (RowMark epoch ∷ brick_view c) (view_push c.entries new c.rows 0 n [] v.leads))
-
--- to whoever does not tell epochs up to one apart
-then_above : (low : ℕ) (a b c : List BrickEntry) → ShowAlike a b → ShowAlikeAbove low b c → ShowAlikeAbove low a c
-then_above low a b c p q = record {
-  rows = λ epochs marks u w. p.rows epochs marks ∙ q.rows epochs marks u w;
-  hidden = λ marks epoch l. p.hidden marks epoch ∙ q.hidden marks epoch l;
-}
-
-run_above : (low k : ℕ) (rows : List CodedRow) (a b : List BrickEntry) → low < k → ShowAlikeAbove low a b → ShowAlikeAbove low (RowRun k rows ∷ a) (RowRun k rows ∷ b)
-run_above low k rows a b l h = record {
-  rows = λ epochs marks u w t. h.rows epochs marks u w t ++ rows_where (epochs k && not (h.hidden marks k l t)) rows;
-  hidden = λ marks epoch m. h.hidden marks epoch m;
-}
-
-not_past : (k e low : ℕ) → low < k → e ≤ low → nat_lt k e ≡ false
-not_past k e low l m = grind (arith, nat_tests)
-
-and_false : (a : Bool) → (a && false) ≡ false
-and_false true = refl
-and_false false = refl
-
-uniform_before : (low k : ℕ) (t : Bool) (epochs : ℕ → Bool) → low < k → IsUniform low epochs → IsUniform low (epochs_before_mark t k epochs)
-uniform_before low k true epochs l u = λ a b p q.
-    ap (λ t. epochs a && t) (not_past k a low l p) ∙ and_false (epochs a) ∙ sym (ap (λ t. epochs b && t) (not_past k b low l q) ∙ and_false (epochs b))
-uniform_before low k false epochs l u = u
-
-mark_above : (low k : ℕ) (a b : List BrickEntry) → low < k → ShowAlikeAbove low a b → ShowAlikeAbove low (RowMark k ∷ a) (RowMark k ∷ b)
-mark_above low k a b l h = record {
-  rows = λ epochs marks u w. h.rows (epochs_before_mark (marks k) k epochs) marks (uniform_before low k (marks k) epochs l u) w;
-  hidden = λ marks epoch m t. (marks k && nat_lt epoch k) || h.hidden marks epoch m t;
-}
 
 pub calls_grow_the_same : CallsGrowTheSame
 calls_grow_the_same low c view v h = record {

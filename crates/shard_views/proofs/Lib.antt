@@ -1,8 +1,9 @@
+pub mod Tests
 pub mod Items
 pub mod Shown
 pub mod Seen
 pub mod Alike
+pub mod Above
 pub mod Grown
 pub mod Rollbacks
 pub mod CopiedParts
-pub mod ViewedShards

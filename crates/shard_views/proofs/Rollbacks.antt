@@ -13,10 +13,10 @@ use Rattle.epochs_vector.specs.Without.{other_entries, set_bits_before, staying_
 use Rattle.epochs_vector.proofs.Ends.{lead_more, vector_rows}
 use Rattle.epochs_vector.proofs.WhatStays.{IsLeft, IsNext, counted_other, counted_same, lead_others, left_whole, length-staying, one_on, others_other, others_same}
 use Rattle.brick_columns.proofs.KeptItems.{kept_length}
-use Rattle.brick_map.specs.Births.{content_without}
-use Rattle.core_events.specs.ShardView.{BrickEntry, RowRun, RowMark, ShowAlike, entries_without_epoch}
-use Rattle.shard_views.specs.Views.{RollsBackTheSame, brick_view}
-use Rattle.shard_views.proofs.Alike.{alike_newest, alike_same, alike_then, joined_alike, leads_push, view_from}
+use Rattle.brick_map.specs.Births.{BrickContent, content_without}
+use Rattle.core_events.specs.ShardView.{BrickEntry, RowRun, RowMark, entries_without_epoch}
+use Rattle.shard_views.specs.Views.{IsWholeContent, RollsBackTheSame, brick_view}
+use Rattle.shard_views.proofs.Alike.{AreAlike, show_alike, alike_newest, alike_same, alike_then, joined_alike, leads_push, view_from}
 use Rattle.shard_views.proofs.Items.{items_append}
 
 -- entries that are put one after another show as they do in a row
@@ -29,7 +29,7 @@ lead_first : (y : Entry) (ys : List Entry) (m to : ℕ) → Leads m (y ∷ ys) t
 lead_first (Run j end) ys m to l = ((l.0, refl), l.1)
 lead_first (Mark j at) ys m to l = ((l.0, sym l.0), subst (λ n. Leads n ys to) (sym l.0) l.1)
 
-fold_alike : (ys xs : List Entry) (rows : List CodedRow) (m to : ℕ) → Leads 0 xs m → Leads m ys to → ShowAlike (view_from [] 0 rows (fold vector_with_entry xs ys)) (view_from [] 0 rows (xs ++ ys))
+fold_alike : (ys xs : List Entry) (rows : List CodedRow) (m to : ℕ) → Leads 0 xs m → Leads m ys to → AreAlike (view_from [] 0 rows (fold vector_with_entry xs ys)) (view_from [] 0 rows (xs ++ ys))
 fold_alike [] xs rows m to l k = alike_same (view_from [] 0 rows xs) (view_from [] 0 rows (xs ++ [])) (ap (view_from [] 0 rows) (sym (append-nil xs)))
 fold_alike (y ∷ ys) xs rows m to l k =
     let next = lead_first y ys m to k in
@@ -57,10 +57,10 @@ front_all (suc m) (true ∷ bits) (x ∷ rows) e l h = ap (λ l. x ∷ l) (front
 front_all (suc m) (false ∷ bits) (x ∷ rows) e l h = let never : false ≡ true = h 0 (omega arith) in cc
 
 module _ (bits : List Bool) (rows : List CodedRow) (long : length rows ≡ length bits) where
-  abbrev kept : List CodedRow
+  abbrev pub kept : List CodedRow
   kept = items_where_true bits rows
 
-  abbrev before : ℕ → ℕ
+  abbrev pub before : ℕ → ℕ
   before n = set_bits_before bits n
 
   -- the rows that stay from a place on
@@ -75,7 +75,7 @@ module _ (bits : List Bool) (rows : List CodedRow) (long : length rows ≡ lengt
       let count : length first ≡ before n = kept_length (take n bits) (take n rows) (few ∙ sym some) in
       ap (drop (before n)) parts ∙ ap (λ m. drop m (first ++ rest)) (sym count) ∙ drop-append_seam first rest
 
-  segment : (n end : ℕ) → n ≤ end → end ≤ length bits → ((i : ℕ) → n ≤ i → i < end → get_or bits i false ≡ true) → take (end - n) (drop (before n) kept) ≡ take (end - n) (drop n rows)
+  pub segment : (n end : ℕ) → n ≤ end → end ≤ length bits → ((i : ℕ) → n ≤ i → i < end → get_or bits i false ≡ true) → take (end - n) (drop (before n) kept) ≡ take (end - n) (drop n rows)
   segment n end l m h =
       let some = length-drop n bits in
       let few = length-drop n rows in
@@ -108,8 +108,8 @@ module _ (bits : List Bool) (rows : List CodedRow) (long : length rows ≡ lengt
         ap (view_from gone (before n) kept) (others_other k bits (Mark j at) es h)
         ∙ again (RowMark j ∷ older) (RowMark j ∷ gone) (ap (λ l. RowMark j ∷ l) e ∙ sym (ap (λ t. cond t (entries_without_epoch k older) (RowMark j ∷ entries_without_epoch k older)) h))
 
-pub rolls_back_the_same : RollsBackTheSame
-rolls_back_the_same k c v =
+pub rolled_back_alike : (k : ℕ) (c : BrickContent) → IsWholeContent c → AreAlike (brick_view (content_without k c)) (entries_without_epoch k (brick_view c))
+rolled_back_alike k c v =
     let bits : List Bool = staying_bits k c.entries in
     let rows : List CodedRow = items_where_true bits c.rows in
     let long : length c.rows ≡ length bits = sym (length-staying k c.entries ∙ vector_rows c.entries (length c.rows) v) in
@@ -117,3 +117,6 @@ rolls_back_the_same k c v =
     alike_then (brick_view (content_without k c)) (view_from [] 0 rows (other_entries k bits c.entries)) (entries_without_epoch k (brick_view c))
     (fold_alike (other_entries k bits c.entries) [] rows 0 (set_bits bits) refl (lead_others k bits c.entries 0 left))
     (alike_same (view_from [] 0 rows (other_entries k bits c.entries)) (entries_without_epoch k (brick_view c)) (kept_view bits c.rows long k c.entries 0 [] [] left refl))
+
+pub rolls_back_the_same : RollsBackTheSame
+rolls_back_the_same k c v = show_alike (brick_view (content_without k c)) (entries_without_epoch k (brick_view c)) (rolled_back_alike k c v)

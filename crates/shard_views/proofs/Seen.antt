@@ -10,7 +10,7 @@ use Rattle.cube_values.specs.EpochsVector.{IsVector, epoch_at, is_hidden_by, row
 use Rattle.cube_values.specs.Sees.{sees}
 use Rattle.epochs_vector.proofs.Ends.{vector_rows}
 use Rattle.brick_map.specs.Births.{BrickContent}
-use Rattle.shard_views.specs.Views.{SeesApartTheSame, SeesTheSame, brick_view, sight_of}
+use Rattle.shard_views.specs.Views.{SeesApartTheSame, SnapshotsSeeTheSame, brick_view, sight_of}
 use Rattle.shard_views.proofs.Shown.{ShowsAs, all_shown, bits_to, hides, shows, shows_none, shows_to}
 
 -- a snapshot obeys the marks that it sees
@@ -29,7 +29,7 @@ module _ (c : BrickContent) (v : IsVector c.entries (length c.rows)) (test other
   all_rows : items_where_true (bits_to test (rows_of c.entries)) c.rows ≡ items_where_true (bits_to other (length c.rows)) (take (length c.rows) c.rows)
   all_rows = λ t. items_where_true (bits_to (λ i. same i t) (vector_rows c.entries (length c.rows) v t)) (sym (take_all (length c.rows) c.rows (omega arith)) t)
 
-pub sees_the_same : SeesTheSame
+pub sees_the_same : SnapshotsSeeTheSame
 sees_the_same c v s =
     all_rows c v (sees_row s c.entries) (shows (sees s) (sees s) c.entries) (same_row s c.entries)
     ∙ (shown_of c v).shown (sees s) (sees s)

@@ -1,24 +1,19 @@
--- A shard in the core's words: of each brick the runs of rows and the marks of deletions, the newest first.
-use Rattle.std.specs.Prelude.{◌≡◌, ℕ, ◌<◌, ◌≤◌, ◌==◌, ◌&&◌, Bool, List, [], ◌∷◌, length, fold, if◌then◌else◌}
+-- A brick in the core's words: its runs of rows and its marks of deletions, the newest first.
+use Rattle.std.specs.Prelude.{◌≡◌, ℕ, ◌<◌, ◌≤◌, List, [], ◌∷◌, length, fold}
 use Rattle.std.specs.List.{items_where_true}
 use Rattle.cube_values.specs.declared.entry.Entry.{Entry}
 use Rattle.cube_values.specs.declared.entry.Entry.TheVariants.{Run, Mark}
 use Rattle.cube_values.specs.declared.row.CodedRow.{CodedRow}
-use Rattle.cube_values.specs.declared.shape.Size.{Size}
 use Rattle.cube_values.specs.declared.snapshot.Snapshot.{Snapshot}
-use Rattle.cube_values.specs.declared.span.Span.{Span}
 use Rattle.cube_values.specs.EpochsVector.{IsVector}
 use Rattle.cube_values.specs.Sees.{sees}
 use Rattle.cube_rounds.specs.Bricks.{BrickPart, EntryRows, entries_with_rows}
 use Rattle.epochs_vector.specs.Seen.{seen_rows}
 use Rattle.brick_store.specs.Deltas.{seen_apart}
-use Rattle.brick_map.specs.Births.{BrickContent, content_purged, content_with_mark, content_with_rows, content_without, has_brick, rows_of_brick}
+use Rattle.brick_map.specs.Births.{BrickContent, content_purged, content_with_mark, content_with_rows, content_without}
 use Rattle.brick_map.specs.Copied.{round_part_with}
 use Rattle.core_events.specs.Runs.{Sight, rows_shown_besides}
-use Rattle.core_events.specs.ShardView.{BrickEntry, RowRun, RowMark, ShardView, ShowAlike, brick_rows_seen, entries_of_round, entries_without_epoch, is_below_mark, rows_shown_to}
-use Rattle.shard_cell.specs.Answers.{brick_after_append, brick_after_drop}
-use Rattle.shard_cell.specs.Shards.{ShardState, shard_brick}
-use Rattle.shard_cell.specs.Slots.{untouched}
+use Rattle.core_events.specs.ShardView.{BrickEntry, RowRun, RowMark, EpochSet, ShowAlike, brick_rows_seen, entries_of_round, entries_without_epoch, is_below_mark, rows_shown_to}
 
 -- A run with its rows, or a mark.
 abbrev pub brick_entry : Entry → List CodedRow → BrickEntry
@@ -32,28 +27,22 @@ entries_newest_first older entries = fold (λ older e. brick_entry e.entry e.row
 abbrev pub brick_view : BrickContent → List BrickEntry
 brick_view c = entries_newest_first [] (entries_with_rows 0 c.rows c.entries)
 
--- What a shard has, also of bricks that are not there.
-abbrev pub shard_view : ShardState → ShardView
-shard_view shard cube number = brick_view (shard_brick shard cube number)
-
--- A test does not tell the epochs up to one apart.
-abbrev pub IsUniform : ℕ → (ℕ → Bool) → Type 0
+-- A set of epochs does not tell those up to one apart.
+abbrev pub IsUniform : ℕ → EpochSet → Type 0
 IsUniform low epochs = (a b : ℕ) → a ≤ low → b ≤ low → epochs a ≡ epochs b
 
--- Two bricks show the same rows, and hide the same, to whoever does not tell the epochs up to one apart, neither by rows
--- nor by marks: a purge may have made their runs one.
+-- Two bricks show the same rows to whoever does not tell the epochs up to one apart, the same rows to one such sight and
+-- not to another, and hide the same from that one on: a purge may have made their runs one.
 pub record ShowAlikeAbove (low : ℕ) (a b : List BrickEntry) : Type 0 where
-  pub rows : (epochs marks : ℕ → Bool) → IsUniform low epochs → IsUniform low marks
+  pub rows : (epochs marks : EpochSet) → IsUniform low epochs
       → rows_shown_to epochs marks a ≡ rows_shown_to epochs marks b
-  pub hidden : (marks : ℕ → Bool) (epoch : ℕ) → low < epoch → is_below_mark marks epoch a ≡ is_below_mark marks epoch b
-
--- A shard is what the core takes it for, where no purge was above an epoch: each brick shows the same.
-abbrev pub StandsForView : ℕ → ShardState → ShardView → Type 0
-StandsForView low shard view = (cube brick : ℕ) → ShowAlikeAbove low (shard_view shard cube brick) (view cube brick)
+  pub apart : (one other : Sight) → IsUniform low one.epochs → IsUniform low other.epochs
+      → rows_shown_besides one other a ≡ rows_shown_besides one other b
+  pub hidden : (marks : EpochSet) (epoch : ℕ) → low ≤ epoch → is_below_mark marks epoch a ≡ is_below_mark marks epoch b
 
 -- What a snapshot sees by a vector of epochs is what it sees in the core's words.
-abbrev pub SeesTheSame : Type 0
-SeesTheSame = (c : BrickContent) → IsVector c.entries (length c.rows) → (snapshot : Snapshot)
+abbrev pub SnapshotsSeeTheSame : Type 0
+SnapshotsSeeTheSame = (c : BrickContent) → IsVector c.entries (length c.rows) → (snapshot : Snapshot)
     → items_where_true (seen_rows snapshot c.entries) c.rows ≡ brick_rows_seen snapshot (brick_view c)
 
 -- The sight of a snapshot.
@@ -79,7 +68,7 @@ pub record StaysWhole (c : BrickContent) : Type 0 where
 
 -- A brick of which nothing came is whole, and whatever calls make of it.
 pub record ContentsAreWhole : Type 0 where
-  pub first : IsWholeContent untouched
+  pub first : IsWholeContent (record { rows = []; entries = [] })
   pub later : (c : BrickContent) → IsWholeContent c → StaysWhole c
 
 -- Rows that an epoch appends are a run more, and a deletion is a mark more.
@@ -106,30 +95,3 @@ part_view part = brick_view (record { rows = part.rows; entries = part.entries }
 abbrev pub CopiesTheSame : Type 0
 CopiesTheSame = (from to number : ℕ) (c : BrickContent) → IsWholeContent c
     → ShowAlike (part_view (round_part_with from to number c)) (entries_of_round from to (brick_view c))
-
--- A shard is what the core takes it for, and each of its bricks is whole.
-pub record IsViewedAs (low : ℕ) (shard : ShardState) (view : ShardView) : Type 0 where
-  pub whole : (cube number : ℕ) → IsWholeContent (shard_brick shard cube number)
-  pub stands : StandsForView low shard view
-
--- What an append and a deletion make of a view: the core's words.
-abbrev pub view_after_append : List Size → ℕ → ℕ → List CodedRow → ShardView → ShardView
-view_after_append sizes cube epoch rows view other number =
-    if cube == other then RowRun epoch (rows_of_brick sizes number rows) ∷ view other number else view other number
-
-abbrev pub view_after_drop : List Size → ℕ → ℕ → Span → ShardView → ShardView
-view_after_drop sizes cube epoch box view other number =
-    if cube == other && has_brick sizes box number then RowMark epoch ∷ view other number else view other number
-
--- A shard after an append or a deletion of an epoch above that of the last purge is what the core takes it for.
-pub record CallsAreViewed (low epoch cube : ℕ) (sizes : List Size) (old : ShardState) (view : ShardView) : Type 0 where
-  pub appended : (rows : List CodedRow) (new : ShardState)
-      → ((other number : ℕ) → shard_brick new other number ≡ brick_after_append sizes cube epoch rows old other number)
-      → IsViewedAs low new (view_after_append sizes cube epoch rows view)
-  pub deleted : (box : Span) (new : ShardState)
-      → ((other number : ℕ) → shard_brick new other number ≡ brick_after_drop sizes cube epoch box old other number)
-      → IsViewedAs low new (view_after_drop sizes cube epoch box view)
-
-abbrev pub ShardsAreViewed : Type 0
-ShardsAreViewed = (low epoch cube : ℕ) (sizes : List Size) (old : ShardState) (view : ShardView)
-    → low < epoch → IsViewedAs low old view → CallsAreViewed low epoch cube sizes old view

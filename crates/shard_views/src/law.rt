@@ -1,12 +1,12 @@
 //! What follows from the definitions, for whoever reasons with them.
 
-ghost use Rattle.shard_views.specs.Views.{CallsGrowTheSame, ContentsAreWhole, CopiesTheSame, RollsBackTheSame, SeesApartTheSame, SeesTheSame, ShardsAreViewed};
+ghost use Rattle.shard_views.specs.Views.{CallsGrowTheSame, ContentsAreWhole, CopiesTheSame, RollsBackTheSame, SeesApartTheSame, SnapshotsSeeTheSame};
 
 /// What snapshots see of a brick by its vector of epochs, alone or apart from another, is what they see by its
 /// runs and marks in the core's words.
 #[tactic(auto, using(crate::proofs::Seen::sees_the_same, crate::proofs::Seen::sees_apart_the_same))]
 pub fn snapshots_see_the_same()
-    ensures seen { SeesTheSame }
+    ensures seen { SnapshotsSeeTheSame }
     ensures apart { SeesApartTheSame }
 {}
 
@@ -32,9 +32,4 @@ pub fn rollbacks_are_the_same()
 /// What a round has of a brick is what the core's words say, whoever looks.
 pub fn copies_are_the_same()
     ensures { CopiesTheSame }
-{}
-
-/// A shard that is what the core takes it for still is, after an append or a deletion of a later epoch.
-pub fn shards_are_viewed()
-    ensures { ShardsAreViewed }
 {}

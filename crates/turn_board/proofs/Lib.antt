@@ -1,5 +1,5 @@
-mod Places
-mod Logs
+pub mod Places
+pub mod Logs
 mod Owners
 mod Pigeons
 mod Tickets

@@ -1,4 +1,9 @@
+use Rattle.std.proofs.Common.{subst, sym}
 use Rattle.row_changes.proofs.AnsweringDeletes.{delete_alone_answered}
+use Rattle.session_desk.specs.declared.answered.Answered.{Answered}
+use Rattle.session_desk.specs.Executed.{IfReplied}
+use Rattle.session_desk.specs.FileReplies.{SpeaksOfNoFile}
+use Rattle.row_changes.proofs.Answering.{dropped_speaks}
 use Rattle.row_changes.proofs.deletes.delete_alone.Goals as goal
 
 pub returns-in-Ok-clause-executed : goal.returns-in-Ok-clause-executed
@@ -7,3 +12,8 @@ returns-in-Ok-clause-executed c =
     c.args.session.now c.commit_alone.new.desk c.commit_alone.new.session c.args.cubes.now
     c.remove_and_keep.new.cubes c.args.place c.args.span.now c.requires.at c.requires.form c.requires.span
     c.in-Ok.ensures.committed c.remove_and_keep.ensures c.dropped_answer.ensures
+
+pub returns-in-Ok-clause-no_file : goal.returns-in-Ok-clause-no_file
+returns-in-Ok-clause-no_file c =
+    subst (λ (answered : Answered). IfReplied answered SpeaksOfNoFile) (sym c.dropped_answer.ensures)
+    (dropped_speaks c.in-Ok.committed)

@@ -10,6 +10,6 @@ returns-clause-span c =
     spans_take_regions
     (coe 1 0 (i. IsDropPlan (c.codes_of.ensures.gained.schemas i).items c.args.statement.now c.args.plan.now)
     c.requires.plan)
-    c.in_ok-codes.ensures.codes
+    c.in_ok-codes.ensures.codes c.in_ok-codes.ensures.places
     (coe 0 1 (i. IfOk c.span_of.result (IsDropSpan (c.as_slice.ensures.value i) c.args.plan.now
     (c.as_slice-2.ensures.value i))) c.span_of.ensures)

@@ -1,7 +1,11 @@
-use Rattle.std.proofs.Common.{List, ap, length}
+use Rattle.std.proofs.Common.{List, ap, length, subst, sym}
 use Rattle.cube_values.specs.declared.value.Value.{Value}
 use Rattle.row_changes.proofs.AnsweringInserts.{alone_answered}
 use Rattle.row_changes.proofs.Inserting.{may_come}
+use Rattle.session_desk.specs.declared.answered.Answered.{Answered}
+use Rattle.session_desk.specs.Executed.{IfReplied}
+use Rattle.session_desk.specs.FileReplies.{SpeaksOfNoFile}
+use Rattle.row_changes.proofs.Answering.{stored_speaks}
 use Rattle.row_changes.proofs.inserts.insert_alone.Goals as goal
 
 pub append_and_keep-requires-clause-come : goal.append_and_keep-requires-clause-come
@@ -16,3 +20,8 @@ returns-in-Ok-clause-executed c =
     c.append_and_keep.new.cubes c.args.place c.args.batch.now c.requires.at c.requires.form c.requires.encoded
     c.in-Ok.ensures.committed c.append_and_keep.ensures
     (ap (λ (rows : List (List Value)). length rows) c.inserted_rows.ensures) c.stored_answer.ensures
+
+pub returns-in-Ok-clause-no_file : goal.returns-in-Ok-clause-no_file
+returns-in-Ok-clause-no_file c =
+    subst (λ (answered : Answered). IfReplied answered SpeaksOfNoFile) (sym c.stored_answer.ensures)
+    (stored_speaks (length c.inserted_rows.result.now) c.in-Ok.committed)

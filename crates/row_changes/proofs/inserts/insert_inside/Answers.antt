@@ -1,8 +1,11 @@
-use Rattle.std.proofs.Common.{List, ap, length, refl}
+use Rattle.std.proofs.Common.{List, ap, length, refl, subst, sym}
 use Rattle.cube_values.specs.declared.value.Value.{Value}
 use Rattle.session_desk.proofs.Replying.{counted}
 use Rattle.row_changes.proofs.AnsweringInserts.{inside_answered}
 use Rattle.row_changes.proofs.Inserting.{may_come}
+use Rattle.session_desk.specs.declared.answered.Answered.{Answered}
+use Rattle.session_desk.specs.Executed.{IfReplied}
+use Rattle.session_desk.specs.FileReplies.{SpeaksOfNoFile}
 use Rattle.row_changes.proofs.inserts.insert_inside.Goals as goal
 
 pub append-requires-clause-come : goal.append-requires-clause-come
@@ -16,3 +19,7 @@ returns-clause-executed c =
     c.args.desk.now c.args.session.now (counted c.args.session.now) c.args.cubes.now c.append.new.cubes c.args.place
     c.args.batch.now c.requires.at c.requires.form c.requires.encoded c.requires.open refl c.append.ensures
     (ap (λ (rows : List (List Value)). length rows) c.inserted_rows.ensures) c.stored_answer.ensures
+
+pub returns-clause-no_file : goal.returns-clause-no_file
+returns-clause-no_file c =
+    subst (λ (answered : Answered). IfReplied answered SpeaksOfNoFile) (sym c.stored_answer.ensures) tt

@@ -1,4 +1,5 @@
 use Rattle.row_loads.proofs.LoadsEnded.{ended_alone, forgotten_alone}
+use Rattle.row_loads.proofs.RecordsAnswered.{alone_of_records, forgotten_of_records}
 use Rattle.row_loads.proofs.loads.load_alone.Goals as goal
 
 pub returns-in-Ok-clause-executed : goal.returns-in-Ok-clause-executed
@@ -14,3 +15,14 @@ returns-in-Err-clause-executed c =
     c.bring_rows.new.cubes c.args.load.now c.bring_rows.new.load c.none-bad.result c.bring_rows.new.bad c.requires.form
     c.requires.at c.requires.bound c.none-bad.ensures c.forget_alone.new.desk c.forget_alone.new.session c.forget_alone.new.cubes
     c.forget_alone.result c.requires.idle c.in-Err.ensures.grown c.forget_alone.ensures.said
+
+pub returns-in-Ok-clause-records : goal.returns-in-Ok-clause-records
+returns-in-Ok-clause-records c =
+    alone_of_records c.bring_rows.new.bad c.args.allowed c.args.desk.now c.args.session.now c.bring_rows.new.cubes
+    c.end_alone.new.desk c.end_alone.new.session c.end_alone.new.cubes c.end_alone.result c.in-Ok.rows
+    c.end_alone.ensures.said
+
+pub returns-in-Err-clause-records : goal.returns-in-Err-clause-records
+returns-in-Err-clause-records c =
+    forgotten_of_records c.args.desk.now c.args.session.now c.bring_rows.new.cubes c.forget_alone.new.desk
+    c.forget_alone.new.session c.forget_alone.new.cubes c.forget_alone.result c.forget_alone.ensures.said

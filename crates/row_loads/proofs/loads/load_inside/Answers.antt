@@ -1,4 +1,5 @@
 use Rattle.row_loads.proofs.LoadsEnded.{ended_inside, forgotten_inside}
+use Rattle.row_loads.proofs.RecordsAnswered.{aborted_of_records, inside_of_records}
 use Rattle.row_loads.proofs.loads.load_inside.Goals as goal
 
 pub returns-in-Ok-clause-executed : goal.returns-in-Ok-clause-executed
@@ -15,3 +16,14 @@ returns-in-Err-clause-executed c =
     c.bring_rows.new.cubes c.args.load.now c.bring_rows.new.load c.none-bad.result c.bring_rows.new.bad c.requires.form
     c.requires.at c.requires.bound c.none-bad.ensures c.abort_inside.new.desk c.abort_inside.new.session c.abort_inside.new.cubes
     c.abort_inside.result c.args.epoch c.in-Err.ensures.grown c.abort_inside.ensures.said
+
+pub returns-in-Ok-clause-records : goal.returns-in-Ok-clause-records
+returns-in-Ok-clause-records c =
+    inside_of_records c.bring_rows.new.bad c.args.allowed c.args.desk.now c.args.session.now c.bring_rows.new.cubes
+    c.end_inside.new.desk c.end_inside.new.session c.end_inside.new.cubes c.end_inside.result c.in-Ok.rows c.args.epoch
+    c.end_inside.ensures.said
+
+pub returns-in-Err-clause-records : goal.returns-in-Err-clause-records
+returns-in-Err-clause-records c =
+    aborted_of_records c.args.epoch c.args.desk.now c.args.session.now c.bring_rows.new.cubes c.abort_inside.new.desk
+    c.abort_inside.new.session c.abort_inside.new.cubes c.abort_inside.result c.abort_inside.ensures.said

@@ -16,12 +16,14 @@ use Rattle.std.proofs.Common.{None}
 use Rattle.aosi_register.specs.State.{state_of}
 use Rattle.session_replies.specs.Modes.{mode_of}
 use Rattle.session_desk.proofs.Turning.{keeps_itself, moves_answered, moves_from}
+use Rattle.session_desk.proofs.Unread.{created_unread}
+use Rattle.session_desk.specs.FileReplies.{SpeaksOfNoFile}
 use Rattle.session_desk.proofs.cubes.create_named.Goals as goal
 
 pub returns-in-Ok-clause-at : goal.returns-in-Ok-clause-at
 returns-in-Ok-clause-at c =
     at_answer c.args.decl c.args.desk.now c.args.session.now c.create_cube.new.self c.in-Ok.answer c.requires.at
-    c.requires.idle c.in-Ok.ensures.answer c.in-Ok.ensures.desk
+    c.requires.idle c.is_in_order.ensures.cubes.few c.in-Ok.ensures.answer c.in-Ok.ensures.desk
 
 pub returns-in-Ok-clause-executed : goal.returns-in-Ok-clause-executed
 returns-in-Ok-clause-executed c =
@@ -29,7 +31,7 @@ returns-in-Ok-clause-executed c =
     c.create_cube.new.self (counted c.args.session.now) said)
     (sym (c.created_reply.ensures ∙ ap (λ (name : Text). created_reply c.in-Ok.answer name) c.requires.copy))
     (answers_made c.args.decl c.args.desk.now c.args.session.now c.create_cube.new.self c.in-Ok.answer c.requires.idle
-    c.requires.storable c.in-Ok.ensures.answer c.in-Ok.ensures.desk)
+    c.is_in_order.ensures.cubes.few c.requires.storable c.in-Ok.ensures.answer c.in-Ok.ensures.desk)
 
 pub returns-in-Err-clause-at : goal.returns-in-Err-clause-at
 returns-in-Err-clause-at c =
@@ -90,3 +92,7 @@ returns-in-Err-clause-moves c =
 pub returns-in-Err-clause-turns : goal.returns-in-Err-clause-turns
 returns-in-Err-clause-turns c =
     keeps_itself (state_of c.args.desk.now.register).ec (mode_of c.args.session.now.mode)
+
+pub returns-in-Ok-clause-no_file : goal.returns-in-Ok-clause-no_file
+returns-in-Ok-clause-no_file c =
+    subst SpeaksOfNoFile (sym c.created_reply.ensures) (created_unread c.in-Ok.answer c.args.name)

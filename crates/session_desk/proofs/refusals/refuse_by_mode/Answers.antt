@@ -11,6 +11,7 @@ use Rattle.session_desk.specs.Executed.{ExecutesAtDesk}
 use Rattle.session_desk.proofs.Refused.{refuses_by_mode}
 use Rattle.session_desk.proofs.Replying.{counted, if_refused, refuses_next}
 use Rattle.session_desk.proofs.Turning.{keeps_itself}
+use Rattle.session_desk.proofs.Unread.{mode_unread}
 use Rattle.aosi_register.specs.State.{state_of}
 use Rattle.session_desk.proofs.refusals.refuse_by_mode.Goals as goal
 
@@ -30,3 +31,13 @@ returns-clause-executed c =
 pub returns-clause-turns : goal.returns-clause-turns
 returns-clause-turns c =
     keeps_itself (state_of c.args.desk.now.register).ec (mode_of c.args.session.now.mode)
+
+pub returns-clause-no_file : goal.returns-clause-no_file
+returns-clause-no_file c =
+    c.refuse.ensures.no_file
+    (mode_unread (mode_of c.args.session.now.mode) c.requires.refused.0 c.args.refusal c.requires.refused.1)
+
+pub returns-clause-unread : goal.returns-clause-unread
+returns-clause-unread c =
+    c.refuse.ensures.unread
+    (mode_unread (mode_of c.args.session.now.mode) c.requires.refused.0 c.args.refusal c.requires.refused.1)

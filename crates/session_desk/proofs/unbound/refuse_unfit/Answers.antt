@@ -10,6 +10,8 @@ use Rattle.session_desk.proofs.Refused.{Refuses}
 use Rattle.session_desk.proofs.Replying.{at_refuse, counted, if_refused, refuses_next}
 use Rattle.session_desk.proofs.Unfit.{refuses_failing}
 use Rattle.session_desk.proofs.Turning.{keeps_itself}
+use Rattle.session_desk.proofs.Unread.{misfit_unread}
+use Rattle.session_desk.specs.FileReplies.{SpeaksOfNoFile}
 use Rattle.aosi_register.specs.State.{state_of}
 use Rattle.session_replies.specs.Modes.{mode_of}
 use Rattle.session_desk.proofs.unbound.refuse_unfit.Goals as goal
@@ -39,3 +41,13 @@ returns-clause-executed c =
 pub returns-clause-turns : goal.returns-clause-turns
 returns-clause-turns c =
     keeps_itself (state_of c.args.desk.now.register).ec (mode_of c.args.session.now.mode)
+
+pub returns-clause-no_file : goal.returns-clause-no_file
+returns-clause-no_file c =
+    c.refuse.ensures.no_file
+    (subst (λ (r : Refusal). SpeaksOfNoFile (reply.Refused r)) (sym c.of_misfit.ensures) (misfit_unread c.args.misfit))
+
+pub returns-clause-unread : goal.returns-clause-unread
+returns-clause-unread c =
+    c.refuse.ensures.unread
+    (subst (λ (r : Refusal). SpeaksOfNoFile (reply.Refused r)) (sym c.of_misfit.ensures) (misfit_unread c.args.misfit))

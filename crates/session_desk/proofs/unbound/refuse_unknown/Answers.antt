@@ -16,7 +16,7 @@ returns-in-Ok-clause-executed c =
     let session = c.args.session.now in
     refuses_unknown c.args.statement.now c.args.name desk session c.note_unknown.new.desk (counted session)
     (refuses_next 2 desk session desk c.note_unknown.new.desk refl c.in-Ok.ensures.desk) c.requires.may
-    c.requires.lacks.needed
+    c.requires.lacks.needed c.requires.lacks.lacks
 
 pub returns-in-Err-clause-executed : goal.returns-in-Err-clause-executed
 returns-in-Err-clause-executed c =

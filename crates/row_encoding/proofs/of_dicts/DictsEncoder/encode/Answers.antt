@@ -7,14 +7,14 @@ encode-requires-clause-text c = rw c.cube_shape.ensures.value (is_text_dimension
 pub returns-clause-code : goal.returns-clause-code
 returns-clause-code c =
     encoded_final c.args.cube.now c.cube_shape.result.now c.args.place c.args.dim c.args.text.now c.args.self.now c.encode.new.self
-    c.cube_shape.ensures.value c.requires.suits c.requires.text c.encode.result c.encode.ensures.code c.encode.ensures.names
+    c.cube_shape.ensures.value c.requires.suits c.requires.text c.requires.short c.encode.result c.encode.ensures.code c.encode.ensures.names
 
 pub returns-clause-inside : goal.returns-clause-inside
 returns-clause-inside c =
     encoded_inside c.args.cube.now c.cube_shape.result.now c.args.place c.args.dim c.args.text.now c.args.self.now c.encode.new.self
-    c.cube_shape.ensures.value c.requires.suits c.requires.text c.encode.result c.encode.ensures.code c.encode.ensures.names
+    c.cube_shape.ensures.value c.requires.suits c.requires.text c.requires.short c.encode.result c.encode.ensures.code c.encode.ensures.names
 
 pub returns-clause-grow : goal.returns-clause-grow
 returns-clause-grow c =
     encoded_grow c.args.cube.now c.cube_shape.result.now c.args.place c.args.dim c.args.text.now c.args.self.now c.encode.new.self
-    c.cube_shape.ensures.value c.requires.suits c.requires.text c.encode.result c.encode.ensures.code c.encode.ensures.names c.encode.ensures.err
+    c.cube_shape.ensures.value c.requires.suits c.requires.text c.requires.short c.encode.result c.encode.ensures.code c.encode.ensures.names c.encode.ensures.err

@@ -1,0 +1,3 @@
+pub mod EndedRuns
+pub mod StartedRuns
+pub mod WholeRuns

@@ -1,0 +1,63 @@
+-- A script that the one session of a run has run whole.
+-- Source: AOSI (ICDE 2018) for what its queries see; the rest is this project's own.
+use Rattle.std.specs.Prelude.{ℕ, List, [], ◌∷◌, Option}
+use Rattle.cube_language.specs.declared.decl.Decl.{Decl}
+use Rattle.cube_journal.specs.Legal.{IsLegal}
+use Rattle.cube_journal.specs.WholeText.{whole_text}
+use Rattle.cube_journal.specs.declared.journal_entry.JournalEntry.{JournalEntry}
+use Rattle.cube_journal.specs.declared.reply.Reply.{Reply}
+use Rattle.cube_run.specs.Merge.{IsMerge}
+use Rattle.cube_run.specs.RunRecords.{IsLegalRun, LoadedFile, RunRecord, Sentence}
+use Rattle.cube_run.specs.RunText.{IsText}
+use Rattle.aosi_desk.specs.Desks.{DeskState}
+use Rattle.script_sentences.specs.declared.said.Said.{Said}
+use Rattle.session_desk.specs.Ended.{EndsAtDesk}
+use Rattle.session_desk.specs.declared.session.Session.{Session}
+use Rattle.session_rows.specs.CubesAtDesk.{IsAtCubes}
+use Rattle.session_rows.specs.declared.cubes.Cubes.{Cubes}
+use Rattle.session_scripts.specs.PlayedFromShelf.{AreFilesTold, PlaysFromShelf}
+
+-- What is on record of a run over these cubes and of one script, whose LOADs have these files. No store is there.
+abbrev pub script_run : List Decl → List Sentence → (ℕ → LoadedFile) → List (List (List (List ℕ)))
+    → List JournalEntry → RunRecord
+script_run cubes script files names journal = record {
+  safe = 0;
+  kept = [];
+  kept_names = [];
+  cubes = cubes;
+  scripts = script ∷ [];
+  file = λ session number. files number;
+  round_every = 0;
+  names = names;
+  journal = journal;
+}
+
+-- The journal of a run is legal and a merge of its script, and with these replies its text is that of the run.
+pub record IsRunInFull (run : RunRecord) (replies : List Reply) : Type 0 where
+  pub legal : IsLegalRun run
+  pub merge : IsMerge run
+  pub text : IsText run (whole_text run.safe (replies ∷ []) run.journal)
+
+-- The script was run whole over these cubes, with files as a shelf tells them.
+pub record RunsWhole (told : Option (List (List ℕ × List ℕ))) (cubes : List Decl) (script : List Sentence)
+    (replies : List Reply) (names : List (List (List (List ℕ)))) (journal : List JournalEntry) : Type 0 where
+  pub files : ℕ → LoadedFile
+  pub as_told : AreFilesTold told files 1 script replies
+  pub whole : IsRunInFull (script_run cubes script files names journal) replies
+
+-- A script has left a journal that is legal over a store that had kept epochs up to some safe one, for statements that
+-- speak of some cubes.
+abbrev pub LeavesLegal : List JournalEntry → Type 0
+LeavesLegal journal =
+    (safe : ℕ) × (cubes : List (List ℕ)) × (names : List (List ℕ)) × IsLegal safe cubes names journal
+
+-- Whatever the session has played before from this shelf, it has then played these texts as well, and its script has
+-- ended at the desk.
+pub record PlaysToTheEnd (told : Option (List (List ℕ × List ℕ))) (script : List Said) (before : List Reply)
+    (desk : DeskState) (session : Session) (cubes : Cubes) (replies : List Reply) (last : DeskState) (held : Cubes)
+    : Type 0 where
+  pub middle : DeskState
+  pub now : Session
+  pub plays : PlaysFromShelf told script before desk session cubes replies middle now held
+  pub at : IsAtCubes middle now held
+  pub ended : EndsAtDesk middle now last

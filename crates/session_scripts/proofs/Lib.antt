@@ -1,0 +1,3 @@
+pub mod NextFromShelf
+pub mod MoreReplies
+pub mod PlayedTexts

@@ -1,0 +1,2 @@
+pub mod PlayedFromShelf
+pub mod CountedReplies

@@ -1,0 +1,24 @@
+-- What is refused says why, and changes nothing. A fault inside a transaction ends it.
+SELEC region FROM visits;
+SELECT town, COUNT(*) FROM visits GROUP BY town;
+SELECT region, COUNT(*) FROM visits;
+SELECT SUM(likes) FROM orders;
+INSERT INTO visits VALUES ('Oslo', 'F', 400, 9, 12, 3);
+DELETE FROM visits WHERE hour = 3;
+LOAD visits FROM 'wednesday.csv' REJECT 0;
+LOAD visits FROM 'tuesday.csv' REJECT 2;
+SELECT COUNT(*) FROM visits;
+BEGIN;
+INSERT INTO visits VALUES ('Oslo', 'F', 34, 9, 12, 3);
+SELECT COUNT(*) FROM visits;
+ROLLBACK;
+SELECT COUNT(*) FROM visits;
+BEGIN;
+INSERT INTO visits VALUES ('Oslo', 'F', 34, 9, 12, 3);
+LOAD visits FROM 'tuesday.csv' REJECT 0;
+INSERT INTO visits VALUES ('Oslo', 'F', 34, 9, 12, 3);
+COMMIT;
+ROLLBACK;
+COMMIT;
+INSERT INTO visits VALUES ('Oslo', 'F', 34, 9, 12, 3);
+SELECT COUNT(*) FROM visits;
