@@ -33,14 +33,16 @@ use Rattle.cubrick_top.proofs.DeclaredCubes.{as_many, declared_are_cubes}
 shown_of : (name : List ℕ) (cubes : List Decl) (script : Script) (reading : FileReading) (answer : Result Input Fault)
     (given : Given) → reading ≡ Gives given → HoldsScript script given
     → ShowsInput cubes script.bytes.items script.pieces answer → ShowsScript reading name cubes answer
-shown_of name cubes script reading (Ok input) given is holds h =
-    (h.0, record {
-      text = script.bytes.items;
-      is = is ∙ ap Gives (holds.1 ∙ ap whole (sym holds.2.bytes_are));
-      pieces = script.pieces;
-      in_order = subst (λ (bytes : List ℕ). IsScript bytes script.pieces) (sym holds.2.bytes_are) holds.2.statements;
-      runs = h.1;
-    })
+shown_of name cubes script reading (Ok input) given is holds h = (
+  h.0,
+  record {
+    text = script.bytes.items;
+    is = is ∙ ap Gives (holds.1 ∙ ap whole (sym holds.2.bytes_are));
+    pieces = script.pieces;
+    in_order = subst (λ (bytes : List ℕ). IsScript bytes script.pieces) (sym holds.2.bytes_are) holds.2.statements;
+    runs = h.1;
+  },
+)
 shown_of name cubes script reading (Err (NotBuilt part.Script)) given is holds h = record {
   text = script.bytes.items;
   is = is ∙ ap Gives (holds.1 ∙ ap whole (sym holds.2.bytes_are));
@@ -191,9 +193,12 @@ both_read seen middle cubes_name script_name declared answer r s faults absences
           shown = both_shown two cubes_name script_name declared.items holds.0 answer are holds.2 s.shown;
           calls = λ past known.
               let a = r.calls past known in
-              let b = s.calls a.0 a.1 in
-              (b.0, b.1, both_calls two cubes_name script_name declared.items holds.0 answer past a.0 b.0 are holds.2
-              s.shown a.2 b.2);
+              let b = s.calls a.0 a.1 in (
+                b.0,
+                b.1,
+                both_calls two cubes_name script_name declared.items holds.0 answer past a.0 b.0 are holds.2
+                    s.shown a.2 b.2,
+              );
           faults = faults;
           absences = absences;
         }

@@ -182,13 +182,18 @@ ends_after told later calls middle last faults some_faults all_faults absences s
           sink = cut.2;
           ends =
               subst (Ends (seen_by told calls last faults all_faults absences all_absences) r.two cubes_name script_name
-              finish (take cut.0 e.0)) (sym is)
-              (e.0, record {
-                cubes = input.cubes.items;
-                said = input.script.items;
-                input = r.shown;
-                ran = moved e.0 e.1;
-              }, cut.0, cut.1, refl);
+              finish (take cut.0 e.0)) (sym is) (
+                e.0,
+                record {
+                  cubes = input.cubes.items;
+                  said = input.script.items;
+                  input = r.shown;
+                  ran = moved e.0 e.1;
+                },
+                cut.0,
+                cut.1,
+                refl,
+              );
         }
     by_fault (Some NoMemory) is e = record {
       two = r.two;

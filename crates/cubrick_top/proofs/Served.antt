@@ -65,9 +65,11 @@ module _ (known : FilesAreKnown) (seen : ShelfSeen) (two : TwoReadings) (cubes_n
           let script = script_as_ready seen.told cubes_name script_name two.script given ready is told.script in
           let good : FilesEnd (reading_of two) (files_of cubes_name script_name) None = (
             in_order cubes_name ready.cubes two.cubes ready.input.text cubes ready.input.declares,
-            (coe 1 0 (i. IsInOrder (ScriptFile 1 script_name) (script i))
-                (ready.input.script.pieces, ready.input.script.in_order),
-            tt),
+            (
+              coe 1 0 (i. IsInOrder (ScriptFile 1 script_name) (script i))
+                  (ready.input.script.pieces, ready.input.script.in_order),
+              tt,
+            ),
           ) in
           none-some bad (known.one_end (reading_of two) (files_of cubes_name script_name) None (Some bad) good h.first)
 

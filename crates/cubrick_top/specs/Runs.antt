@@ -113,9 +113,9 @@ pub record IsReady (told : Option (List (List ℕ × List ℕ))) (cubes_name scr
   pub cubes : List Decl
   pub said : List Said
   pub input : GiveInput (record {
-        cubes = Gives (given_by CUBES_BYTES (content_of files cubes_name));
-        script = Gives (given_by SCRIPT_BYTES (content_of files script_name));
-      }) cubes said
+    cubes = Gives (given_by CUBES_BYTES (content_of files cubes_name));
+    script = Gives (given_by SCRIPT_BYTES (content_of files script_name));
+  }) cubes said
 
 -- A run is done, or memory ran out.
 abbrev pub IsServed : ℕ → Type 0

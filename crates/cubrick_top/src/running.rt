@@ -114,12 +114,7 @@ fn finish_run<K: Sink>(alloc: Global, sink: &mut K, ran: Ran) -> Finish
 }
 
 /// Runs a script over cubes, and writes the text.
-fn run_input<H: Shelf, K: Sink>(
-    alloc: Global,
-    input: Input,
-    shelf: &mut H,
-    sink: &mut K,
-) -> Finish
+fn run_input<H: Shelf, K: Sink>(alloc: Global, input: Input, shelf: &mut H, sink: &mut K) -> Finish
     requires cubes { AreCubes input.cubes.items }
     requires few { length input.script.items ≤ MOST_STATEMENTS }
     requires forms { AllByRecursion IsRunnable input.script.items }

@@ -4,6 +4,7 @@ use crate::runs::{CUBES, VISITS, run_of};
 use std::test::Fail;
 
 const NONE: &[u8] = b"";
+
 const NAMES: &[u8] = b"cube d\ndim n text 1 1\nmetric m\n";
 
 // A script over cubes, with the bytes of the file f, and the text that it has to write.
@@ -182,6 +183,9 @@ fn a_file_that_cannot_be_read_ends_a_transaction(rt: HostRuntime) -> Result<(), 
     let script: &[u8] = b"BEGIN; LOAD visits FROM 'f' REJECT 0; COMMIT; ROLLBACK";
     let (status, _fault, text) = run_of(alloc, VISITS, script, b"CA,M,3,1\n", &[5])?;
     assert_eq!(rt; status, 0);
-    assert_eq!(rt; text.as_slice(), "session 1\n1.1 begun 1\n1.2 refused 11 ReadFault\n1.3 refused 14 TransactionAborted\n1.4 rolled back 1\njournal 6\nbegin 1.1 epoch 1 deps []\naborted 1.2 epoch 1 ReadFault\nrefused 1.3 code 14\ncleared 1.4\nround 1\nsafe 1\nend ec 2 lce 1 lse 1\n".as_bytes());
+    assert_eq!(rt;
+        text.as_slice(),
+        "session 1\n1.1 begun 1\n1.2 refused 11 ReadFault\n1.3 refused 14 TransactionAborted\n1.4 rolled back 1\njournal 6\nbegin 1.1 epoch 1 deps []\naborted 1.2 epoch 1 ReadFault\nrefused 1.3 code 14\ncleared 1.4\nround 1\nsafe 1\nend ec 2 lce 1 lse 1\n".as_bytes()
+    );
     Ok(())
 }

@@ -38,10 +38,7 @@ fn shelf(
         String::from_str(alloc, "s")?,
         Vec::from_slice(alloc, script)?,
     ))?;
-    files.push((
-        String::from_str(alloc, "f")?,
-        Vec::from_slice(alloc, file)?,
-    ))?;
+    files.push((String::from_str(alloc, "f")?, Vec::from_slice(alloc, file)?))?;
     Ok(ShelfMemory::new(files, Vec::from_slice(alloc, failing)?))
 }
 

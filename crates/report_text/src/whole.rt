@@ -42,11 +42,7 @@ pub fn put_session(out: &mut Vec<u8>, session: u32, replies: &[Reply]) -> Result
 }
 
 /// Appends the parts of sessions, of which the first has this number.
-fn put_sessions(
-    out: &mut Vec<u8>,
-    first: u32,
-    sessions: &[Vec<Reply>],
-) -> Result<(), AllocError>
+fn put_sessions(out: &mut Vec<u8>, first: u32, sessions: &[Vec<Reply>]) -> Result<(), AllocError>
     requires numbers { first + length sessions.now < 2 ^ 32 }
     requires few { All HasFewReplies sessions.now }
     ensures { OnOk result (out.new.items

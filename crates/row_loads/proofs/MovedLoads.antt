@@ -87,19 +87,19 @@ moved_load file other sentence desk session old new_desk now cubes after said re
     } in (
       r.0,
       record {
-            on_rows = record {
-              executed =
-                  executed_with beginning past sentence (world_of (record {
-                    desk = desk;
-                    session = session;
-                    dictionaries = old.names;
-                    held = old.rows;
-                    coded = coded;
-                  })) (world_of world) (names_of after.names) said reply (ap names_of names) is r.1.on_rows.executed;
-              rows = rows_with beginning r.1.on_rows.executed.after world after.names after.rows names rows r.1.on_rows.rows;
-            };
-            gave = r.1.gave ∙ sym files;
-          },
+        on_rows = record {
+          executed =
+              executed_with beginning past sentence (world_of (record {
+                desk = desk;
+                session = session;
+                dictionaries = old.names;
+                held = old.rows;
+                coded = coded;
+              })) (world_of world) (names_of after.names) said reply (ap names_of names) is r.1.on_rows.executed;
+          rows = rows_with beginning r.1.on_rows.executed.after world after.names after.rows names rows r.1.on_rows.rows;
+        };
+        gave = r.1.gave ∙ sym files;
+      },
     )
 
 pub moved_on_rows : (sentence : Sentence) (desk : DeskState) (session : Session) (old : Cubes) (new_desk : DeskState)
@@ -118,14 +118,14 @@ moved_on_rows sentence desk session old new_desk now cubes after said names rows
     } in (
       r.0,
       record {
-            executed =
-                executed_with beginning past sentence (world_of (record {
-                  desk = desk;
-                  session = session;
-                  dictionaries = old.names;
-                  held = old.rows;
-                  coded = coded;
-                })) (world_of world) (names_of after.names) said said (ap names_of names) refl r.1.executed;
-            rows = rows_with beginning r.1.executed.after world after.names after.rows names rows r.1.rows;
-          },
+        executed =
+            executed_with beginning past sentence (world_of (record {
+              desk = desk;
+              session = session;
+              dictionaries = old.names;
+              held = old.rows;
+              coded = coded;
+            })) (world_of world) (names_of after.names) said said (ap names_of names) refl r.1.executed;
+        rows = rows_with beginning r.1.executed.after world after.names after.rows names rows r.1.rows;
+      },
     )

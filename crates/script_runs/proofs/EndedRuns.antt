@@ -111,7 +111,7 @@ goes_on_to_the_end beginning past state desk h legal names = record {
 pub ends_with_a_round : (desk : DeskState) (session : Session) (middle last : DeskState)
     → EndsAtDesk desk session middle
     → ((beginning : Beginning) (past : SessionPast) (state : SessionState) → HasEnded beginning past state middle
-        → HasEnded beginning past state last)
+    → HasEnded beginning past state last)
     → EndsAtDesk desk session last
 ends_with_a_round desk session middle last ended round beginning past names done stands =
     round beginning past (session_state session) (ended beginning past names done stands)

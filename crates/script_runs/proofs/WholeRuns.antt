@@ -200,6 +200,9 @@ counters_if_ended told declared script false replies last held journal told_last
 
 pub legal_in_the_end : (last : DeskState) (journal : List JournalEntry) → IsLegalDesk last
     → journal ≡ last.register.journal → LeavesLegal journal
-legal_in_the_end last journal legal is =
-    (last.register.safe, legal.opening, legal.names,
-    subst (IsLegal last.register.safe legal.opening legal.names) (sym is) legal.legal)
+legal_in_the_end last journal legal is = (
+  last.register.safe,
+  legal.opening,
+  legal.names,
+  subst (IsLegal last.register.safe legal.opening legal.names) (sym is) legal.legal,
+)

@@ -45,6 +45,7 @@ returns-in-Err-clause-ended g c =
       new_absences = g.H.Shelf.absence_count c.run_script.new.shelf;
     })
     c.args.input.cubes.items c.args.input.script.items (g.K.Sink.taken c.args.sink.now)
-    (g.K.Sink.taken c.args.sink.now) c.finish.result) (sym c.finish.ensures.fault)
-    (gained_none (g.K.Sink.taken c.args.sink.now),
-    nothing_is_legal c.finish.result.journal.items c.finish.ensures.journal)
+    (g.K.Sink.taken c.args.sink.now) c.finish.result) (sym c.finish.ensures.fault) (
+      gained_none (g.K.Sink.taken c.args.sink.now),
+      nothing_is_legal c.finish.result.journal.items c.finish.ensures.journal,
+    )
