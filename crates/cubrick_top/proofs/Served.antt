@@ -11,7 +11,7 @@ use Rattle.run_files.specs.declared.bad_file.BadFile.TheVariants.{ReadFailed}
 use Rattle.row_loads.specs.LoadsFromShelf.{ShelfSeen}
 use Rattle.script_sentences.specs.Sentences.{AsksForWatch, ScriptsThatRunAskForNoWatch}
 use Rattle.sql_words.specs.Laws.{ScriptsHaveOneListOfPieces}
-use Rattle.cubrick_top.specs.Inputs.{AreTold, AskForWatch, TwoReadings, files_of, reading_of}
+use Rattle.cubrick_top.specs.Inputs.{AreBothTold, AskForWatch, TwoReadings, files_of, reading_of}
 use Rattle.cubrick_top.specs.Runs.{Ends, HasBadFile, IsReady, IsServed, OutputRises, Runs, status_of}
 use Rattle.cubrick_top.specs.declared.fault.BuiltPart.TheVariants as part
 use Rattle.cubrick_top.specs.declared.fault.Fault.{Fault}
@@ -42,7 +42,7 @@ script_as_ready told cubes_name script_name reading given ready is as_told =
     is ∙ ap Gives (t.1 ready.files ready.as_told) ∙ ready.input.script.is
 
 module _ (known : FilesAreKnown) (seen : ShelfSeen) (two : TwoReadings) (cubes_name script_name : List ℕ)
-    (told : AreTold seen.told cubes_name script_name two) (ready : IsReady seen.told cubes_name script_name)
+    (told : AreBothTold seen.told cubes_name script_name two) (ready : IsReady seen.told cubes_name script_name)
     (quiet : Rose seen.faults seen.new_faults → ⊥) where
   -- where a file could not be read, the count of faults rose
   failed : (bad found : BadFile) → FirstBad (reading_of two) (files_of cubes_name script_name) bad

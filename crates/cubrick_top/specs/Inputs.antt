@@ -32,7 +32,7 @@ reading_of two (CubesFile name) = two.cubes
 reading_of two (ScriptFile session name) = two.script
 
 -- Both are as the shelf tells its files.
-pub record AreTold (told : Option (List (List ℕ × List ℕ))) (cubes_name script_name : List ℕ) (two : TwoReadings)
+pub record AreBothTold (told : Option (List (List ℕ × List ℕ))) (cubes_name script_name : List ℕ) (two : TwoReadings)
     : Type 0 where
   pub cubes : IsToldAs told (CubesFile cubes_name) two.cubes
   pub script : IsToldAs told (ScriptFile 1 script_name) two.script
@@ -98,7 +98,7 @@ InputCalls two cubes_name script_name answer past now =
 -- The files were read as the shelf tells them and counts their faults, by these calls, and it shows in the answer.
 pub record ReadsInput (seen : ShelfSeen) (cubes_name script_name : List ℕ) (answer : Result Input Fault) : Type 0 where
   pub two : TwoReadings
-  pub told : AreTold seen.told cubes_name script_name two
+  pub told : AreBothTold seen.told cubes_name script_name two
   pub shown : FilesShow two cubes_name script_name answer
   pub calls : WhereKnown (InputCalls two cubes_name script_name answer) seen.calls seen.new_calls
   pub faults : FaultRises (bad_of answer) seen.faults seen.new_faults

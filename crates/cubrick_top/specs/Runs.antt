@@ -20,7 +20,7 @@ use Rattle.script_runs.specs.ScriptRuns.{LeavesLegal, RunsWhole}
 use Rattle.script_sentences.specs.Sentences.{sentence_of}
 use Rattle.script_sentences.specs.declared.said.Said.{Said}
 use Rattle.session_scripts.specs.CountedReplies.{GainsReplies}
-use Rattle.cubrick_top.specs.Inputs.{AreTold, AskForWatch, GiveInput, ReadsUpTo, TwoReadings, files_of, reading_of}
+use Rattle.cubrick_top.specs.Inputs.{AreBothTold, AskForWatch, GiveInput, ReadsUpTo, TwoReadings, files_of, reading_of}
 use Rattle.cubrick_top.specs.declared.fault.BuiltPart.TheVariants as part
 use Rattle.cubrick_top.specs.declared.fault.Fault.{Fault}
 use Rattle.cubrick_top.specs.declared.fault.Fault.TheVariants.{Words, File, NotBuilt, OutputFault, NoMemory}
@@ -99,7 +99,7 @@ Ends seen two cubes_name script_name finish gained (Some NoMemory) =
 pub record Runs (seen : ShelfSeen) (taken now_taken : Option (List ℕ)) (cubes_name script_name : List ℕ)
     (finish : Finish) : Type 0 where
   pub two : TwoReadings
-  pub told : AreTold seen.told cubes_name script_name two
+  pub told : AreBothTold seen.told cubes_name script_name two
   pub gained : List ℕ
   pub sink : Gained taken gained now_taken
   pub ends : Ends seen two cubes_name script_name finish gained finish.fault

@@ -1,5 +1,5 @@
 -- What holds of an answer, by the ways in which the calls at the desk may end.
-use Rattle.std.proofs.Common.{◌≡◌, ◌∙◌, ℕ, ◌+◌, List, Option, None, Some, refl, sym, ap, subst}
+use Rattle.std.proofs.Common.{◌≡◌, ◌∙◌, inl, inr, ℕ, ◌+◌, List, Option, None, Some, refl, sym, ap, subst}
 use Rattle.std.proofs.lemmas.Option.{same_Some}
 use Rattle.cube_values.specs.declared.snapshot.Snapshot.{Snapshot}
 use Rattle.cube_language.specs.declared.statement.Statement.{Statement}
@@ -30,7 +30,7 @@ use Rattle.row_entries.specs.CountedSessions.{HasOneMore}
 use Rattle.row_entries.specs.RowCalls.{NotesRefusal}
 use Rattle.row_entries.proofs.Executing.{memory_on_rows}
 use Rattle.row_entries.proofs.Lone.{leaves_refusal, open_stays}
-use Rattle.row_changes.specs.AnswersGiven.{stored_answer}
+use Rattle.row_changes.specs.AnswersGiven.{KnowsItsCube, SpeaksOfItsCube, stored_answer}
 use Rattle.row_changes.specs.DropForms.{dropped_answer}
 use Rattle.row_changes.specs.ChangedCubes.{ExecutesWithNames, HaveChanged, HaveChangedAndKept, HaveGained}
 
@@ -132,3 +132,27 @@ stored_speaks rows None = tt
 pub dropped_speaks : (committed : Option ℕ) → IfReplied (dropped_answer committed) SpeaksOfNoFile
 dropped_speaks (Some epoch) = tt
 dropped_speaks None = tt
+
+pub stored_knows : (rows : ℕ) (committed : Option ℕ) → IfReplied (stored_answer rows committed) SpeaksOfItsCube
+stored_knows rows (Some epoch) = tt
+stored_knows rows None = tt
+
+pub dropped_knows : (committed : Option ℕ) → IfReplied (dropped_answer committed) SpeaksOfItsCube
+dropped_knows (Some epoch) = tt
+dropped_knows None = tt
+
+pub said_knows : (answered : Answered) (r : Reply) → SpeaksOfItsCube r → IfReplied answered (λ said. said ≡ r)
+    → IfReplied answered SpeaksOfItsCube
+said_knows (Replied said) r h is = subst SpeaksOfItsCube (sym is) h
+said_knows Stopped r h is = tt
+
+-- ---- at the top
+
+pub nothing_came : (cubes : Cubes) (answered : Answered) → IfReplied answered (KnowsItsCube cubes cubes)
+nothing_came cubes (Replied said) = inl refl
+nothing_came cubes Stopped = tt
+
+pub it_knows : (old new : Cubes) (answered : Answered) → IfReplied answered SpeaksOfItsCube
+    → IfReplied answered (KnowsItsCube old new)
+it_knows old new (Replied said) h = inr h
+it_knows old new Stopped h = tt

@@ -1,12 +1,12 @@
 -- What an INSERT or a DELETE offers to the dictionaries.
-use Rattle.std.proofs.Common.{◌≡◌, ◌∙◌, ℕ, ◌<◌, List, [], ◌∷◌, Contains, get_or, Some, slice_get, inl, inr, refl, sym, ap, subst, arith}
+use Rattle.std.proofs.Common.{◌≡◌, ◌∙◌, ℕ, List, get_or, inl, inr, sym, subst, arith}
 use Rattle.cube_values.specs.declared.operation.Condition.{Condition}
 use Rattle.cube_values.specs.declared.value.Value.{Value}
 use Rattle.cube_language.specs.ResolvedNames.{resolved_region}
 use Rattle.cube_language.specs.StatementParts.{conds_of}
 use Rattle.cube_language.specs.declared.decl.Decl.{Decl}
 use Rattle.cube_language.specs.declared.statement.Statement.{Statement}
-use Rattle.cube_language.specs.declared.statement.Statement.TheVariants.{Select, Insert, Load, Delete, Begin, Commit, Rollback, Flush, Purge, ShowEpochs, CreateCube, Watch, ShowWatch}
+use Rattle.cube_language.specs.declared.statement.Statement.TheVariants.{Insert}
 use Rattle.cube_run.specs.RunRecords.{LoadedFile}
 use Rattle.names_dict.specs.Dictionaries.{Dictionary}
 use Rattle.query_plan.specs.Bindings.{IsBoundAt, IsBoundTo, IsDropPlan}
@@ -17,14 +17,13 @@ use Rattle.row_encoding.specs.CodedInserts.{HaveTextIn}
 use Rattle.row_encoding.specs.CodedTexts.{ComparesWith}
 use Rattle.statement_check.specs.OwnParts.{inserted_rows}
 use Rattle.session_rows.specs.OfferedTexts.{AreGiven, IsOfferedBy, OffersItsNames, OffersText, OffersWithoutFile}
-use Rattle.session_rows.proofs.NamesCome.{same_decl}
 
 -- Where no name comes none has to be offered.
 pub stays_offered : (s : Statement) (cubes : List Decl) (names : List (List Dictionary))
     → OffersWithoutFile s cubes names names
 stays_offered s cubes names = λ file cube place text has. inl has
 
-offers_from : (file : LoadedFile) (s : Statement) (cubes : List Decl) (place : ℕ) (d : Decl)
+pub offers_from : (file : LoadedFile) (s : Statement) (cubes : List Decl) (place : ℕ) (d : Decl)
     (old new : List (List Dictionary)) (IsGiven : ℕ → List ℕ → Type 0) → IsBoundTo cubes s place d
     → AreGiven place IsGiven old new
     → ((k : ℕ) (text : List ℕ) → IsGiven k text → OffersText d new place file s k text)

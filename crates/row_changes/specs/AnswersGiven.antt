@@ -1,14 +1,17 @@
 -- What statements that change rows are answered, and how they leave the desk.
 -- Source: AOSI (ICDE 2018), commit of a transaction; the rest is this project's own.
-use Rattle.std.specs.Prelude.{◌≡◌, ℕ, Option, Some, None}
+use Rattle.std.specs.Prelude.{◌≡◌, ◌⊎◌, ℕ, Option, Some, None}
 use Rattle.cube_language.specs.declared.statement.Statement.{Statement}
 use Rattle.cube_language.specs.declared.statement.Statement.TheVariants.{Insert}
+use Rattle.cube_journal.specs.declared.refusal.Refusal.TheVariants as refusal
+use Rattle.cube_journal.specs.declared.reply.Reply.{Reply}
 use Rattle.cube_journal.specs.declared.reply.Reply.TheVariants as reply
 use Rattle.aosi_register.specs.State.{state_of}
 use Rattle.aosi_desk.specs.Desks.{DeskState}
 use Rattle.session_desk.specs.declared.answered.Answered.{Answered}
 use Rattle.session_desk.specs.declared.answered.Answered.TheVariants.{Replied, Stopped}
 use Rattle.session_desk.specs.declared.session.Session.{Session}
+use Rattle.session_rows.specs.declared.cubes.Cubes.{Cubes}
 use Rattle.row_entries.specs.RowCalls.{CommitsAlone, IsFollowed}
 
 -- A statement is an INSERT.
@@ -31,3 +34,12 @@ abbrev pub HasCommittedAt : DeskState → Session → DeskState → Session → 
 HasCommittedAt desk session new_desk now (Some epoch) =
     CommitsWhole desk session new_desk now × (epoch ≡ (state_of desk.register).ec)
 HasCommittedAt desk session new_desk now None = CommitsAlone desk session new_desk now
+
+-- A reply does not say that there is no such cube.
+abbrev pub SpeaksOfItsCube : Reply → Type 0
+SpeaksOfItsCube (reply.Refused (refusal.UnknownCube name)) = ⊥
+SpeaksOfItsCube said = Unit {0}
+
+-- No name came to the dictionaries of cubes, or the reply says so of no cube.
+abbrev pub KnowsItsCube : Cubes → Cubes → Reply → Type 0
+KnowsItsCube old new said = (new.names ≡ old.names) ⊎ SpeaksOfItsCube said

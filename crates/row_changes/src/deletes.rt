@@ -12,6 +12,7 @@ ghost use Rattle.session_desk.specs.FileReplies.{SpeaksOfNoFile};
 ghost use Rattle.session_desk.specs.Moves.{epoch_open_in};
 ghost use Rattle.session_rows.specs.CubesAtDesk.{ExecutesOnRows, IsAtCubes};
 ghost use Rattle.session_rows.specs.OfferedTexts.{OffersWithoutFile};
+ghost use Rattle.row_changes.specs.AnswersGiven.{KnowsItsCube, SpeaksOfItsCube};
 ghost use Rattle.row_changes.specs.ChangedCubes.{ExecutesWithNames};
 ghost use Rattle.row_changes.specs.DropForms.{IsDropSpanAt, dropped_answer};
 
@@ -58,6 +59,7 @@ fn delete_alone(
     ensures at { IsAtCubes desk.new session.new cubes.new }
     ensures number { session.new.statements ≡ session.old.statements + 1 }
     ensures no_file { IfReplied result SpeaksOfNoFile }
+    ensures known { IfReplied result SpeaksOfItsCube }
     ensures names { cubes.new.names ≡ cubes.old.names }
     ensures executed { IfReplied result (ExecutesWithNames (Says statement.now)
         desk.old session.old cubes.old desk.new session.new cubes.new) }
@@ -92,6 +94,7 @@ fn delete_inside(
     ensures at { IsAtCubes desk.now session.new cubes.new }
     ensures number { session.new.statements ≡ session.old.statements + 1 }
     ensures no_file { IfReplied result SpeaksOfNoFile }
+    ensures known { IfReplied result SpeaksOfItsCube }
     ensures names { cubes.new.names ≡ cubes.old.names }
     ensures executed { IfReplied result (ExecutesWithNames (Says statement.now)
         desk.now session.old cubes.old desk.now session.new cubes.new) }
@@ -121,6 +124,7 @@ fn delete_with_room(
     ensures at { IsAtCubes desk.new session.new cubes.new }
     ensures number { session.new.statements ≡ session.old.statements + 1 }
     ensures no_file { IfReplied result SpeaksOfNoFile }
+    ensures known { IfReplied result SpeaksOfItsCube }
     ensures names { cubes.new.names ≡ cubes.old.names }
     ensures executed { IfReplied result (ExecutesWithNames (Says statement.now)
         desk.old session.old cubes.old desk.new session.new cubes.new) }
@@ -149,6 +153,7 @@ fn delete_span(
     ensures at { IsAtCubes desk.new session.new cubes.new }
     ensures number { session.new.statements ≡ session.old.statements + 1 }
     ensures no_file { IfReplied result SpeaksOfNoFile }
+    ensures known { IfReplied result SpeaksOfItsCube }
     ensures names { cubes.new.names ≡ cubes.old.names }
     ensures executed { IfReplied result (ExecutesWithNames (Says statement.now)
         desk.old session.old cubes.old desk.new session.new cubes.new) }
@@ -175,6 +180,7 @@ fn delete_bound(
     ensures at { IsAtCubes desk.new session.new cubes.new }
     ensures number { session.new.statements ≡ session.old.statements + 1 }
     ensures no_file { IfReplied result SpeaksOfNoFile }
+    ensures known { IfReplied result SpeaksOfItsCube }
     ensures offers { OffersWithoutFile statement.now cubes.old.schemas.items
         cubes.old.names cubes.new.names }
     ensures executed { IfReplied result (ExecutesOnRows (Says statement.now)
@@ -203,6 +209,7 @@ pub fn delete(
     ensures at { IsAtCubes desk.new session.new cubes.new }
     ensures number { session.new.statements ≡ session.old.statements + 1 }
     ensures no_file { IfReplied result SpeaksOfNoFile }
+    ensures known { IfReplied result (KnowsItsCube cubes.old cubes.new) }
     ensures offers { OffersWithoutFile statement.now cubes.old.schemas.items
         cubes.old.names cubes.new.names }
     ensures executed { IfReplied result (ExecutesOnRows (Says statement.now)

@@ -12,7 +12,7 @@ ghost use Rattle.session_desk.specs.FileReplies.{SpeaksOfNoFile};
 ghost use Rattle.session_desk.specs.Moves.{epoch_open_in};
 ghost use Rattle.session_rows.specs.CubesAtDesk.{ExecutesOnRows, IsAtCubes};
 ghost use Rattle.session_rows.specs.OfferedTexts.{OffersWithoutFile};
-ghost use Rattle.row_changes.specs.AnswersGiven.{InsertsRows, stored_answer};
+ghost use Rattle.row_changes.specs.AnswersGiven.{InsertsRows, KnowsItsCube, SpeaksOfItsCube, stored_answer};
 ghost use Rattle.row_changes.specs.ChangedCubes.{ExecutesWithNames};
 ghost use Rattle.row_changes.specs.EncodedForms.{AreEncodedAt};
 ghost use Rattle.row_changes.specs.declared.encoded.EncodedRows.TheVariants.{Rows};
@@ -63,6 +63,7 @@ fn insert_alone(
     ensures at { IsAtCubes desk.new session.new cubes.new }
     ensures number { session.new.statements ≡ session.old.statements + 1 }
     ensures no_file { IfReplied result SpeaksOfNoFile }
+    ensures known { IfReplied result SpeaksOfItsCube }
     ensures names { cubes.new.names ≡ cubes.old.names }
     ensures executed { IfReplied result (ExecutesWithNames (Says statement.now)
         desk.old session.old cubes.old desk.new session.new cubes.new) }
@@ -96,6 +97,7 @@ fn insert_inside(
     ensures at { IsAtCubes desk.now session.new cubes.new }
     ensures number { session.new.statements ≡ session.old.statements + 1 }
     ensures no_file { IfReplied result SpeaksOfNoFile }
+    ensures known { IfReplied result SpeaksOfItsCube }
     ensures names { cubes.new.names ≡ cubes.old.names }
     ensures executed { IfReplied result (ExecutesWithNames (Says statement.now)
         desk.now session.old cubes.old desk.now session.new cubes.new) }
@@ -124,6 +126,7 @@ fn insert_with_room(
     ensures at { IsAtCubes desk.new session.new cubes.new }
     ensures number { session.new.statements ≡ session.old.statements + 1 }
     ensures no_file { IfReplied result SpeaksOfNoFile }
+    ensures known { IfReplied result SpeaksOfItsCube }
     ensures names { cubes.new.names ≡ cubes.old.names }
     ensures executed { IfReplied result (ExecutesWithNames (Says statement.now)
         desk.old session.old cubes.old desk.new session.new cubes.new) }
@@ -152,6 +155,7 @@ fn insert_batch(
     ensures at { IsAtCubes desk.new session.new cubes.new }
     ensures number { session.new.statements ≡ session.old.statements + 1 }
     ensures no_file { IfReplied result SpeaksOfNoFile }
+    ensures known { IfReplied result SpeaksOfItsCube }
     ensures names { cubes.new.names ≡ cubes.old.names }
     ensures executed { IfReplied result (ExecutesWithNames (Says statement.now)
         desk.old session.old cubes.old desk.new session.new cubes.new) }
@@ -180,6 +184,7 @@ fn insert_encoded(
     ensures at { IsAtCubes desk.new session.new cubes.new }
     ensures number { session.new.statements ≡ session.old.statements + 1 }
     ensures no_file { IfReplied result SpeaksOfNoFile }
+    ensures known { IfReplied result SpeaksOfItsCube }
     ensures names { cubes.new.names ≡ cubes.old.names }
     ensures executed { IfReplied result (ExecutesWithNames (Says statement.now)
         desk.old session.old cubes.old desk.new session.new cubes.new) }
@@ -210,6 +215,7 @@ fn insert_bound(
     ensures at { IsAtCubes desk.new session.new cubes.new }
     ensures number { session.new.statements ≡ session.old.statements + 1 }
     ensures no_file { IfReplied result SpeaksOfNoFile }
+    ensures known { IfReplied result SpeaksOfItsCube }
     ensures offers { OffersWithoutFile statement.now cubes.old.schemas.items
         cubes.old.names cubes.new.names }
     ensures executed { IfReplied result (ExecutesOnRows (Says statement.now)
@@ -238,6 +244,7 @@ pub fn insert(
     ensures at { IsAtCubes desk.new session.new cubes.new }
     ensures number { session.new.statements ≡ session.old.statements + 1 }
     ensures no_file { IfReplied result SpeaksOfNoFile }
+    ensures known { IfReplied result (KnowsItsCube cubes.old cubes.new) }
     ensures offers { OffersWithoutFile statement.now cubes.old.schemas.items
         cubes.old.names cubes.new.names }
     ensures executed { IfReplied result (ExecutesOnRows (Says statement.now)

@@ -8,7 +8,7 @@ ghost use Rattle.session_replies.specs.Modes.{mode_of};
 ghost use Rattle.session_desk.specs.Executed.{IfReplied};
 ghost use Rattle.session_desk.specs.FileReplies.{IsRefusedUnread, SpeaksOfNoFile};
 ghost use Rattle.session_rows.specs.CubesAtDesk.{ExecutesOnRows, IsAtCubes};
-ghost use Rattle.row_changes.specs.AnswersGiven.{InsertsRows};
+ghost use Rattle.row_changes.specs.AnswersGiven.{InsertsRows, SpeaksOfItsCube};
 ghost use Rattle.row_changes.specs.ChangedCubes.{ExecutesWithNames};
 ghost use Rattle.row_changes.specs.EncodedForms.{AreEncodedAt};
 ghost use Rattle.row_changes.specs.declared.encoded.EncodedRows.TheVariants.{Lacking};
@@ -56,6 +56,7 @@ pub fn refuse_for_memory(
     ensures at { IsAtCubes desk.new session.new cubes.now }
     ensures number { session.new.statements ≡ session.old.statements + 1 }
     ensures no_file { IfReplied result SpeaksOfNoFile }
+    ensures known { IfReplied result SpeaksOfItsCube }
     ensures unread { IfReplied result IsRefusedUnread }
     ensures executed { IfReplied result (ExecutesWithNames (Says statement.now)
         desk.old session.old cubes.now desk.new session.new cubes.now) }
@@ -80,6 +81,7 @@ pub(crate) fn refuse_lacking(
     ensures at { IsAtCubes desk.new session.new cubes.now }
     ensures number { session.new.statements ≡ session.old.statements + 1 }
     ensures no_file { IfReplied result SpeaksOfNoFile }
+    ensures known { IfReplied result SpeaksOfItsCube }
     ensures executed { IfReplied result (ExecutesWithNames (Says statement.now)
         desk.old session.old cubes.now desk.new session.new cubes.now) }
 {

@@ -8,4 +8,5 @@ pub mod InsertRows
 pub mod RecordFields
 pub mod TextNumbers
 pub mod TextPlaces
+pub mod LookedTexts
 pub mod LoadSteps

@@ -3,7 +3,7 @@ use Rattle.std.proofs.Common.{◌≡◌, ℕ, ◌+◌, ◌-◌, ◌<◌, ◌≤�
 use Rattle.std.specs.List.{cons_option}
 use Rattle.std.specs.Option.{option_map_or}
 use Rattle.std.proofs.lemmas.List.{append-nil, length-take, length-map, length_push, map_push, take_all, take_at, take-append-le}
-use Rattle.std.proofs.lemmas.List.Elements.{All-nil, All-push, Contains-append_left, Contains-append_right, Contains-get_or, Contains-push, filter_map-append}
+use Rattle.std.proofs.lemmas.List.Elements.{All-nil, All-push, Contains-append_left, Contains-append_right, Contains-push, filter_map-append}
 use Rattle.cube_values.specs.Batches.{Batch}
 use Rattle.cube_values.specs.declared.row.CodedRow.{CodedRow}
 use Rattle.cube_values.specs.declared.row.Row.{Row}
@@ -23,8 +23,9 @@ use Rattle.row_encoding.specs.FinalCodes.{Grow, InTheEnd}
 use Rattle.row_encoding.specs.CodedValues.{HaveNames, NumbersHaveNoNames}
 use Rattle.row_encoding.specs.CodedInserts.{HasCoords}
 use Rattle.row_encoding.specs.CodedRecords.{IsCodedRecord, ReadRow, RecordHasText}
-use Rattle.row_encoding.specs.CodedLoads.{GoesOn, HaveTextAmong, HaveTextLeft, IsFoundRecord, TakesBatch, Tell, final_record, final_records, record_result, records_between, rejections_from}
+use Rattle.row_encoding.specs.CodedLoads.{GoesOn, HaveTextAmong, HaveTextLookedAt, HaveTextNext, IsFoundRecord, TakesBatch, Tell, final_record, final_records, record_result, records_between, rejections_from}
 use Rattle.row_encoding.proofs.Growing.{grow_none, grow_more, grow_wider}
+use Rattle.row_encoding.proofs.LookedTexts.{among_looked_at, next_looked_at}
 
 -- ---- which records were taken
 
@@ -120,15 +121,16 @@ pub found_bad : (d decl : Decl) (lists : List (List (List ℕ))) (fields : Recor
 found_bad d decl lists fields coded why is fault =
     ap (judged_record d lists) (result_bad d fields why (subst (λ (x : Decl). record_fault x fields ≡ Some why) is fault))
 
-pub text_among : (d : Decl) (old new : LoadState) → TakesRecord old new → (k : ℕ) (text : List ℕ) → RecordHasText d new k text → HaveTextAmong d old new k text
-text_among d old new takes k text h =
+pub text_among : (d : Decl) (old new : LoadState) → TakesRecord old new → ReadRow d new → (k : ℕ) (text : List ℕ) → RecordHasText d new k text → HaveTextAmong d old new k text
+text_among d old new takes read k text h =
     let is : records_between old new ≡ new.fields ∷ [] = one_between old old new (goes_nowhere old) takes ∙ ap (λ (xs : List RecordFields). xs ++ new.fields ∷ []) (none_between old) in
-    record { fields = new.fields; one = subst (λ (xs : List RecordFields). Contains xs new.fields) (sym is) (Contains-push [] new.fields); here = h }
+    record { fields = new.fields; one = subst (λ (xs : List RecordFields). Contains xs new.fields) (sym is) (Contains-push [] new.fields); row = read.row.fits; here = h }
 
 pub among_before : (d : Decl) (start mid new : LoadState) → GoesOn start mid → TakesRecord mid new → (k : ℕ) (text : List ℕ) → HaveTextAmong d start mid k text → HaveTextAmong d start new k text
 among_before d start mid new goes takes k text h = record {
   fields = h.fields;
   one = subst (λ (xs : List RecordFields). Contains xs h.fields) (sym (one_between start mid new goes takes)) (Contains-append_left (records_between start mid) (new.fields ∷ []) h.fields h.one);
+  row = h.row;
   here = h.here;
 }
 
@@ -139,26 +141,12 @@ among_last d start mid new goes takes k text h =
       fields = h.fields;
       one = subst (λ (xs : List RecordFields). Contains xs h.fields) (sym (one_between start mid new goes takes))
           (Contains-append_right (records_between start mid) (new.fields ∷ []) h.fields (subst (λ (xs : List RecordFields). Contains xs h.fields) is h.one));
+      row = h.row;
       here = h.here;
     }
 
-pub text_left : (d : Decl) (old new : LoadState) → TakesRecord old new → (k : ℕ) (text : List ℕ) → RecordHasText d new k text → HaveTextLeft d old k text
-text_left d old new takes k text h =
-    record { fields = new.fields; one = subst (λ (xs : List RecordFields). Contains xs new.fields) (sym takes.next) (Contains-get_or (new.fields ∷ new.left) 0 [] (omega arith)); here = h }
-
-pub left_before : (d : Decl) (start mid : LoadState) → GoesOn start mid → (k : ℕ) (text : List ℕ) → HaveTextAmong d start mid k text → HaveTextLeft d start k text
-left_before d start mid goes k text h = record {
-  fields = h.fields;
-  one = subst (λ (xs : List RecordFields). Contains xs h.fields) (sym goes.left) (Contains-append_left (records_between start mid) mid.left h.fields h.one);
-  here = h.here;
-}
-
-pub left_last : (d : Decl) (start mid : LoadState) → GoesOn start mid → (k : ℕ) (text : List ℕ) → HaveTextLeft d mid k text → HaveTextLeft d start k text
-left_last d start mid goes k text h = record {
-  fields = h.fields;
-  one = subst (λ (xs : List RecordFields). Contains xs h.fields) (sym goes.left) (Contains-append_right (records_between start mid) mid.left h.fields h.one);
-  here = h.here;
-}
+pub text_next : (d : Decl) (old new : LoadState) → TakesRecord old new → ReadRow d new → (k : ℕ) (text : List ℕ) → RecordHasText d new k text → HaveTextNext d old k text
+text_next d old new takes read k text h = record { fields = new.fields; rest = new.left; are = takes.next; row = read.row.fits; here = h }
 
 -- ---- one record more in a batch
 
@@ -326,9 +314,22 @@ module _ {S : Type 0} (may_end : S → List (List (List (List ℕ))) → Type 0)
   grown_by_record old mid now load next goes takes first grow =
       grow_more (grow_wider first (among_before d start load next goes takes)) grow (among_last d start load next goes takes)
 
-  pub grown_in_all : (old mid now : S) (load : LoadState) → GoesOn start load → Grow may_end suits has_name place d (HaveTextAmong d start load) old mid
-      → Grow may_end suits has_name place d (HaveTextLeft d load) mid now → Grow may_end suits has_name place d (HaveTextLeft d start) old now
-  grown_in_all old mid now load goes first grow = grow_more (grow_wider first (left_before d start load goes)) grow (left_last d start load goes)
+  pub grown_so_far : (old now : S) (load : LoadState) (bad : BadRecords) (batch : Batch)
+      → IsLoadedFront may_end suits has_name place d allowed start before empty old now load bad batch
+      → Grow may_end suits has_name place d (HaveTextLookedAt (may_end now) place d (allowed - before.count) start) old now
+  grown_so_far old now load bad batch front =
+      grow_wider front.grow (among_looked_at (may_end now) place d allowed start load before bad batch.rows batch_is.Full front.goes front.final)
+
+  pub grown_in_all : (old mid now : S) (load : LoadState) (bad : BadRecords) (batch : Batch)
+      → IsLoadedFront may_end suits has_name place d allowed start before empty old mid load bad batch
+      → Grow may_end suits has_name place d (HaveTextNext d load) mid now
+      → Grow may_end suits has_name place d (HaveTextLookedAt (may_end now) place d (allowed - before.count) start) old now
+  grown_in_all old mid now load bad batch front grow =
+      let final : InTheEnd (may_end now) place (λ lists. TakesBatch d lists allowed start load before bad batch.rows batch_is.Full) =
+      λ names h. front.final names (grow.later names h) in
+      grow_more
+      (grow_wider front.grow (among_looked_at (may_end now) place d allowed start load before bad batch.rows batch_is.Full front.goes final))
+      grow (next_looked_at (may_end now) place d allowed start load before bad batch.rows front.goes final)
 
   pub row_loaded : (old mid now : S) (load next : LoadState) (bad : BadRecords) (batch after : Batch) (row : CodedRow)
       → IsLoadedFront may_end suits has_name place d allowed start before empty old mid load bad batch → TakesRecord load next

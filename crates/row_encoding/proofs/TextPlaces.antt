@@ -1,5 +1,5 @@
 -- A text that is given to a dictionary has its place there, or that is full.
-use Rattle.std.proofs.Common.{◌≡◌, ◌∙◌, ◌⊎◌, ℕ, ◌+◌, ◌<◌, ◌≤◌, zero, suc, not, List, [], ◌∷◌, ◌++◌, length, get_or, Contains, Option, Some, None, Result, Ok, Err, IfOk, OnOk, nat_le, slice_get, ℤ, refl, sym, ap, subst, inl, inr, arith}
+use Rattle.std.proofs.Common.{◌≡◌, ◌∙◌, ℕ, ◌+◌, ◌<◌, ◌≤◌, zero, suc, not, List, [], ◌∷◌, ◌++◌, length, get_or, Contains, Option, Some, None, Result, Ok, Err, IfOk, OnOk, nat_le, ℤ, sym, ap, subst, inl, inr, arith}
 use Rattle.std.specs.Prelude.{take}
 use Rattle.std.specs.List.{list_any}
 use Rattle.std.specs.Str.{bytes_eq}
@@ -15,7 +15,7 @@ use Rattle.cube_language.specs.declared.decl.DimDecl.{DimDecl}
 use Rattle.condition_spans.specs.CodedConditions.{values_of_test}
 use Rattle.condition_spans.specs.Codes.{texts_at}
 use Rattle.row_encoding.specs.FinalCodes.{InTheEnd, IsFinalNumber, dim_at}
-use Rattle.row_encoding.specs.CodedTexts.{ComparesWith, HasPlace, HasPlaceIfShort, HavePlaces, HavePlacesAmong}
+use Rattle.row_encoding.specs.CodedTexts.{HasPlace, HasPlaceIfShort, HavePlaces, HavePlacesAmong}
 
 place_of : (dim : DimDecl) (names : List (List ℕ)) (text : List ℕ) (number : Option ℕ)
     → IsFinalNumber dim names text number → HasPlace dim names text

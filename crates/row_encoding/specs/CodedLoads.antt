@@ -1,7 +1,7 @@
 -- What a LOAD makes of the records of a file, one batch of rows after the other, by the names that the cube has in the
 -- end.
 -- Source: this project's own.
-use Rattle.std.specs.Prelude.{◌≡◌, ℕ, ◌+◌, ◌-◌, ◌≤◌, List, [], ◌∷◌, ◌++◌, length, map, filter_map, take, All, Contains, Result, Ok, Err}
+use Rattle.std.specs.Prelude.{◌≡◌, ℕ, ◌+◌, ◌-◌, ◌<◌, ◌≤◌, List, [], ◌∷◌, ◌++◌, length, map, filter_map, take, All, Contains, None, Result, Ok, Err}
 use Rattle.std.specs.List.{enumerate_from}
 use Rattle.std.specs.Option.{option_map_or}
 use Rattle.cube_values.specs.declared.row.CodedRow.{CodedRow}
@@ -16,6 +16,7 @@ use Rattle.csv_load.specs.FileRecords.{RecordFields, dim_values, record_fault, r
 use Rattle.csv_load.specs.Loads.{IsOver, LoadState, TakesRecord}
 use Rattle.row_encoding.specs.CodedValues.{HaveNames, HaveText, NumbersHaveNoNames}
 use Rattle.row_encoding.specs.CodedRecords.{RowStandsFor}
+use Rattle.row_encoding.specs.FinalCodes.{InTheEnd}
 use Rattle.row_encoding.specs.declared.load.RecordOutcome.{RecordOutcome}
 use Rattle.row_encoding.specs.declared.load.RecordOutcome.TheVariants as record_is
 use Rattle.row_encoding.specs.declared.load.BadRecords.{BadRecords}
@@ -102,14 +103,30 @@ HasEnded allowed load bad rows batch_is.Full = (length rows ≡ BATCH_ROWS) × (
 HasEnded allowed load bad rows batch_is.End = (load.left ≡ []) × (bad.count ≤ allowed)
 HasEnded allowed load bad rows batch_is.TooMany = bad.count ≡ allowed + 1
 
--- One of the records that a load has left has this text in this dimension.
-pub record HaveTextLeft (d : Decl) (load : LoadState) (dim : ℕ) (text : List ℕ) : Type 0 where
+-- The next record of a load is a row that has this text in this dimension.
+pub record HaveTextNext (d : Decl) (load : LoadState) (dim : ℕ) (text : List ℕ) : Type 0 where
   pub fields : RecordFields
-  pub one : Contains load.left fields
+  pub rest : List RecordFields
+  pub are : load.left ≡ fields ∷ rest
+  pub row : record_fault d fields ≡ None
   pub here : HaveText (dim_values d.dims fields) dim text
 
--- One of the records that a load took has this text in this dimension.
+-- One of the records that a load took is a row that has this text in this dimension.
 pub record HaveTextAmong (d : Decl) (old new : LoadState) (dim : ℕ) (text : List ℕ) : Type 0 where
   pub fields : RecordFields
   pub one : Contains (records_between old new) fields
+  pub row : record_fault d fields ≡ None
   pub here : HaveText (dim_values d.dims fields) dim text
+
+-- One of the records that a load has left is a row that has this text in this dimension, and a LOAD that allows so many
+-- bad ones looks at it, whatever names the dictionaries end with.
+pub record HaveTextLookedAt (may_end : List (List (List (List ℕ))) → Type 0) (place : ℕ) (d : Decl) (allowed : ℕ)
+    (load : LoadState) (dim : ℕ) (text : List ℕ) : Type 0 where
+  pub before : List RecordFields
+  pub fields : RecordFields
+  pub rest : List RecordFields
+  pub are : load.left ≡ before ++ fields ∷ rest
+  pub row : record_fault d fields ≡ None
+  pub here : HaveText (dim_values d.dims fields) dim text
+  pub looked : InTheEnd may_end place
+      (λ lists. length before < length (records_looked_at allowed (final_records d lists load.left)))

@@ -1,11 +1,11 @@
 //! The records of a file as rows by coordinates, one batch after the other.
 
-ghost use Rattle.std.specs.Prelude.{◌≡◌, ◌+◌, ◌≤◌, ◌<◌, List, ◌++◌, [], ◌∷◌, length, All, IfOk, OnOk, OnErr};
+ghost use Rattle.std.specs.Prelude.{◌≡◌, ◌+◌, ◌-◌, ◌≤◌, ◌<◌, List, ◌++◌, [], ◌∷◌, length, All, IfOk, OnOk, OnErr};
 ghost use Rattle.cube_journal.specs.declared.reply.Rejection.{Rejection};
 ghost use Rattle.agg_fold.specs.Coded.{coded_row};
 ghost use Rattle.row_encoding.specs.FinalCodes.{InTheEnd, Grow};
 ghost use Rattle.row_encoding.specs.CodedInserts.{HasCoords};
-ghost use Rattle.row_encoding.specs.CodedLoads.{IsTaken, IsFoundRecord, rows_then, GoesOn, Tell, TakesBatch, HasEnded, HaveTextAmong, HaveTextLeft};
+ghost use Rattle.row_encoding.specs.CodedLoads.{IsTaken, IsFoundRecord, rows_then, GoesOn, Tell, TakesBatch, HasEnded, HaveTextAmong, HaveTextLookedAt, HaveTextNext};
 
 use crate::encoder::Encoder;
 use crate::records::encode_record;
@@ -101,7 +101,7 @@ fn load_record<E: Encoder>(
     ensures inside { IfOk result (λ found.
         All (HasCoords cube.now) batch.old.rows → All (HasCoords cube.now) batch.new.rows) }
     ensures grow { Grow E.may_end E.suits E.has_name place cube.now
-        (HaveTextLeft cube.now load.old) encoder.old encoder.new }
+        (HaveTextNext cube.now load.old) encoder.old encoder.new }
     ensures given { OnOk result (Grow E.may_end E.suits E.has_name place cube.now
         (HaveTextAmong cube.now load.old load.new) encoder.old encoder.new) }
 {
@@ -141,7 +141,8 @@ pub fn load_rows<E: Encoder>(
     ensures ended { IfOk result (HasEnded allowed load.new bad.new batch.new.rows) }
     ensures inside { OnOk result (All (HasCoords cube.now) batch.new.rows) }
     ensures grow { Grow E.may_end E.suits E.has_name place cube.now
-        (HaveTextLeft cube.now load.old) encoder.old encoder.new }
+        (HaveTextLookedAt (E.may_end encoder.new) place cube.now (allowed - bad.old.count) load.old)
+        encoder.old encoder.new }
     ensures given { OnOk result (Grow E.may_end E.suits E.has_name place cube.now
         (HaveTextAmong cube.now load.old load.new) encoder.old encoder.new) }
     ensures counted { OnOk result (bad.new.count ≤ load.new.number) }

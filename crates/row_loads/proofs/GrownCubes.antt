@@ -1,27 +1,28 @@
 -- What comes to the cubes of a session, one batch after the other.
-use Rattle.std.proofs.Common.{◌≡◌, ◌∙◌, ℕ, ◌≤◌, All, Bool, true, false, ◌==◌, List, [], ◌∷◌, ◌++◌, length, take, refl, sym, ap, arith, append_assoc, take-take, length-append, ◌-◌, if◌then◌else◌}
-use Rattle.std.proofs.lemmas.List.{append-nil, length-take}
+use Rattle.std.proofs.Common.{◌≡◌, ◌∙◌, inl, inr, ℕ, All, Bool, true, false, ◌==◌, List, [], ◌++◌, length, refl, sym, ap, subst, arith, append_assoc, length-append, ◌-◌, if◌then◌else◌}
+use Rattle.std.proofs.lemmas.List.{append-nil}
 use Rattle.std.proofs.lemmas.List.Elements.{All-nil, All-append}
 use Rattle.cube_values.specs.declared.row.CodedRow.{CodedRow}
-use Rattle.cube_run.specs.FinalNames.{names_at}
+use Rattle.cube_language.specs.declared.decl.Decl.{Decl}
 use Rattle.names_dict.specs.Dictionaries.{names_of}
 use Rattle.condition_spans.specs.Codes.{lists_at}
 use Rattle.one_session.specs.Changes.{Come, rows_with_change}
-use Rattle.one_session.specs.Pasts.{NamesOnlyCome}
 use Rattle.plain_rows.specs.HeldRows.{HeldRows, rows_at}
 use Rattle.csv_load.specs.Loads.{LoadState}
 use Rattle.row_encoding.specs.CodedInserts.{HasCoords}
-use Rattle.row_encoding.specs.CodedLoads.{TakesBatch}
+use Rattle.row_encoding.specs.CodedLoads.{HaveTextLookedAt, TakesBatch}
+use Rattle.row_encoding.specs.DictsAsEncoder.{MayEndWith}
 use Rattle.row_encoding.specs.declared.load.BadRecords.{BadRecords}
 use Rattle.row_encoding.specs.declared.load.BatchEnd.{BatchEnd}
 use Rattle.row_encoding.specs.declared.load.BatchEnd.TheVariants as batch_is
 use Rattle.row_encoding.proofs.LoadSteps.{batch_none, goes_nowhere}
+use Rattle.row_encoding.proofs.LookedTexts.{looked_at_behind, looked_at_later_on}
 use Rattle.session_rows.specs.CubesAtDesk.{AreWholeCubes}
 use Rattle.session_rows.specs.RowsExecuted.{HasChange, OfEachCube}
 use Rattle.session_rows.specs.declared.cubes.Cubes.{Cubes}
 use Rattle.session_rows.proofs.ComingNames.{come_both, come_none}
 use Rattle.row_changes.proofs.HeldChanges.{changed_here}
-use Rattle.row_loads.specs.LoadedSoFar.{HasLoaded, HaveGrown, rows_come}
+use Rattle.row_loads.specs.LoadedSoFar.{GivesLookedAt, HasLoaded, HaveGrown, rows_come}
 use Rattle.row_loads.proofs.JoinedBatches.{batches_join, goes_both}
 
 -- ---- cubes
@@ -97,6 +98,33 @@ loaded_both place allowed old mid new start load next before bad more ended h k 
             ∙ come_more (place == p) (rows_at old.rows p).now h.rows k.rows;
       };
     }
+
+pub gives_both : (place allowed : ℕ) (old mid new : Cubes) (start load : LoadState) (before bad : BadRecords)
+    → HasLoaded place allowed old mid start load before bad batch_is.Full → HaveGrown mid new
+    → GivesLookedAt place allowed old.names mid.names start before
+    → GivesLookedAt place allowed mid.names new.names load bad
+    → GivesLookedAt place allowed old.names new.names start before
+gives_both place allowed old mid new start load before bad h grown first second = λ cube k text has.
+    elim (second cube k text has) [
+      | inl was ↦
+          elim (first cube k text was) [
+            | inl is ↦ inl is
+            | inr by ↦
+                inr (
+                  by.0,
+                  looked_at_later_on (MayEndWith mid.names) (MayEndWith new.names) place start.decl
+                      (allowed - before.count) start grown.later k text by.1,
+                )
+          ]
+      | inr by ↦
+          inr (
+            by.0,
+            looked_at_behind (MayEndWith new.names) place start.decl allowed start load before bad h.rows h.taken.goes
+                (λ names may. h.taken.batch names (grown.later names may)) k text
+                (subst (λ (d : Decl). HaveTextLookedAt (MayEndWith new.names) place d (allowed - bad.count) load k text)
+                h.taken.goes.cube by.1),
+          )
+    ]
 
 -- How many rows came.
 pub count_is : (place : ℕ) (rows : List CodedRow) (old new : List HeldRows) (before after : ℕ)

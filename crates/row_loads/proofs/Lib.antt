@@ -11,3 +11,4 @@ pub mod Unloaded
 pub mod LoadsEnded
 pub mod FilesOpened
 pub mod RecordsAnswered
+pub mod OfferedRecords

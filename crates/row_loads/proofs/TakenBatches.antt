@@ -1,5 +1,5 @@
 -- A batch is taken from a load.
-use Rattle.std.proofs.Common.{◌≡◌, ◌∙◌, ℕ, List, length, All, Some, get_or, slice_get, sym, ap, subst, arith, length-append}
+use Rattle.std.proofs.Common.{◌≡◌, ◌∙◌, ℕ, ◌-◌, List, length, All, Some, get_or, slice_get, sym, ap, subst, arith, length-append}
 use Rattle.std.proofs.lemmas.Option.{get_or_from_slice_get}
 use Rattle.cube_values.specs.Batches.{Batch}
 use Rattle.cube_values.specs.declared.row.CodedRow.{CodedRow}
@@ -8,7 +8,7 @@ use Rattle.names_dict.specs.Dictionaries.{Dictionary}
 use Rattle.csv_load.specs.FileRecords.{RecordFields}
 use Rattle.csv_load.specs.Loads.{LoadState}
 use Rattle.row_encoding.specs.CodedInserts.{HasCoords}
-use Rattle.row_encoding.specs.CodedLoads.{GoesOn, HasEnded, TakesBatch, records_between}
+use Rattle.row_encoding.specs.CodedLoads.{GoesOn, HasEnded, HaveTextLookedAt, TakesBatch, records_between}
 use Rattle.row_encoding.specs.DictsAsEncoder.{HasName, MayEndWith, Suit}
 use Rattle.row_encoding.specs.FinalCodes.{Grow, InTheEnd}
 use Rattle.row_encoding.specs.declared.load.BadRecords.{BadRecords}
@@ -16,12 +16,13 @@ use Rattle.row_encoding.specs.declared.load.BatchEnd.{BatchEnd}
 use Rattle.row_encoding.specs.declared.load.BatchEnd.TheVariants as batch_is
 use Rattle.row_encoding.proofs.CubeEnds.{may_end_as_they_are}
 use Rattle.session_rows.specs.CubesAtDesk.{AreItsNames, AreWholeCubes}
+use Rattle.session_rows.specs.OfferedTexts.{AreGiven}
 use Rattle.session_rows.specs.declared.cubes.Cubes.{Cubes}
 use Rattle.session_rows.proofs.NamesCome.{have_come}
 use Rattle.row_changes.specs.ChangedCubes.{HaveGained}
 use Rattle.row_changes.specs.MayCome.{MayCome}
 use Rattle.row_changes.proofs.Encoding.{gained}
-use Rattle.row_loads.specs.LoadedSoFar.{HasFewerLeft, HasTaken, IsForLoad}
+use Rattle.row_loads.specs.LoadedSoFar.{GivesLookedAt, HasFewerLeft, HasTaken, IsForLoad}
 use Rattle.row_loads.proofs.NamedRows.{rows_few, rows_named}
 
 -- The cube at the place of a load is that of its records.
@@ -76,3 +77,18 @@ fewer_left cubes dictionaries place allowed start load before bad rows batch_is.
     omega (arith, many, few, whole, both)
 fewer_left cubes dictionaries place allowed start load before bad rows batch_is.End are is over taken = taken.goes
 fewer_left cubes dictionaries place allowed start load before bad rows batch_is.TooMany are is many taken = taken.goes
+
+-- ---- the names that came
+
+pub given_there : (place allowed : ℕ) (d : Decl) (start : LoadState) (before : BadRecords)
+    (old new : List (List Dictionary)) → d ≡ start.decl
+    → AreGiven place (HaveTextLookedAt (MayEndWith new) place d (allowed - before.count) start) old new
+    → GivesLookedAt place allowed old new start before
+given_there place allowed d start before old new same h =
+    subst (λ (x : Decl). AreGiven place (HaveTextLookedAt (MayEndWith new) place x (allowed - before.count) start) old new)
+    same h
+
+pub given_still : (place allowed : ℕ) (start : LoadState) (before : BadRecords) (old mid new : List (List Dictionary))
+    → new ≡ mid → GivesLookedAt place allowed old mid start before → GivesLookedAt place allowed old new start before
+given_still place allowed start before old mid new same h =
+    subst (λ (names : List (List Dictionary)). GivesLookedAt place allowed old names start before) (sym same) h

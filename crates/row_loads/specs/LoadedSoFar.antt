@@ -1,6 +1,6 @@
 -- What a LOAD has of the records of its file, one batch after the other, and what came of them to the cubes of its session.
 -- Source: Cubrick (VLDB 2016), dictionary encoding of text dimensions; that rows come in batches is this project's own.
-use Rattle.std.specs.Prelude.{◌≡◌, ℕ, ◌+◌, ◌<◌, ◌≤◌, List, slice_get, All, Option, Some, None, length}
+use Rattle.std.specs.Prelude.{◌≡◌, ℕ, ◌+◌, ◌-◌, ◌<◌, ◌≤◌, List, slice_get, All, Option, Some, None, length}
 use Rattle.cube_values.specs.Batches.{Batch}
 use Rattle.cube_values.specs.declared.row.CodedRow.{CodedRow}
 use Rattle.names_dict.specs.Dictionaries.{Dictionary, names_of}
@@ -8,7 +8,7 @@ use Rattle.one_session.specs.Changes.{ChangeAt, Come}
 use Rattle.one_session.specs.Pasts.{NamesOnlyCome}
 use Rattle.csv_load.specs.Loads.{LoadState}
 use Rattle.row_encoding.specs.CodedInserts.{HasCoords}
-use Rattle.row_encoding.specs.CodedLoads.{TakesBatch}
+use Rattle.row_encoding.specs.CodedLoads.{HaveTextLookedAt, TakesBatch}
 use Rattle.row_encoding.specs.CodedLoads as records
 use Rattle.row_encoding.specs.DictsAsEncoder.{MayEndWith}
 use Rattle.row_encoding.specs.FinalCodes.{InTheEnd}
@@ -16,6 +16,7 @@ use Rattle.row_encoding.specs.declared.load.BadRecords.{BadRecords}
 use Rattle.row_encoding.specs.declared.load.BatchEnd.{BatchEnd}
 use Rattle.row_encoding.specs.declared.load.BatchEnd.TheVariants as batch_is
 use Rattle.session_rows.specs.CubesAtDesk.{AreWholeCubes}
+use Rattle.session_rows.specs.OfferedTexts.{AreGiven}
 use Rattle.session_rows.specs.RowsExecuted.{HasChange, OfEachCube}
 use Rattle.session_rows.specs.declared.cubes.Cubes.{Cubes}
 
@@ -63,6 +64,11 @@ pub record HasTaken (place allowed : ℕ) (dictionaries : List (List Dictionary)
 -- Whatever names the later dictionaries end with, the earlier ones may.
 abbrev pub MayEndLater : List (List Dictionary) → List (List Dictionary) → Type 0
 MayEndLater old new = (names : List (List (List (List ℕ)))) → MayEndWith new names → MayEndWith old names
+
+-- Each name that came to the dictionaries is a text of a row that the load had left, and at which it looks.
+abbrev pub GivesLookedAt : ℕ → ℕ → List (List Dictionary) → List (List Dictionary) → LoadState → BadRecords → Type 0
+GivesLookedAt place allowed old new start before =
+    AreGiven place (HaveTextLookedAt (MayEndWith new) place start.decl (allowed - before.count) start) old new
 
 -- Names came to the cubes, and perhaps rows; those to which a rollback goes back stay.
 pub record HaveGrown (old new : Cubes) : Type 0 where

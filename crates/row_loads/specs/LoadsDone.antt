@@ -13,6 +13,7 @@ use Rattle.aosi_desk.specs.Desks.{DeskState}
 use Rattle.session_desk.specs.declared.session.Session.{Session}
 use Rattle.session_rows.specs.Coded.{CodedOperation}
 use Rattle.session_rows.specs.CubesAtDesk.{row_world}
+use Rattle.session_rows.specs.OfferedTexts.{OffersItsNames}
 use Rattle.session_rows.specs.RowsBehind.{HasRows}
 use Rattle.session_rows.specs.declared.cubes.Cubes.{Cubes}
 use Rattle.row_entries.specs.ExecutedHere.{HasExecutedWithFile}
@@ -43,3 +44,9 @@ abbrev pub LoadsItsBytes : LoadState → Sentence → DeskState → Session → 
 LoadsItsBytes load sentence desk session cubes new_desk new_session new_cubes said =
     (bytes : List ℕ) → BeginsLoad load load.decl bytes
     → LoadsOnRows (loaded_file (whole bytes)) sentence desk session cubes new_desk new_session new_cubes said
+
+-- So it is with the names that came: the statement, whose file is of these bytes, offered each.
+abbrev pub OffersItsBytes : LoadState → Statement → Cubes → Cubes → Type 0
+OffersItsBytes load s cubes new_cubes =
+    (bytes : List ℕ) → BeginsLoad load load.decl bytes
+    → OffersItsNames (loaded_file (whole bytes)) s cubes.schemas.items cubes.names new_cubes.names

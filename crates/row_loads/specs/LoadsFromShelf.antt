@@ -18,6 +18,7 @@ use Rattle.aosi_desk.specs.Desks.{DeskState}
 use Rattle.session_desk.specs.declared.session.Session.{Session}
 use Rattle.session_desk.specs.FileReplies.{IsRefusedUnread}
 use Rattle.session_rows.specs.CubesAtDesk.{ExecutesOnRows}
+use Rattle.session_rows.specs.OfferedTexts.{OffersItsNames}
 use Rattle.session_rows.specs.declared.cubes.Cubes.{Cubes}
 use Rattle.row_loads.specs.LoadsDone.{LoadsOnRows}
 
@@ -59,7 +60,8 @@ abbrev pub path_loaded : Statement → List ℕ
 path_loaded (Load cube path reject) = path
 path_loaded s = []
 
--- A LOAD that is bound to a cube opened its file, and is executed with what that gave.
+-- A LOAD that is bound to a cube opened its file, and is executed with what that gave, by which it offered each name that
+-- came.
 pub record LoadsItsFile (seen : ShelfSeen) (s : Statement) (desk : DeskState) (session : Session) (cubes : Cubes)
     (new_desk : DeskState) (now : Session) (new_cubes : Cubes) (said : Reply) : Type 0 where
   pub place : ℕ
@@ -70,6 +72,7 @@ pub record LoadsItsFile (seen : ShelfSeen) (s : Statement) (desk : DeskState) (s
   pub counts : CountsLoad seen answer
   pub answered : IsAnsweredFor answer said
   pub loads : LoadsOnRows (loaded_file opened.given) (Says s) desk session cubes new_desk now new_cubes said
+  pub offers : OffersItsNames (loaded_file opened.given) s cubes.schemas.items cubes.names new_cubes.names
 
 -- A LOAD did not come to its file, and is executed without it: it is refused since it is bound to no cube, or memory ran
 -- out.
@@ -79,6 +82,7 @@ pub record LeavesShelf (seen : ShelfSeen) (s : Statement) (desk : DeskState) (se
   pub faults : seen.new_faults ≡ seen.faults
   pub absences : seen.new_absences ≡ seen.absences
   pub refused : IsRefusedUnread said
+  pub names : new_cubes.names ≡ cubes.names
   pub executed : ExecutesOnRows (Says s) desk session cubes new_desk now new_cubes said
 
 -- It is executed with its file, or without it.

@@ -4,7 +4,7 @@ ghost use Rattle.std.specs.Prelude.{◌≡◌, IfOk, OnOk};
 ghost use Rattle.session_rows.specs.CubesAtDesk.{AreWholeCubes};
 ghost use Rattle.row_changes.specs.ChangedCubes.{HaveGained};
 ghost use Rattle.row_changes.specs.MayCome.{MayCome};
-ghost use Rattle.row_loads.specs.LoadedSoFar.{BringsRows, HasComeTo, HasFewerLeft, HasLoaded, HasStopped, HasTaken, HaveGrown, IsForLoad, IsLoading, MayEndLater};
+ghost use Rattle.row_loads.specs.LoadedSoFar.{BringsRows, GivesLookedAt, HasComeTo, HasFewerLeft, HasLoaded, HasStopped, HasTaken, HaveGrown, IsForLoad, IsLoading, MayEndLater};
 
 use csv_load::Loader;
 use cube_values::CodedRows;
@@ -29,6 +29,7 @@ fn take_batch(
     requires batch { IsForLoad load.old batch.old }
     ensures gained { HaveGained cubes.old cubes.new }
     ensures later { MayEndLater cubes.old.names cubes.new.names }
+    ensures offers { GivesLookedAt place allowed cubes.old.names cubes.new.names load.old bad.old }
     ensures taken { IfOk result (HasTaken place allowed cubes.new.names load.old load.new
         bad.old bad.new batch.new.rows) }
     ensures come { OnOk result (MayCome cubes.new place batch.new) }
@@ -66,6 +67,7 @@ fn load_batch(
     requires loading { IsLoading cubes.old place allowed load.old bad.old }
     requires batch { IsForLoad load.old batch.old }
     ensures grown { HaveGrown cubes.old cubes.new }
+    ensures offers { GivesLookedAt place allowed cubes.old.names cubes.new.names load.old bad.old }
     ensures loaded { IfOk result
         (HasLoaded place allowed cubes.old cubes.new load.old load.new bad.old bad.new) }
     ensures fewer { IfOk result (HasFewerLeft load.old load.new) }
@@ -91,6 +93,7 @@ fn load_batches(
     requires whole { AreWholeCubes cubes.old }
     requires loading { IsLoading cubes.old place allowed load.old bad.old }
     ensures grown { HaveGrown cubes.old cubes.new }
+    ensures offers { GivesLookedAt place allowed cubes.old.names cubes.new.names load.old bad.old }
     ensures loaded { IfOk result
         (HasLoaded place allowed cubes.old cubes.new load.old load.new bad.old bad.new) }
     ensures stopped { IfOk result (HasStopped allowed bad.new) }
@@ -119,6 +122,7 @@ pub(crate) fn bring_rows(
     requires whole { AreWholeCubes cubes.old }
     requires loading { IsLoading cubes.old place allowed load.old bad.old }
     ensures grown { HaveGrown cubes.old cubes.new }
+    ensures offers { GivesLookedAt place allowed cubes.old.names cubes.new.names load.old bad.old }
     ensures brought { IfOk result
         (BringsRows place allowed cubes.old cubes.new load.old load.new bad.old bad.new) }
 {

@@ -11,7 +11,7 @@ ghost use Rattle.session_desk.specs.Moves.{epoch_open_in};
 ghost use Rattle.session_rows.specs.CubesAtDesk.{IsAtCubes};
 ghost use Rattle.row_loads.specs.LoadEnds.{IsLive};
 ghost use Rattle.row_loads.specs.LoadsFromShelf.{IsOfRecords, LoadsFromShelf, LoadsItsFile, path_loaded};
-ghost use Rattle.row_loads.specs.LoadsDone.{LoadsItsBytes, LoadsRows, LoadsWith};
+ghost use Rattle.row_loads.specs.LoadsDone.{LoadsItsBytes, LoadsRows, LoadsWith, OffersItsBytes};
 
 use crate::batches::bring_rows;
 use crate::ends::{abort_inside, end_alone, end_inside, forget_alone, refuse_unopened};
@@ -48,6 +48,8 @@ fn load_alone(
     ensures at { IsAtCubes desk.new session.new cubes.new }
     ensures number { session.new.statements ≡ session.old.statements + 1 }
     ensures records { IfReplied result IsOfRecords }
+    ensures offers { IfReplied result (λ said.
+        OffersItsBytes load.old statement.now cubes.old cubes.new) }
     ensures executed { IfReplied result (LoadsItsBytes load.old (Says statement.now)
         desk.old session.old cubes.old desk.new session.new cubes.new) }
 {
@@ -78,6 +80,8 @@ fn load_inside(
     ensures at { IsAtCubes desk.new session.new cubes.new }
     ensures number { session.new.statements ≡ session.old.statements + 1 }
     ensures records { IfReplied result IsOfRecords }
+    ensures offers { IfReplied result (λ said.
+        OffersItsBytes load.old statement.now cubes.old cubes.new) }
     ensures executed { IfReplied result (LoadsItsBytes load.old (Says statement.now)
         desk.old session.old cubes.old desk.new session.new cubes.new) }
 {
@@ -116,6 +120,8 @@ fn load_opened(
     ensures at { IsAtCubes desk.new session.new cubes.new }
     ensures number { session.new.statements ≡ session.old.statements + 1 }
     ensures records { IfReplied result IsOfRecords }
+    ensures offers { IfReplied result (λ said.
+        OffersItsBytes load statement.now cubes.old cubes.new) }
     ensures executed { IfReplied result (LoadsItsBytes load (Says statement.now)
         desk.old session.old cubes.old desk.new session.new cubes.new) }
 {

@@ -21,7 +21,7 @@ use Rattle.session_rows.specs.CubesAtDesk.{AllAreNamed, AreItsNames, AreItsRows,
 use Rattle.session_rows.specs.RowsBehind.{RowWorld, world_of}
 use Rattle.session_rows.specs.RowsRead.{BeginsEmpty}
 use Rattle.session_rows.specs.declared.cubes.Cubes.{Cubes}
-use Rattle.session_rows.proofs.PlayedStatements.{none_played}
+use Rattle.session_scripts.proofs.NextFromShelf.{none_from_shelf}
 use Rattle.session_rows.proofs.RowsStay.{begins_empty}
 use Rattle.session_scripts.specs.PlayedFromShelf.{HasPlayedFromShelf}
 use Rattle.script_runs.specs.Starts.{AreEmptyCubes, beginning_with, rows_of_none}
@@ -112,7 +112,4 @@ nothing_played_at_start told declared desk session cubes opening fresh stands h 
           ap (λ (held : List HeldRows). (rows_at held place).before) h.rows ∙ none_before declared place;
       now_none = λ place. ap (λ (held : List HeldRows). (rows_at held place).now) h.rows ∙ none_now declared place;
     } in
-    record {
-      played = none_played beginning desk session cubes (begins_empty beginning now empty) fresh;
-      files = tt;
-    }
+    none_from_shelf told beginning desk session cubes (begins_empty beginning now empty) fresh

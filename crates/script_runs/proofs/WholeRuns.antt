@@ -1,7 +1,9 @@
 -- A session that has played its script, and whose end has left its entries, has run it whole.
-use Rattle.std.proofs.Common.{◌≡◌, ◌∙◌, ℕ, Bool, true, false, suc, ◌+◌, ◌≤◌, List, [], ◌∷◌, length, map, Option, refl, sym, ap, subst, arith}
+use Rattle.std.proofs.Common.{◌≡◌, ◌∙◌, ℕ, All, Bool, true, false, suc, ◌+◌, ◌≤◌, List, [], ◌∷◌, length, map, Option, refl, sym, ap, subst, arith}
 use Rattle.std.specs.Bool.{OnTrue}
 use Rattle.std.proofs.lemmas.List.{length-map}
+use Rattle.std.proofs.lemmas.Option.{get_or_from_slice_get, slice_get_within}
+use Rattle.cube_language.specs.Cubes.{IsStorable}
 use Rattle.cube_language.specs.declared.decl.Decl.{Decl}
 use Rattle.cube_journal.specs.Counters.{counters}
 use Rattle.cube_journal.specs.Legal.{CountersAllowAll, IsLegal}
@@ -14,18 +16,21 @@ use Rattle.names_dict.specs.Dictionaries.{Dictionary, names_of}
 use Rattle.played_scripts.specs.PlayedRuns.{HavePlayed}
 use Rattle.played_scripts.specs.Promises.{IsPlayed}
 use Rattle.played_scripts.proofs.Played.{merge_of_played, text_of_played}
+use Rattle.one_session.specs.Changes.{AreNamedApart}
 use Rattle.one_session.specs.Pasts.{Beginning, EndsWithMore, GoesOn, SessionPast}
 use Rattle.one_session.proofs.Ends.{has_played}
-use Rattle.aosi_desk.specs.Desks.{DeskState, IsLegalDesk}
+use Rattle.aosi_desk.specs.Desks.{AreCubes, DeskState, IsLegalDesk}
 use Rattle.session_desk.specs.declared.session.Session.{Session}
 use Rattle.session_desk.specs.Ended.{EndsAtDesk, HasEnded}
 use Rattle.session_desk.specs.Standing.{StandsBehind, World, session_state}
 use Rattle.session_desk.proofs.LegalRuns.{legal_run}
 use Rattle.session_rows.specs.Coded.{done_operations}
 use Rattle.session_rows.specs.CubesAtDesk.{AreItsNames, IsAtCubes, row_world}
+use Rattle.session_rows.specs.NamesInTheEnd.{AreStorable, HasOfferedNames, IsWholeRun}
 use Rattle.session_rows.specs.RowsBehind.{world_of}
 use Rattle.session_rows.specs.declared.cubes.Cubes.{Cubes}
 use Rattle.session_rows.proofs.EndingNames.{ends_with_dictionaries}
+use Rattle.session_rows.proofs.NamesFit.{names_fit}
 use Rattle.session_scripts.specs.PlayedFromShelf.{AreFilesTold, HasPlayedFromShelf}
 use Rattle.script_runs.specs.ScriptRuns.{IsRunInFull, LeavesLegal, PlaysToTheEnd, RunsWhole, script_run}
 use Rattle.script_sentences.specs.Sentences.{sentence_of}
@@ -72,12 +77,16 @@ is_script_run : (cubes : List Decl) (past : SessionPast) (script : List Sentence
 is_script_run cubes past script dictionaries journal says named =
     (λ i. script_run cubes (says i) past.files (named i) journal)
 
+storable_each : (cubes : List Decl) → All IsStorable cubes → AreStorable cubes
+storable_each cubes h = λ place d is.
+    subst IsStorable (get_or_from_slice_get cubes place d d is) (h place d (slice_get_within cubes place d is))
+
 pub has_run_whole : (told : Option (List (List ℕ × List ℕ))) (cubes : List Decl) (script : List Sentence)
     (replies : List Reply) (desk : DeskState) (session : Session) (held : Cubes) (last : DeskState)
     → HasPlayedFromShelf told (beginning_with cubes) script replies desk session held
-    → IsAtCubes desk session held → EndsAtDesk desk session last → IsLegalDesk last
+    → IsAtCubes desk session held → AreCubes desk.cubes → EndsAtDesk desk session last → IsLegalDesk last
     → RunsWhole told cubes script replies (names_of held.names) last.register.journal
-has_run_whole told cubes script replies desk session held last p at ends legal =
+has_run_whole told cubes script replies desk session held last p at all ends legal =
     let beginning = beginning_with cubes in
     let past = p.played.past in
     let now : World = world_of (row_world desk session held p.played.coded) in
@@ -94,10 +103,27 @@ has_run_whole told cubes script replies desk session held last p at ends legal =
     let on = goes_on beginning past now held.names (session_state session) last stands refl are ended counters in
     let run = ended_run beginning past last.register.journal in
     let have = plays beginning past now replies last script p.played.says p.played.played stands ended on in
+    let offered : HasOfferedNames beginning past (row_world desk session held p.played.coded) = record {
+      rows = p.played.rows;
+      apart = subst AreNamedApart at.schemas at.whole.apart;
+      storable = storable_each desk.cubes all.storable;
+      names = are;
+      come = p.played.come;
+      offered = p.offered;
+    } in
+    let it_is : IsWholeRun beginning past (row_world desk session held p.played.coded) run = record {
+      goes_on = on;
+      script = refl;
+      cubes =
+          cubes_in_the_end beginning past last.register.journal ended.added ended.journal ended.speaks_of_none
+          ∙ stands.there;
+      names = stands.names;
+    } in
     let whole : IsRunInFull run replies = record {
       legal = legal_run beginning past now (session_state session) last run stands ended on refl;
       merge = merge_of_played run (replies ∷ []) have;
       text = text_of_played run (replies ∷ []) have;
+      names = names_fit beginning past (row_world desk session held p.played.coded) run offered it_is;
     } in
     record {
       files = past.files;
@@ -135,7 +161,7 @@ pub runs_from_the_start : (told : Option (List (List ℕ × List ℕ))) (declare
     → RunsWhole told declared (map sentence_of script) replies (names_of held.names) last.register.journal
 runs_from_the_start told declared script replies desk session cubes last held start p legal =
     has_run_whole told declared (map sentence_of script) replies p.middle p.now held last
-    (p.plays (beginning_with declared) [] start) p.at p.ended legal
+    (p.plays (beginning_with declared) [] start) p.at p.cubes_are p.ended legal
 
 -- The desk ends with the safe epoch from which it began.
 safe_in_the_end : (told : Option (List (List ℕ × List ℕ))) (declared : List Decl) (script : List Said)

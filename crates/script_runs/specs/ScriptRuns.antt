@@ -6,10 +6,11 @@ use Rattle.cube_journal.specs.Legal.{IsLegal}
 use Rattle.cube_journal.specs.WholeText.{whole_text}
 use Rattle.cube_journal.specs.declared.journal_entry.JournalEntry.{JournalEntry}
 use Rattle.cube_journal.specs.declared.reply.Reply.{Reply}
+use Rattle.cube_run.specs.FinalNames.{FinalNamesFit}
 use Rattle.cube_run.specs.Merge.{IsMerge}
 use Rattle.cube_run.specs.RunRecords.{IsLegalRun, LoadedFile, RunRecord, Sentence}
 use Rattle.cube_run.specs.RunText.{IsText}
-use Rattle.aosi_desk.specs.Desks.{DeskState}
+use Rattle.aosi_desk.specs.Desks.{AreCubes, DeskState}
 use Rattle.script_sentences.specs.declared.said.Said.{Said}
 use Rattle.session_desk.specs.Ended.{EndsAtDesk}
 use Rattle.session_desk.specs.declared.session.Session.{Session}
@@ -32,11 +33,13 @@ script_run cubes script files names journal = record {
   journal = journal;
 }
 
--- The journal of a run is legal and a merge of its script, and with these replies its text is that of the run.
+-- The journal of a run is legal and a merge of its script, with these replies its text is that of the run, and its
+-- dictionaries fit it.
 pub record IsRunInFull (run : RunRecord) (replies : List Reply) : Type 0 where
   pub legal : IsLegalRun run
   pub merge : IsMerge run
   pub text : IsText run (whole_text run.safe (replies ∷ []) run.journal)
+  pub names : FinalNamesFit run
 
 -- The script was run whole over these cubes, with files as a shelf tells them.
 pub record RunsWhole (told : Option (List (List ℕ × List ℕ))) (cubes : List Decl) (script : List Sentence)
@@ -60,4 +63,5 @@ pub record PlaysToTheEnd (told : Option (List (List ℕ × List ℕ))) (script :
   pub now : Session
   pub plays : PlaysFromShelf told script before desk session cubes replies middle now held
   pub at : IsAtCubes middle now held
+  pub cubes_are : AreCubes middle.cubes
   pub ended : EndsAtDesk middle now last

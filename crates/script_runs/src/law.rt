@@ -5,7 +5,7 @@ ghost use Rattle.cube_language.specs.declared.decl.Decl.{Decl};
 ghost use Rattle.cube_journal.specs.declared.reply.Reply.{Reply};
 ghost use Rattle.cube_run.specs.RunRecords.{Sentence};
 ghost use Rattle.names_dict.specs.Dictionaries.{names_of};
-ghost use Rattle.aosi_desk.specs.Desks.{DeskState, IsLegalDesk};
+ghost use Rattle.aosi_desk.specs.Desks.{AreCubes, DeskState, IsLegalDesk};
 ghost use Rattle.session_desk.specs.declared.session.Session.{Session};
 ghost use Rattle.session_desk.specs.Ended.{EndsAtDesk};
 ghost use Rattle.session_rows.specs.CubesAtDesk.{IsAtCubes};
@@ -21,6 +21,7 @@ pub fn an_ended_session_has_run_whole()
         (replies : List Reply) (desk : DeskState) (session : Session) (held : Cubes)
         (last : DeskState)
         → HasPlayedFromShelf told (beginning_with cubes) script replies desk session held
-        → IsAtCubes desk session held → EndsAtDesk desk session last → IsLegalDesk last
+        → IsAtCubes desk session held → AreCubes desk.cubes → EndsAtDesk desk session last
+        → IsLegalDesk last
         → RunsWhole told cubes script replies (names_of held.names) last.register.journal }
 {}

@@ -79,6 +79,7 @@ fn play_whole<S: Shelf>(
     if !play(alloc, shelf, desk, session, cubes, script, replies) {
         return false;
     }
+    desk.is_in_order();
     end_script(desk, session)
 }
 

@@ -1,3 +1,4 @@
 pub mod AtDesk
 pub mod MadeCubes
+pub mod KnownCubes
 pub mod FromShelf

@@ -14,6 +14,7 @@ use Rattle.session_desk.specs.declared.session.Session.{Session}
 use Rattle.session_desk.specs.FileReplies.{IsRefusedUnread}
 use Rattle.session_rows.specs.Coded.{CodedOperation}
 use Rattle.session_rows.specs.CubesAtDesk.{row_world}
+use Rattle.session_rows.specs.OfferedTexts.{AreNewlyOffered}
 use Rattle.session_rows.specs.RowsBehind.{HasRows, RowWorld}
 use Rattle.session_rows.specs.RowsExecuted.{HasExecutedOnRows}
 use Rattle.session_rows.specs.declared.cubes.Cubes.{Cubes}
@@ -27,11 +28,12 @@ IsFileTold told file (Says (Load cube path reject)) said =
     ⊎ IsRefusedUnread said
 IsFileTold told file sentence said = Unit {0}
 
--- A statement is executed on rows, with its file.
+-- A statement is executed on rows, with its file, and offered each name that came.
 pub record HasExecutedFromShelf (told : Option (List (List ℕ × List ℕ))) (beginning : Beginning) (past : SessionPast)
     (sentence : Sentence) (old now : RowWorld) (said : Reply) : Type 0 where
   pub on_rows : HasExecutedOnRows beginning past sentence old now said
   pub file : IsFileTold told (on_rows.executed.after.files (last_number past + 1)) sentence said
+  pub offered : AreNewlyOffered beginning past on_rows.executed.after
 
 -- A statement that says this is executed by the session, whatever is behind it, and answered so.
 abbrev pub ExecutesFromShelf : Option (List (List ℕ × List ℕ)) → Sentence → DeskState → Session → Cubes → DeskState

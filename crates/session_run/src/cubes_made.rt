@@ -43,6 +43,7 @@ pub fn create_cube(
     ensures at { IsAtCubes desk.new session.new cubes.new }
     ensures number { session.new.statements ≡ session.old.statements + 1 }
     ensures no_file { IfReplied result SpeaksOfNoFile }
+    ensures names { cubes.new.names ≡ cubes.old.names }
     ensures executed { IfReplied result (ExecutesOnRows (Says (statement.CreateCube decl))
         desk.old session.old cubes.old desk.new session.new cubes.new) }
 {

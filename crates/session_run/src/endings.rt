@@ -22,6 +22,7 @@ pub fn commit(desk: &mut Desk, session: &mut Session, cubes: &mut Cubes) -> Answ
     ensures at { IsAtCubes desk.new session.new cubes.new }
     ensures number { session.new.statements ≡ session.old.statements + 1 }
     ensures no_file { IfReplied result SpeaksOfNoFile }
+    ensures names { cubes.new.names ≡ cubes.old.names }
     ensures executed { IfReplied result (ExecutesOnRows (Says statement.Commit)
         desk.old session.old cubes.old desk.new session.new cubes.new) }
 {
@@ -39,6 +40,7 @@ pub fn rollback(desk: &mut Desk, session: &mut Session, cubes: &mut Cubes) -> An
     ensures at { IsAtCubes desk.new session.new cubes.new }
     ensures number { session.new.statements ≡ session.old.statements + 1 }
     ensures no_file { IfReplied result SpeaksOfNoFile }
+    ensures names { cubes.new.names ≡ cubes.old.names }
     ensures executed { IfReplied result (ExecutesOnRows (Says statement.Rollback)
         desk.old session.old cubes.old desk.new session.new cubes.new) }
 {

@@ -1,13 +1,21 @@
 -- A script is played from a shelf statement by statement.
-use Rattle.std.proofs.Common.{◌≡◌, ℕ, ◌+◌, ◌≤◌, ◌<◌, List, [], ◌∷◌, ◌++◌, length, Option, sym, ap, subst, arith}
+use Rattle.std.proofs.Common.{◌≡◌, ℕ, ◌+◌, ◌≤◌, ◌<◌, List, [], ◌∷◌, ◌++◌, length, Option, refl, sym, ap, subst, arith}
 use Rattle.cube_journal.specs.declared.reply.Reply.{Reply}
 use Rattle.cube_run.specs.RunRecords.{LoadedFile, Sentence}
-use Rattle.one_session.specs.Pasts.{Beginning, SessionPast, last_number}
+use Rattle.cube_run.specs.SessionStates.{SessionState, fresh_session}
+use Rattle.played_scripts.specs.Promises.{IsPlayed}
+use Rattle.played_scripts.proofs.Played.{nothing_played}
+use Rattle.one_session.specs.Pasts.{Beginning, GoesOn, SessionPast, last_number, nothing_behind}
 use Rattle.aosi_desk.specs.Desks.{DeskState}
 use Rattle.session_desk.specs.declared.session.Session.{Session}
-use Rattle.session_rows.specs.PlayedOnRows.{HasPlayedOnRows}
+use Rattle.session_desk.specs.Standing.{session_state}
+use Rattle.session_rows.specs.CubesAtDesk.{row_world}
+use Rattle.session_rows.specs.NamesInTheEnd.{AreOffered}
+use Rattle.session_rows.specs.RowsBehind.{HasRows}
 use Rattle.session_rows.specs.declared.cubes.Cubes.{Cubes}
+use Rattle.session_rows.proofs.ComingNames.{come_none}
 use Rattle.session_rows.proofs.PlayedStatements.{more_played, more_played_past}
+use Rattle.session_rows.proofs.NewlyOffered.{none_offered, offered_more}
 use Rattle.session_run.specs.FromShelf.{ExecutesFromShelf, IsFileTold}
 use Rattle.session_scripts.specs.PlayedFromShelf.{AreFilesTold, HasPlayedFromShelf}
 
@@ -33,9 +41,23 @@ files_more told files after n (s ∷ script) (r ∷ replies) sentence said same 
     )
 
 pub none_from_shelf : (told : Option (List (List ℕ × List ℕ))) (beginning : Beginning) (desk : DeskState)
-    (session : Session) (cubes : Cubes) → HasPlayedOnRows beginning [] [] desk session cubes
-    → HasPlayedFromShelf told beginning [] [] desk session cubes
-none_from_shelf told beginning desk session cubes h = record { played = h; files = tt }
+    (session : Session) (cubes : Cubes) → HasRows beginning (nothing_behind beginning) (row_world desk session cubes [])
+    → session_state session ≡ fresh_session → HasPlayedFromShelf told beginning [] [] desk session cubes
+none_from_shelf told beginning desk session cubes h fresh = record {
+  played = record {
+    past = nothing_behind beginning;
+    coded = [];
+    says = refl;
+    played =
+        subst
+        (λ (state : SessionState). IsPlayed (GoesOn beginning) 1 [] (nothing_behind beginning) [] state) (sym fresh)
+        (nothing_played (GoesOn beginning) 1 (nothing_behind beginning));
+    rows = h;
+    come = come_none beginning.kept_names;
+  };
+  files = tt;
+  offered = none_offered beginning;
+}
 
 pub next_from_shelf : (told : Option (List (List ℕ × List ℕ))) (beginning : Beginning) (script : List Sentence)
     (replies : List Reply) (sentence : Sentence) (desk : DeskState) (session : Session) (cubes : Cubes)
@@ -58,4 +80,10 @@ next_from_shelf told beginning script replies sentence desk session cubes new_de
           (files_more told p.played.past.files x.executed.after.files 1 script replies sentence said
           (λ k above below. x.executed.more.files k (above, omega (arith, below, count))) p.files
           (subst (λ (k : ℕ). IsFileTold told (x.executed.after.files k) sentence said) number does.1.file));
+      offered =
+          subst (AreOffered beginning)
+          (sym (more_played_past beginning script replies sentence desk session cubes new_desk now new_cubes said
+          p.played does.0 x))
+          (offered_more beginning p.played.past x.executed.after sentence x.executed.added x.executed.more p.offered
+          does.1.offered);
     }

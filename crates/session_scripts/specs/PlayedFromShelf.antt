@@ -6,6 +6,7 @@ use Rattle.cube_run.specs.RunRecords.{LoadedFile, Sentence}
 use Rattle.one_session.specs.Pasts.{Beginning}
 use Rattle.aosi_desk.specs.Desks.{DeskState}
 use Rattle.session_desk.specs.declared.session.Session.{Session}
+use Rattle.session_rows.specs.NamesInTheEnd.{AreOffered}
 use Rattle.session_rows.specs.PlayedOnRows.{HasPlayedOnRows}
 use Rattle.session_rows.specs.declared.cubes.Cubes.{Cubes}
 use Rattle.session_run.specs.FromShelf.{IsFileTold}
@@ -20,11 +21,13 @@ AreFilesTold told files number (sentence ∷ script) (said ∷ replies) =
 AreFilesTold told files number script replies = ⊥
 
 -- From this beginning the session has played these statements, with files as this shelf tells them, and was answered so.
+-- Each name that is behind it was kept or offered.
 pub record HasPlayedFromShelf (told : Option (List (List ℕ × List ℕ))) (beginning : Beginning)
     (script : List Sentence) (replies : List Reply) (desk : DeskState) (session : Session) (cubes : Cubes)
     : Type 0 where
   pub played : HasPlayedOnRows beginning script replies desk session cubes
   pub files : AreFilesTold told played.past.files 1 script replies
+  pub offered : AreOffered beginning played.past
 
 -- Whatever the session has played before from this shelf, it has then played these texts as well, and was answered so.
 abbrev pub PlaysFromShelf : Option (List (List ℕ × List ℕ)) → List Said → List Reply → DeskState → Session → Cubes

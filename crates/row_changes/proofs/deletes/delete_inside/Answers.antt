@@ -4,6 +4,7 @@ use Rattle.row_changes.proofs.AnsweringDeletes.{delete_inside_answered}
 use Rattle.session_desk.specs.declared.answered.Answered.{Answered}
 use Rattle.session_desk.specs.Executed.{IfReplied}
 use Rattle.session_desk.specs.FileReplies.{SpeaksOfNoFile}
+use Rattle.row_changes.specs.AnswersGiven.{SpeaksOfItsCube}
 use Rattle.row_changes.proofs.deletes.delete_inside.Goals as goal
 
 pub returns-clause-executed : goal.returns-clause-executed
@@ -15,3 +16,7 @@ returns-clause-executed c =
 pub returns-clause-no_file : goal.returns-clause-no_file
 returns-clause-no_file c =
     subst (λ (answered : Answered). IfReplied answered SpeaksOfNoFile) (sym c.dropped_answer.ensures) tt
+
+pub returns-clause-known : goal.returns-clause-known
+returns-clause-known c =
+    subst (λ (answered : Answered). IfReplied answered SpeaksOfItsCube) (sym c.dropped_answer.ensures) tt

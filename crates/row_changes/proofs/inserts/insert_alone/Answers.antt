@@ -5,7 +5,8 @@ use Rattle.row_changes.proofs.Inserting.{may_come}
 use Rattle.session_desk.specs.declared.answered.Answered.{Answered}
 use Rattle.session_desk.specs.Executed.{IfReplied}
 use Rattle.session_desk.specs.FileReplies.{SpeaksOfNoFile}
-use Rattle.row_changes.proofs.Answering.{stored_speaks}
+use Rattle.row_changes.proofs.Answering.{stored_knows, stored_speaks}
+use Rattle.row_changes.specs.AnswersGiven.{SpeaksOfItsCube}
 use Rattle.row_changes.proofs.inserts.insert_alone.Goals as goal
 
 pub append_and_keep-requires-clause-come : goal.append_and_keep-requires-clause-come
@@ -25,3 +26,8 @@ pub returns-in-Ok-clause-no_file : goal.returns-in-Ok-clause-no_file
 returns-in-Ok-clause-no_file c =
     subst (λ (answered : Answered). IfReplied answered SpeaksOfNoFile) (sym c.stored_answer.ensures)
     (stored_speaks (length c.inserted_rows.result.now) c.in-Ok.committed)
+
+pub returns-in-Ok-clause-known : goal.returns-in-Ok-clause-known
+returns-in-Ok-clause-known c =
+    subst (λ (answered : Answered). IfReplied answered SpeaksOfItsCube) (sym c.stored_answer.ensures)
+    (stored_knows (length c.inserted_rows.result.now) c.in-Ok.committed)

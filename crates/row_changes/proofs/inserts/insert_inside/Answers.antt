@@ -6,6 +6,7 @@ use Rattle.row_changes.proofs.Inserting.{may_come}
 use Rattle.session_desk.specs.declared.answered.Answered.{Answered}
 use Rattle.session_desk.specs.Executed.{IfReplied}
 use Rattle.session_desk.specs.FileReplies.{SpeaksOfNoFile}
+use Rattle.row_changes.specs.AnswersGiven.{SpeaksOfItsCube}
 use Rattle.row_changes.proofs.inserts.insert_inside.Goals as goal
 
 pub append-requires-clause-come : goal.append-requires-clause-come
@@ -23,3 +24,7 @@ returns-clause-executed c =
 pub returns-clause-no_file : goal.returns-clause-no_file
 returns-clause-no_file c =
     subst (λ (answered : Answered). IfReplied answered SpeaksOfNoFile) (sym c.stored_answer.ensures) tt
+
+pub returns-clause-known : goal.returns-clause-known
+returns-clause-known c =
+    subst (λ (answered : Answered). IfReplied answered SpeaksOfItsCube) (sym c.stored_answer.ensures) tt

@@ -1,4 +1,6 @@
-use Rattle.row_changes.proofs.Answering.{at_cubes}
+use Rattle.cube_journal.specs.declared.refusal.Refusal.TheVariants as refusal
+use Rattle.cube_journal.specs.declared.reply.Reply.TheVariants as reply
+use Rattle.row_changes.proofs.Answering.{at_cubes, said_knows}
 use Rattle.row_changes.proofs.AnsweringInserts.{lacking_answered}
 use Rattle.row_changes.proofs.refused.refuse_lacking.Goals as goal
 
@@ -12,3 +14,7 @@ returns-clause-executed c =
     lacking_answered c.args.statement.now c.refuse_next.result c.args.desk.now c.args.session.now
     c.refuse_next.new.desk c.refuse_next.new.session c.args.cubes.now c.args.place c.args.text c.requires.at
     c.requires.form c.requires.may c.requires.lacking c.refuse_next.ensures.said c.refuse_next.ensures.noted
+
+pub returns-clause-known : goal.returns-clause-known
+returns-clause-known c =
+    said_knows c.refuse_next.result (reply.Refused (refusal.DictionaryFull c.args.text)) tt c.refuse_next.ensures.said

@@ -2,7 +2,7 @@ use Rattle.std.proofs.Common.{◌<◌, length, ap, ◌∙◌, refl, arith}
 use Rattle.cube_values.specs.Batches.{Batch}
 use Rattle.agg_fold.specs.Coded.{coded_row}
 use Rattle.row_encoding.specs.declared.load.TheConstants.{BATCH_ROWS}
-use Rattle.row_encoding.proofs.LoadSteps.{bad_loaded, goes_one_more, grown_by_record, grown_in_all, last_loaded, load_begins, row_loaded}
+use Rattle.row_encoding.proofs.LoadSteps.{bad_loaded, goes_one_more, grown_by_record, grown_in_all, grown_so_far, last_loaded, load_begins, row_loaded}
 use Rattle.row_encoding.proofs.load.load_rows.Goals as goal
 
 pub records-init : goal.records-init
@@ -14,17 +14,27 @@ records-init g c =
 pub returns-in_err-load_record-clause-grow : goal.returns-in_err-load_record-clause-grow
 returns-in_err-load_record-clause-grow g c =
     grown_in_all g.E.Encoder.may_end g.E.Encoder.suits g.E.Encoder.has_name c.args.place c.args.cube.now c.args.allowed c.args.load.now c.args.bad.now c.reserve.new.self
-    c.args.encoder.now c.records.encoder c.load_record.new.encoder c.records.load c.records.invariant.goes c.records.invariant.grow c.load_record.ensures.grow
+    c.args.encoder.now c.records.encoder c.load_record.new.encoder c.records.load c.records.bad c.records.batch c.records.invariant c.load_record.ensures.grow
 
 pub returns-in_err-add-in-Bad-clause-grow : goal.returns-in_err-add-in-Bad-clause-grow
 returns-in_err-add-in-Bad-clause-grow g c =
     grown_in_all g.E.Encoder.may_end g.E.Encoder.suits g.E.Encoder.has_name c.args.place c.args.cube.now c.args.allowed c.args.load.now c.args.bad.now c.reserve.new.self
-    c.args.encoder.now c.records.encoder c.load_record.new.encoder c.records.load c.records.invariant.goes c.records.invariant.grow c.load_record.ensures.grow
+    c.args.encoder.now c.records.encoder c.load_record.new.encoder c.records.load c.records.bad c.records.batch c.records.invariant c.load_record.ensures.grow
 
 pub returns-then-bad-allowed-clause-grow : goal.returns-then-bad-allowed-clause-grow
 returns-then-bad-allowed-clause-grow g c =
     grown_in_all g.E.Encoder.may_end g.E.Encoder.suits g.E.Encoder.has_name c.args.place c.args.cube.now c.args.allowed c.args.load.now c.args.bad.now c.reserve.new.self
-    c.args.encoder.now c.records.encoder c.load_record.new.encoder c.records.load c.records.invariant.goes c.records.invariant.grow c.load_record.ensures.grow
+    c.args.encoder.now c.records.encoder c.load_record.new.encoder c.records.load c.records.bad c.records.batch c.records.invariant c.load_record.ensures.grow
+
+pub returns-in-End-clause-grow : goal.returns-in-End-clause-grow
+returns-in-End-clause-grow g c =
+    grown_in_all g.E.Encoder.may_end g.E.Encoder.suits g.E.Encoder.has_name c.args.place c.args.cube.now c.args.allowed c.args.load.now c.args.bad.now c.reserve.new.self
+    c.args.encoder.now c.records.encoder c.load_record.new.encoder c.records.load c.records.bad c.records.batch c.records.invariant c.load_record.ensures.grow
+
+pub returns-clause-grow : goal.returns-clause-grow
+returns-clause-grow g c =
+    grown_so_far g.E.Encoder.may_end g.E.Encoder.suits g.E.Encoder.has_name c.args.place c.args.cube.now c.args.allowed c.args.load.now c.args.bad.now c.reserve.new.self
+    c.args.encoder.now c.records.encoder c.records.load c.records.bad c.records.batch c.records.invariant
 
 pub records-preserved-in-Row : goal.records-preserved-in-Row
 records-preserved-in-Row g c =

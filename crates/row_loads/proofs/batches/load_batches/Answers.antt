@@ -2,7 +2,7 @@ use Rattle.std.proofs.Common.{◌∙◌, ap, length}
 use Rattle.cube_values.specs.Batches.{Batch}
 use Rattle.cube_language.specs.declared.decl.Decl.{Decl}
 use Rattle.row_encoding.specs.declared.load.BatchEnd.TheVariants as batch_is
-use Rattle.row_loads.proofs.GrownCubes.{grown_both}
+use Rattle.row_loads.proofs.GrownCubes.{gives_both, grown_both}
 use Rattle.row_loads.proofs.LoadFronts.{front_begins, front_ends, front_goes_on}
 use Rattle.row_loads.proofs.TakenBatches.{decl_there}
 use Rattle.row_loads.proofs.batches.load_batches.Goals as goal
@@ -27,7 +27,7 @@ batches-preserved c =
     front_goes_on c.args.place c.args.allowed c.args.cubes.now c.batches.cubes c.load_batch.new.cubes c.args.load.now
     c.batches.load c.load_batch.new.load c.args.bad.now c.batches.bad c.load_batch.new.bad c.batches.batch
     c.load_batch.new.batch c.in_ok-load_batch.field-0 c.in-Full.is c.batches.invariant c.in_ok-load_batch.ensures.loaded
-    c.in_ok-load_batch.ensures.stands c.in_ok-load_batch.ensures.batch
+    c.in_ok-load_batch.ensures.stands c.in_ok-load_batch.ensures.batch c.load_batch.ensures.offers
 
 pub returns-in-End-clause-grown : goal.returns-in-End-clause-grown
 returns-in-End-clause-grown c =
@@ -50,3 +50,21 @@ returns-in-TooMany-clause-loaded c =
     front_ends c.args.place c.args.allowed c.args.cubes.now c.batches.cubes c.load_batch.new.cubes c.args.load.now
     c.batches.load c.load_batch.new.load c.args.bad.now c.batches.bad c.load_batch.new.bad c.batches.batch
     c.in_ok-load_batch.field-0 batch_is.TooMany c.in-TooMany.is c.batches.invariant c.in_ok-load_batch.ensures.loaded
+
+pub returns-in_err-load_batch-clause-offers : goal.returns-in_err-load_batch-clause-offers
+returns-in_err-load_batch-clause-offers c =
+    gives_both c.args.place c.args.allowed c.args.cubes.now c.batches.cubes c.load_batch.new.cubes c.args.load.now
+    c.batches.load c.args.bad.now c.batches.bad c.batches.invariant.loaded c.load_batch.ensures.grown
+    c.batches.invariant.offers c.load_batch.ensures.offers
+
+pub returns-in-End-clause-offers : goal.returns-in-End-clause-offers
+returns-in-End-clause-offers c =
+    gives_both c.args.place c.args.allowed c.args.cubes.now c.batches.cubes c.load_batch.new.cubes c.args.load.now
+    c.batches.load c.args.bad.now c.batches.bad c.batches.invariant.loaded c.load_batch.ensures.grown
+    c.batches.invariant.offers c.load_batch.ensures.offers
+
+pub returns-in-TooMany-clause-offers : goal.returns-in-TooMany-clause-offers
+returns-in-TooMany-clause-offers c =
+    gives_both c.args.place c.args.allowed c.args.cubes.now c.batches.cubes c.load_batch.new.cubes c.args.load.now
+    c.batches.load c.args.bad.now c.batches.bad c.batches.invariant.loaded c.load_batch.ensures.grown
+    c.batches.invariant.offers c.load_batch.ensures.offers

@@ -1,4 +1,4 @@
-use Rattle.row_loads.proofs.TakenBatches.{decl_there, fewer_left, may_come, names_gained, taken_from}
+use Rattle.row_loads.proofs.TakenBatches.{decl_there, fewer_left, given_there, may_come, names_gained, taken_from}
 use Rattle.row_loads.proofs.batches.take_batch.Goals as goal
 
 pub returns-in_err-ended-clause-gained : goal.returns-in_err-ended-clause-gained
@@ -36,3 +36,17 @@ returns-clause-fewer c =
     c.load_rows.new.load c.args.bad.now c.load_rows.new.bad c.load_rows.new.batch.rows c.in_ok-ended.ended
     (returns-clause-gained c).whole.names c.requires.loading.cube_is c.in_ok-ended.ensures.ended
     (returns-clause-taken c)
+
+pub returns-in_err-ended-clause-offers : goal.returns-in_err-ended-clause-offers
+returns-in_err-ended-clause-offers c =
+    given_there c.args.place c.args.allowed c.index-cube.result.now c.args.load.now c.args.bad.now c.args.cubes.now.names
+    c.load_rows.new.encoder
+    (decl_there c.args.cubes.now.schemas.items c.args.place c.index-cube.result.now c.args.load.now.decl
+    c.requires.loading.cube_is c.index-cube.ensures) c.load_rows.ensures.grow.names
+
+pub returns-clause-offers : goal.returns-clause-offers
+returns-clause-offers c =
+    given_there c.args.place c.args.allowed c.index-cube.result.now c.args.load.now c.args.bad.now c.args.cubes.now.names
+    c.load_rows.new.encoder
+    (decl_there c.args.cubes.now.schemas.items c.args.place c.index-cube.result.now c.args.load.now.decl
+    c.requires.loading.cube_is c.index-cube.ensures) c.load_rows.ensures.grow.names

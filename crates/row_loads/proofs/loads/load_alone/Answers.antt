@@ -1,4 +1,6 @@
 use Rattle.row_loads.proofs.LoadsEnded.{ended_alone, forgotten_alone}
+use Rattle.row_loads.specs.LoadEnds.{ForgetsAlone}
+use Rattle.row_loads.proofs.OfferedRecords.{alone_offers, replied_offers}
 use Rattle.row_loads.proofs.RecordsAnswered.{alone_of_records, forgotten_of_records}
 use Rattle.row_loads.proofs.loads.load_alone.Goals as goal
 
@@ -26,3 +28,18 @@ pub returns-in-Err-clause-records : goal.returns-in-Err-clause-records
 returns-in-Err-clause-records c =
     forgotten_of_records c.args.desk.now c.args.session.now c.bring_rows.new.cubes c.forget_alone.new.desk
     c.forget_alone.new.session c.forget_alone.new.cubes c.forget_alone.result c.forget_alone.ensures.said
+
+pub returns-in-Ok-clause-offers : goal.returns-in-Ok-clause-offers
+returns-in-Ok-clause-offers c =
+    alone_offers c.args.statement.now c.args.allowed c.args.place c.args.cubes.now c.bring_rows.new.cubes
+    c.end_alone.new.cubes c.args.load.now c.none-bad.result c.requires.form c.requires.bound c.none-bad.ensures
+    c.in-Ok.ensures.offers c.in-Ok.rows c.bring_rows.new.bad c.args.desk.now c.args.session.now
+    c.end_alone.new.desk c.end_alone.new.session c.end_alone.result c.end_alone.ensures.said
+
+pub returns-in-Err-clause-offers : goal.returns-in-Err-clause-offers
+returns-in-Err-clause-offers c =
+    replied_offers c.args.statement.now c.args.allowed c.args.place c.args.cubes.now c.bring_rows.new.cubes
+    c.forget_alone.new.cubes c.args.load.now c.none-bad.result c.requires.form c.requires.bound c.none-bad.ensures
+    c.in-Err.ensures.offers c.forget_alone.result
+    (ForgetsAlone c.args.desk.now c.args.session.now c.bring_rows.new.cubes c.forget_alone.new.desk
+    c.forget_alone.new.session c.forget_alone.new.cubes) (λ said h. h.back.names) c.forget_alone.ensures.said

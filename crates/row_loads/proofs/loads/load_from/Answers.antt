@@ -22,7 +22,7 @@ returns-in-Ok-clause-executed g c =
       absent = c.in-Ok.ensures.absent;
       present = c.in-Ok.ensures.present;
     })
-    c.load_opened.result c.load_opened.ensures.records c.load_opened.ensures.executed
+    c.load_opened.result c.load_opened.ensures.records c.load_opened.ensures.offers c.load_opened.ensures.executed
 
 pub returns-in-Err-clause-executed : goal.returns-in-Err-clause-executed
 returns-in-Err-clause-executed g c =
