@@ -2,6 +2,20 @@
 #![tactic(auto)]
 
 #[cfg(test)]
+mod checks;
+#[cfg(test)]
+mod drawn;
+#[cfg(test)]
+mod draws;
+#[cfg(test)]
 mod making;
+#[cfg(test)]
+mod past;
+#[cfg(test)]
+mod plain_copies;
+#[cfg(test)]
+mod plain_lines;
+#[cfg(test)]
+mod two_cubes;
 #[cfg(test)]
 mod worked;
