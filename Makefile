@@ -1,11 +1,15 @@
-# `make demo` runs the program on an example, unproved. `make program` proves and builds it as bin/cubrick. `make bench` proves and builds
-# the program of measures, and prints what each hot path costs per item.
-.PHONY: demo program bench
+# `make demo` runs the program on an example, unproved; `make compare` on a script whose text a model in Python works out. `make program` proves
+# the program and builds it as bin/cubrick. `make bench` proves and builds the program of measures, and prints what each hot path costs per item.
+.PHONY: demo compare program bench
 EXAMPLE = $(CURDIR)/examples
 demo:
 	@echo 'The program runs unproved here (rt try); make program proves and builds it.'
 	@cd crates/cubrick && rt try --data visits.cubes=$(EXAMPLE)/visits.cubes --data visits.sql=$(EXAMPLE)/visits.sql \
 	    --data monday.csv=$(EXAMPLE)/monday.csv --data tuesday.csv=$(EXAMPLE)/tuesday.csv -- visits.cubes visits.sql
+compare:
+	@folder=$$(mktemp -d) && python3 tools/three_cubes $$folder && cd crates/cubrick && \
+	    rt try $$(for it in $$folder/files/*; do echo --data $${it##*/}=$$it; done) -- three_cubes.cubes three_cubes.sql \
+	    > $$folder/written && cmp $$folder/written $$folder/text && echo 'The program, unproved, wrote the text of the model.'
 program:
 	@echo 'Every crate that the program stands on is proved first: from nothing that takes more than an hour on four processors.'
 	@cd crates/cubrick && rt run -- >/dev/null; test -x out/cubrick

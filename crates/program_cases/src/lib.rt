@@ -1,11 +1,6 @@
-//! Cases of the program and of what stands for the world: each module tests one crate through its public calls
-//! alone.
+//! Cases of the program: runs over files and output in memory.
 #![tactic(auto)]
 
-#[cfg(test)]
-mod disks;
-#[cfg(test)]
-mod files;
 #[cfg(test)]
 mod rows;
 #[cfg(test)]

@@ -73,100 +73,106 @@ pub(crate) fn run_of(
     Ok((status, fault, Vec::from_slice(alloc, sink.taken())?))
 }
 
-#[test]
-fn what_is_not_built_is_said(rt: HostRuntime) -> Result<(), Fail> {
-    let alloc = rt.alloc();
-    let watch: &[u8] = b"SELECT SUM(m) FROM t; WATCH SELECT SUM(m) FROM t";
-    for script in [watch, b"SHOW WATCH"] {
-        let (status, fault, text) = run_of(alloc, CUBES, script, b"", &[])?;
-        assert_eq!(rt; status, 4, "{fault}");
-        assert_eq!(rt; fault.as_str(), "not built: script");
-        assert!(rt; text.is_empty());
-    }
-    Ok(())
-}
-
-// How a run over this cubes file and this script ends, and whether it wrote nothing.
-fn refusal(alloc: Global, cubes: &[u8], script: &[u8]) -> Result<(u8, String, bool), AllocError> {
-    let (status, fault, text) = run_of(alloc, cubes, script, b"", &[])?;
-    Ok((status, fault, text.is_empty()))
+// A cubes file and a script that are refused whole, and the fault that says why.
+struct Refused {
+    cubes: &'static [u8],
+    script: &'static [u8],
+    fault: &'static str,
 }
 
 const BROKEN: &[u8] = b"a\xff";
 
-#[test]
-fn cubes_texts_with_a_line_that_is_refused(rt: HostRuntime) -> Result<(), Fail> {
-    for (cubes, wanted) in [
-        (BROKEN, "cubes: NotUtf8 1"),
-        (b"cube t\nmetric m\ncube t\nx", "cubes: BadLine 4"),
-        (b"cube t\nmetric m\n\ncube t", "cubes: DuplicateCube 4"),
-        (
-            b"cube a\ncube b\ncube c\ncube d\ncube e\ncube f\ncube g\ncube h\ncube i\ncube j\ncube k\ncube l\ncube m\ncube n\ncube o\ncube p\ncube q",
-            "cubes: TooManyCubes 17",
-        ),
-    ] {
-        let (status, fault, silent) = refusal(rt.alloc(), cubes, BROKEN)?;
-        assert_eq!(rt; status, 4);
-        assert_eq!(rt; fault.as_str(), wanted);
-        assert!(rt; silent);
-    }
-    Ok(())
-}
+const REFUSED: [Refused; 16] = [
+    Refused {
+        cubes: BROKEN,
+        script: BROKEN,
+        fault: "cubes: NotUtf8 1",
+    },
+    Refused {
+        cubes: b"cube t\nmetric m\ncube t\nx",
+        script: BROKEN,
+        fault: "cubes: BadLine 4",
+    },
+    Refused {
+        cubes: b"cube t\nmetric m\n\ncube t",
+        script: BROKEN,
+        fault: "cubes: DuplicateCube 4",
+    },
+    Refused {
+        cubes: b"cube a\ncube b\ncube c\ncube d\ncube e\ncube f\ncube g\ncube h\ncube i\ncube j\ncube k\ncube l\ncube m\ncube n\ncube o\ncube p\ncube q",
+        script: BROKEN,
+        fault: "cubes: TooManyCubes 17",
+    },
+    Refused {
+        cubes: b"cube t\ndim x int 5 2\nmetric x\n",
+        script: BROKEN,
+        fault: "cubes: Schema t DuplicateName x",
+    },
+    Refused {
+        cubes: b"cube t\ndim x int 5 0\nmetric m\n",
+        script: BROKEN,
+        fault: "cubes: Schema t ZeroCardinality x",
+    },
+    Refused {
+        cubes: b"cube t\ndim x int 5 6\nmetric m\n",
+        script: BROKEN,
+        fault: "cubes: Schema t RangeTooLarge x",
+    },
+    Refused {
+        cubes: b"cube t\ndim x int 4294967295 1\ndim y int 4294967295 1\ndim z int 4294967295 1\nmetric m\n",
+        script: BROKEN,
+        fault: "cubes: Schema t TooManyBricks",
+    },
+    Refused {
+        cubes: b"cube t\nmetric a\nmetric b\nmetric c\nmetric d\nmetric e\nmetric f\nmetric g\nmetric h\nmetric i\nmetric j\nmetric k\nmetric l\nmetric m\nmetric n\nmetric o\nmetric p\nmetric q",
+        script: BROKEN,
+        fault: "cubes: Schema t TooManyColumns",
+    },
+    Refused {
+        cubes: b"cube t\ndim x int 5 5\n",
+        script: BROKEN,
+        fault: "cubes: Schema t NoMetric",
+    },
+    Refused {
+        cubes: CUBES,
+        script: BROKEN,
+        fault: "script 1: NotUtf8 1",
+    },
+    Refused {
+        cubes: CUBES,
+        script: b"FLUSH; \xc3",
+        fault: "script 1: NotUtf8 7",
+    },
+    Refused {
+        cubes: b"",
+        script: b"SHOW WATCH; x",
+        fault: "not built: script",
+    },
+    Refused {
+        cubes: CUBES,
+        script: b"SELECT SUM(m) FROM t; WATCH SELECT SUM(m) FROM t",
+        fault: "not built: script",
+    },
+    Refused {
+        cubes: CUBES,
+        script: b"SHOW WATCH",
+        fault: "not built: script",
+    },
+    Refused {
+        cubes: b"",
+        script: b"SHOW WATCH; \xff",
+        fault: "script 1: NotUtf8 12",
+    },
+];
 
 #[test]
-fn cubes_texts_with_a_column_that_is_refused(rt: HostRuntime) -> Result<(), Fail> {
-    let duplicate: &[u8] = b"cube t\ndim x int 5 2\nmetric x\n";
-    for (cubes, wanted) in [
-        (duplicate, "cubes: Schema t DuplicateName x"),
-        (
-            b"cube t\ndim x int 5 0\nmetric m\n",
-            "cubes: Schema t ZeroCardinality x",
-        ),
-        (
-            b"cube t\ndim x int 5 6\nmetric m\n",
-            "cubes: Schema t RangeTooLarge x",
-        ),
-    ] {
-        let (status, fault, silent) = refusal(rt.alloc(), cubes, BROKEN)?;
-        assert_eq!(rt; status, 4);
-        assert_eq!(rt; fault.as_str(), wanted);
-        assert!(rt; silent);
-    }
-    Ok(())
-}
-
-#[test]
-fn cubes_texts_with_a_cube_that_is_refused(rt: HostRuntime) -> Result<(), Fail> {
-    let bricks: &[u8] =
-        b"cube t\ndim x int 4294967295 1\ndim y int 4294967295 1\ndim z int 4294967295 1\nmetric m\n";
-    for (cubes, wanted) in [
-        (bricks, "cubes: Schema t TooManyBricks"),
-        (
-            b"cube t\nmetric a\nmetric b\nmetric c\nmetric d\nmetric e\nmetric f\nmetric g\nmetric h\nmetric i\nmetric j\nmetric k\nmetric l\nmetric m\nmetric n\nmetric o\nmetric p\nmetric q",
-            "cubes: Schema t TooManyColumns",
-        ),
-        (b"cube t\ndim x int 5 5\n", "cubes: Schema t NoMetric"),
-    ] {
-        let (status, fault, silent) = refusal(rt.alloc(), cubes, BROKEN)?;
-        assert_eq!(rt; status, 4);
-        assert_eq!(rt; fault.as_str(), wanted);
-        assert!(rt; silent);
-    }
-    Ok(())
-}
-
-#[test]
-fn scripts_that_are_refused(rt: HostRuntime) -> Result<(), Fail> {
-    let none: &[u8] = b"";
-    for (cubes, script, wanted) in [
-        (CUBES, BROKEN, "script 1: NotUtf8 1"),
-        (CUBES, b"FLUSH; \xc3", "script 1: NotUtf8 7"),
-        (none, b"SHOW WATCH; x", "not built: script"),
-    ] {
-        let (status, fault, silent) = refusal(rt.alloc(), cubes, script)?;
-        assert_eq!(rt; status, 4);
-        assert_eq!(rt; fault.as_str(), wanted);
-        assert!(rt; silent);
+fn what_is_refused_whole_writes_nothing(rt: HostRuntime) -> Result<(), Fail> {
+    let alloc = rt.alloc();
+    for (place, row) in REFUSED.iter().enumerate() {
+        let (status, fault, text) = run_of(alloc, row.cubes, row.script, b"", &[])?;
+        assert_eq!(rt; status, 4, "row {place}");
+        assert_eq!(rt; fault.as_str(), row.fault, "row {place}");
+        assert!(rt; text.is_empty(), "row {place}");
     }
     Ok(())
 }
@@ -216,54 +222,136 @@ fn more_statements_than_are_allowed(rt: HostRuntime) -> Result<(), Fail> {
     Ok(())
 }
 
+// Words, how the shelf and the sink fail, and how a run ends: its status, its fault and how many bytes were written.
+struct Ending {
+    words: &'static [&'static str],
+    shelf_failing: &'static [u64],
+    room: u64,
+    sink_failing: &'static [u64],
+    status: u8,
+    fault: &'static str,
+    written: usize,
+}
+
+const USAGE: &str = "usage: cubrick CUBES SCRIPT";
+
+const TEXT: &str =
+    "session 1\n1.1 stored 1 epoch 1\n1.2 stored 1 epoch 2\n1.3 rows 1 epoch 2\n5\njournal 8\nbegin 1.1 epoch 1 deps []\ncommitted 1.1 epoch 1\nbegin 1.2 epoch 2 deps []\ncommitted 1.2 epoch 2\nread 1.3 epoch 2\nreadend 1.3\nround 2\nsafe 2\nend ec 3 lce 2 lse 2\n";
+
+const ENDINGS: [Ending; 11] = [
+    Ending {
+        words: &["c"],
+        shelf_failing: &[],
+        room: 1000,
+        sink_failing: &[],
+        status: 2,
+        fault: USAGE,
+        written: 0,
+    },
+    Ending {
+        words: &["c", "s", "s"],
+        shelf_failing: &[],
+        room: 1000,
+        sink_failing: &[],
+        status: 2,
+        fault: USAGE,
+        written: 0,
+    },
+    Ending {
+        words: &["d", "s"],
+        shelf_failing: &[],
+        room: 1000,
+        sink_failing: &[],
+        status: 3,
+        fault: "no file d",
+        written: 0,
+    },
+    Ending {
+        words: &["d", "e"],
+        shelf_failing: &[],
+        room: 1000,
+        sink_failing: &[],
+        status: 3,
+        fault: "no file d",
+        written: 0,
+    },
+    Ending {
+        words: &["c", "d"],
+        shelf_failing: &[],
+        room: 1000,
+        sink_failing: &[],
+        status: 3,
+        fault: "no file d",
+        written: 0,
+    },
+    Ending {
+        words: &["s", "d"],
+        shelf_failing: &[],
+        room: 1000,
+        sink_failing: &[],
+        status: 4,
+        fault: "cubes: BadLine 1",
+        written: 0,
+    },
+    Ending {
+        words: &["c", "s"],
+        shelf_failing: &[0],
+        room: 1000,
+        sink_failing: &[],
+        status: 3,
+        fault: "cannot read c",
+        written: 0,
+    },
+    Ending {
+        words: &["c", "s"],
+        shelf_failing: &[2],
+        room: 1000,
+        sink_failing: &[],
+        status: 3,
+        fault: "cannot read s",
+        written: 0,
+    },
+    Ending {
+        words: &["c", "s"],
+        shelf_failing: &[],
+        room: 1000,
+        sink_failing: &[0],
+        status: 7,
+        fault: "output fault",
+        written: 0,
+    },
+    Ending {
+        words: &["c", "s"],
+        shelf_failing: &[],
+        room: 20,
+        sink_failing: &[],
+        status: 7,
+        fault: "output fault",
+        written: 20,
+    },
+    Ending {
+        words: &["c", "s"],
+        shelf_failing: &[],
+        room: 1000,
+        sink_failing: &[],
+        status: 0,
+        fault: "",
+        written: TEXT.len(),
+    },
+];
+
 #[test]
-fn faults_of_words_files_and_output(rt: HostRuntime) -> Result<(), Fail> {
+fn words_files_and_output_decide_how_a_run_ends(rt: HostRuntime) -> Result<(), Fail> {
     let alloc = rt.alloc();
-    let none: &[u64] = &[];
-    let first: &[u64] = &[0];
-    let third: &[u64] = &[2];
-    let text =
-        "session 1\n1.1 stored 1 epoch 1\n1.2 stored 1 epoch 2\n1.3 rows 1 epoch 2\n5\njournal 8\nbegin 1.1 epoch 1 deps []\ncommitted 1.1 epoch 1\nbegin 1.2 epoch 2 deps []\ncommitted 1.2 epoch 2\nread 1.3 epoch 2\nreadend 1.3\nround 2\nsafe 2\nend ec 3 lce 2 lse 2\n";
-    let two: &[&str] = &["c", "s"];
-    for (place, (words, failing, room, sink_failing, status, wanted, gained)) in [
-        (
-            &["c"] as &[&str],
-            none,
-            1000,
-            none,
-            2,
-            b"usage: cubrick CUBES SCRIPT" as &[u8],
-            0,
-        ),
-        (
-            &["c", "s", "s"],
-            none,
-            1000,
-            none,
-            2,
-            b"usage: cubrick CUBES SCRIPT",
-            0,
-        ),
-        (&["d", "s"], none, 1000, none, 3, b"no file d", 0),
-        (&["d", "e"], none, 1000, none, 3, b"no file d", 0),
-        (&["c", "d"], none, 1000, none, 3, b"no file d", 0),
-        (&["s", "d"], none, 1000, none, 4, b"cubes: BadLine 1", 0),
-        (two, first, 1000, none, 3, b"cannot read c", 0),
-        (two, third, 1000, none, 3, b"cannot read s", 0),
-        (two, none, 1000, first, 7, b"output fault", 0),
-        (two, none, 20, none, 7, b"output fault", 20),
-        (two, none, 1000, none, 0, b"", text.len()),
-    ]
-    .into_iter()
-    .enumerate()
-    {
-        let mut shelf = shelf(alloc, CUBES, SCRIPT, b"", failing)?;
-        let mut sink = SinkMemory::new(alloc, room, Vec::from_slice(alloc, sink_failing)?)?;
-        let (found, fault) = outcome(alloc, words, &mut shelf, &mut sink)?;
-        assert_eq!(rt; found, status, "case {place}");
-        assert_eq!(rt; fault.as_bytes(), wanted, "case {place}");
-        assert!(rt; text.as_bytes().starts_with(sink.taken()), "case {place}");
-        assert_eq!(rt; sink.taken().len(), gained, "case {place}");
+    for (place, row) in ENDINGS.iter().enumerate() {
+        let mut shelf = shelf(alloc, CUBES, SCRIPT, b"", row.shelf_failing)?;
+        let failing = Vec::from_slice(alloc, row.sink_failing)?;
+        let mut sink = SinkMemory::new(alloc, row.room, failing)?;
+        let (status, fault) = outcome(alloc, row.words, &mut shelf, &mut sink)?;
+        assert_eq!(rt; status, row.status, "row {place}");
+        assert_eq!(rt; fault.as_str(), row.fault, "row {place}");
+        assert!(rt; TEXT.as_bytes().starts_with(sink.taken()), "row {place}");
+        assert_eq!(rt; sink.taken().len(), row.written, "row {place}");
     }
     Ok(())
 }
