@@ -42,9 +42,14 @@ impl Model for Register {
 
     ghost use Rattle.aosi_register.specs.Fits.{contents, FitsJournal, HasRoomFor};
 
-    ghost view = { λ r. record { safe = r.safe; sessions = r.sessions; journal = r.fields.journal.items } };
+    ghost view = { λ r. record {
+      safe = r.safe;
+      sessions = r.sessions;
+      journal = r.fields.journal.items;
+    } };
 
-    ghost invariant = { λ r. FitsJournal (contents r.fields) r.sessions r.safe × HasRoomFor r.fields 0 };
+    ghost invariant = { λ r. FitsJournal (contents r.fields) r.sessions r.safe
+        × HasRoomFor r.fields 0 };
 }
 
 impl Register {

@@ -49,13 +49,13 @@ abbrev pub metric_at : ℕ → BrickRow → ℤ
 metric_at m row = slice_index_or row.metrics m (pos 0)
 
 -- A row by its coordinates, as a row by its offsets from the first coordinate of the brick in each dimension.
-abbrev pub row_from : List ℕ → CodedRow → BrickRow
-row_from starts row = record { offsets = differences row.coords starts; metrics = row.metrics }
+abbrev pub offset_row : List ℕ → CodedRow → BrickRow
+offset_row starts row = record { offsets = differences row.coords starts; metrics = row.metrics }
 
 -- No coordinate of a row lies below the start of its dimension, and the row by its offsets is of the layout.
 pub record LiesFrom (layout : Layout) (starts : List ℕ) (row : CodedRow) : Type 0 where
   pub above : AllZip ◌≤◌ starts row.coords
-  pub inside : IsBrickRow layout (row_from starts row)
+  pub inside : IsBrickRow layout (offset_row starts row)
 
 -- The rows from one place up to another.
 abbrev pub rows_between : ℕ → ℕ → List CodedRow → List CodedRow

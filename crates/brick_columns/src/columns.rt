@@ -5,7 +5,7 @@ ghost use Rattle.std.specs.List.{AllZip, items_where_true};
 ghost use Rattle.cube_values.specs.Rooms.{grown_room};
 ghost use Rattle.cube_values.specs.Shapes.{IsSoundShape};
 ghost use Rattle.packed_words.specs.Rows.{AreWords};
-ghost use Rattle.brick_columns.specs.Rows.{layout_of, IsBrickRow, IsWidth, LiesFrom, row_at, row_from, rows_between, offset_at, metric_at};
+ghost use Rattle.brick_columns.specs.Rows.{layout_of, IsBrickRow, IsWidth, LiesFrom, row_at, offset_row, rows_between, offset_at, metric_at};
 
 use crate::lists::{empty_lists, keep_each, push_each, reserve_each};
 use cube_values::{Bits, CodedRows, Shape, Size, grown_room};
@@ -104,7 +104,7 @@ impl Columns {
             (rows_between from to batch.now.rows) }
         ensures layout { self.new.layout ≡ self.old.layout }
         ensures rows { self.new.rows
-            ≡ self.old.rows ++ map (row_from starts.now) (rows_between from to batch.now.rows) }
+            ≡ self.old.rows ++ map (offset_row starts.now) (rows_between from to batch.now.rows) }
         ensures spare { self.new.spare + (to - from) ≡ self.old.spare }
     {
         'rows: for i in from..to {
@@ -119,7 +119,7 @@ impl Columns {
             (record { coords = coords.now; metrics = metrics.now }) }
         ensures layout { self.new.layout ≡ self.old.layout }
         ensures rows { self.new.rows ≡ self.old.rows
-            ++ row_from starts.now (record { coords = coords.now; metrics = metrics.now }) ∷ [] }
+            ++ offset_row starts.now (record { coords = coords.now; metrics = metrics.now }) ∷ [] }
         ensures spare { self.new.spare + 1 ≡ self.old.spare }
     {
         self.offsets.push_differences(coords, starts);

@@ -11,7 +11,7 @@ use Rattle.brick_store.specs.Bricks.{Home, BrickState, IsRowOf}
 use Rattle.brick_map.specs.declared.runs.BatchRun.{BatchRun}
 use Rattle.brick_map.specs.Appended.{AreAppended, content_numbered}
 use Rattle.brick_map.specs.Batches.{AreRuns, IsRowOfCube, IsRunFrom, has_run, rows_for, run_at, runs_for}
-use Rattle.brick_map.specs.Births.{BrickContent, brick_numbered, content_of, content_with_rows, rows_count, rows_of_brick}
+use Rattle.brick_map.specs.Births.{BrickContent, brick_numbered, content_of_brick, content_with_rows, rows_count, rows_of_brick}
 use Rattle.brick_map.specs.Lists.{IsBrickOf, TakesRows, brick_with_rows, bricks_with, spare_entries_at, spare_rows_at}
 use Rattle.brick_map.specs.Waiting.{IsReadyFor}
 use Rattle.brick_map.proofs.Counts.{all_with, count_with, numbered_holds}
@@ -134,8 +134,8 @@ between_more shape epoch rows old now run left at own h = record {
   counted = count_with run.number (length (rows_between run.from run.to rows)) (brick_with_rows epoch (rows_between run.from run.to rows)) now has_taker.brick (λ b. length-append b.rows (rows_between run.from run.to rows)) has_taker.there
 
   each : (n : ℕ) → content_numbered n (bricks_with run.number (brick_with_rows epoch (rows_between run.from run.to rows)) now) ≡ cond (n == run.number) (option_map (content_with_rows epoch (rows_between run.from run.to rows)) (content_numbered n now)) (content_numbered n now)
-  each n = ap (option_map content_of) (numbered_with n run.number (brick_with_rows epoch (rows_between run.from run.to rows)) now (λ b. refl)) ∙ by_cases (n == run.number) (brick_numbered n now) where
-    by_cases : (t : Bool) (o : Option BrickState) → option_map content_of (cond t (option_map (brick_with_rows epoch (rows_between run.from run.to rows)) o) o) ≡ cond t (option_map (content_with_rows epoch (rows_between run.from run.to rows)) (option_map content_of o)) (option_map content_of o)
+  each n = ap (option_map content_of_brick) (numbered_with n run.number (brick_with_rows epoch (rows_between run.from run.to rows)) now (λ b. refl)) ∙ by_cases (n == run.number) (brick_numbered n now) where
+    by_cases : (t : Bool) (o : Option BrickState) → option_map content_of_brick (cond t (option_map (brick_with_rows epoch (rows_between run.from run.to rows)) o) o) ≡ cond t (option_map (content_with_rows epoch (rows_between run.from run.to rows)) (option_map content_of_brick o)) (option_map content_of_brick o)
     by_cases true None = refl
     by_cases true (Some b) = ap Some (taken epoch (rows_between run.from run.to rows) b some)
     by_cases false o = refl

@@ -15,8 +15,8 @@ use Rattle.brick_columns.specs.Rows.{rows_between}
 use Rattle.brick_store.specs.Bricks.{BrickState}
 use Rattle.brick_store.proofs.Folds.{filter_none}
 use Rattle.brick_map.specs.declared.runs.BatchRun.{BatchRun}
-use Rattle.brick_map.specs.Batches.{AreRuns, AreRunsOver, IsRunFrom, RiseFrom, has_run, rows_for, run_at, runs_for}
-use Rattle.brick_map.specs.Births.{BrickContent, content_of, content_with_rows, rows_of_brick}
+use Rattle.brick_map.specs.Batches.{AreRuns, AreRunsOver, IsRunFrom, RunsRiseFrom, has_run, rows_for, run_at, runs_for}
+use Rattle.brick_map.specs.Births.{BrickContent, content_of_brick, content_with_rows, rows_of_brick}
 use Rattle.brick_map.specs.Lists.{brick_with_rows}
 use Rattle.brick_map.proofs.Births.{behind}
 
@@ -56,7 +56,7 @@ not_number a b l = grind (arith, nat_tests)
 own_number : (a : ℕ) → (a == a) ≡ true
 own_number a = grind (arith, nat_tests)
 
-none_below : (number low : ℕ) (runs : List BatchRun) → number < low → RiseFrom low runs → HasNoRun number runs
+none_below : (number low : ℕ) (runs : List BatchRun) → number < low → RunsRiseFrom low runs → HasNoRun number runs
 none_below number low [] l h = record { rows = refl; count = refl }
 none_below number low (run ∷ runs) l h =
     let first : number < run.number = omega (arith, h.0) in
@@ -67,7 +67,7 @@ none_below number low (run ∷ runs) l h =
       count = ap (λ t. cond t (1 + runs_for number runs) (runs_for number runs)) test ∙ rest.count;
     }
 
-low_number : (low i : ℕ) (runs : List BatchRun) → i < length runs → RiseFrom low runs → low ≤ (run_at runs i).number
+low_number : (low i : ℕ) (runs : List BatchRun) → i < length runs → RunsRiseFrom low runs → low ≤ (run_at runs i).number
 low_number low i [] l h = absurd (omega arith)
 low_number low zero (run ∷ runs) l h = h.0
 low_number low (suc i) (run ∷ runs) l h =
@@ -78,7 +78,7 @@ pub record HasOneRun (runs : List BatchRun) (run : BatchRun) : Type 0 where
   pub rows : rows_for run.number runs ≡ run.to - run.from
   pub count : runs_for run.number runs ≡ 1
 
-pub one_run : (low i : ℕ) (runs : List BatchRun) → i < length runs → RiseFrom low runs → HasOneRun runs (run_at runs i)
+pub one_run : (low i : ℕ) (runs : List BatchRun) → i < length runs → RunsRiseFrom low runs → HasOneRun runs (run_at runs i)
 one_run low i [] l h = absurd (omega arith)
 one_run low zero (run ∷ runs) l h =
     let rest = none_below run.number (run.number + 1) runs (omega arith) h.1 in
@@ -174,7 +174,7 @@ no_rows sizes rows from number (run ∷ runs) h e = by_test (λ f. no_rows sizes
       ∙ (λ t. (rows_of_run sizes number run.number (rows_between run.from run.to rows) h.0.of_brick ∙ ap (λ t. cond t (rows_between run.from run.to rows) []) (flip run.number number k)) t ++ again f t)
 
 -- what a brick has after rows that it takes
-pub taken : (epoch : ℕ) (rows : List CodedRow) (b : BrickState) → 0 < length rows → content_of (brick_with_rows epoch rows b) ≡ content_with_rows epoch rows (content_of b)
+pub taken : (epoch : ℕ) (rows : List CodedRow) (b : BrickState) → 0 < length rows → content_of_brick (brick_with_rows epoch rows b) ≡ content_with_rows epoch rows (content_of_brick b)
 taken epoch [] b l = absurd (omega arith)
 taken epoch (row ∷ rows) b l = refl
 
@@ -185,12 +185,12 @@ runs_put sizes rows from runs more run e before is tail after =
     subst (AreRuns sizes rows 0) (sym joined) (before (run ∷ tail) (is, after))
 
 -- numbers that rise so far
-pub rise_more : (runs : List BatchRun) (i low : ℕ) → i < length runs → ((tail : List BatchRun) → RiseFrom low tail → RiseFrom 0 (take i runs ++ tail)) → low ≤ (run_at runs i).number → (tail : List BatchRun) → RiseFrom ((run_at runs i).number + 1) tail → RiseFrom 0 (take (i + 1) runs ++ tail)
+pub rise_more : (runs : List BatchRun) (i low : ℕ) → i < length runs → ((tail : List BatchRun) → RunsRiseFrom low tail → RunsRiseFrom 0 (take i runs ++ tail)) → low ≤ (run_at runs i).number → (tail : List BatchRun) → RunsRiseFrom ((run_at runs i).number + 1) tail → RunsRiseFrom 0 (take (i + 1) runs ++ tail)
 rise_more runs i low l before least tail after =
     let d : BatchRun = record { number = 0; from = 0; to = 0 } in
     let run = run_at runs i in
     let joined : take (i + 1) runs ++ tail ≡ take i runs ++ run ∷ tail = ap (λ (l : List BatchRun). l ++ tail) (take_more runs i d l) ∙ append_assoc (take i runs) (run ∷ []) tail in
-    subst (RiseFrom 0) (sym joined) (before (run ∷ tail) (least, after))
+    subst (RunsRiseFrom 0) (sym joined) (before (run ∷ tail) (least, after))
 
 pub run_there : (rows from i : ℕ) (runs : List BatchRun) → i < length runs → AreRunsOver rows from runs → (run_at runs i).from < (run_at runs i).to
 run_there rows from i [] l h = absurd (omega arith)

@@ -18,7 +18,7 @@ use Rattle.brick_map.specs.declared.deletion.Deletion.{Deletion}
 use Rattle.brick_map.specs.declared.runs.BatchRun.{BatchRun}
 use Rattle.brick_map.specs.Appended.{AreAppended}
 use Rattle.brick_map.specs.Batches.{AreRuns, has_run, runs_for}
-use Rattle.brick_map.specs.Births.{BrickContent, brick_numbered, content_among, content_of, content_purged, content_with_mark, content_with_rows, content_without, has_brick, newborn, rows_of_brick}
+use Rattle.brick_map.specs.Births.{BrickContent, brick_numbered, content_among, content_of_brick, content_purged, content_with_mark, content_with_rows, content_without, has_brick, newborn, rows_of_brick}
 use Rattle.brick_map.specs.Lists.{HasSame, IsBrickOf, OwnsRows, brick_after_deletion, brick_purged, brick_with_mark, brick_without, spare_entries_at}
 use Rattle.brick_map.specs.Places.{numbers_of_bricks}
 use Rattle.brick_map.specs.Waiting.{IsReadyFor}
@@ -46,14 +46,14 @@ appended_among shape recent epoch number rows runs old new are ready h =
           let spare : spare_entries_at number old ≡ 0 = ap (λ (o : Option BrickState). option_map_or (λ b. b.spare_entries) o 0) there in
           absurd (omega (arith, room, spare, has_some number runs e))
 
-      by_option : (o : Option BrickState) → brick_numbered number old ≡ o → unwrap_or (option_map (content_with_rows epoch (rows_of_brick shape.shape.sizes number rows)) (option_map content_of o)) (newborn shape.shape.sizes recent number) ≡ (content_with_rows epoch (rows_of_brick shape.shape.sizes number rows)) (option_map_or content_of o (newborn shape.shape.sizes recent number))
+      by_option : (o : Option BrickState) → brick_numbered number old ≡ o → unwrap_or (option_map (content_with_rows epoch (rows_of_brick shape.shape.sizes number rows)) (option_map content_of_brick o)) (newborn shape.shape.sizes recent number) ≡ (content_with_rows epoch (rows_of_brick shape.shape.sizes number rows)) (option_map_or content_of_brick o (newborn shape.shape.sizes recent number))
       by_option (Some b) e = refl
       by_option None e = sym (ap (λ l. content_with_rows epoch l (newborn shape.shape.sizes recent number)) (none e (has_run number runs) refl))
 
 -- a box is deleted
 pub deleted_among : (shape : CubeShape) (recent : List Deletion) (d : Deletion) (number : ℕ) (old ready : List BrickState) → AllZip HasSame old ready → All (IsBrickOf shape) ready → content_among shape.shape.sizes (recent ++ d ∷ []) (map (brick_after_deletion shape.shape.sizes d.span d.epoch) ready) number ≡ cond (has_brick shape.shape.sizes d.span number) (content_with_mark d.epoch (content_among shape.shape.sizes recent old number)) (content_among shape.shape.sizes recent old number)
 deleted_among shape recent d number old ready same all =
-    ap (λ o. option_map_or content_of o (newborn shape.shape.sizes (recent ++ d ∷ []) number)) (numbered_map number (brick_after_deletion shape.shape.sizes d.span d.epoch) ready keeps)
+    ap (λ o. option_map_or content_of_brick o (newborn shape.shape.sizes (recent ++ d ∷ []) number)) (numbered_map number (brick_after_deletion shape.shape.sizes d.span d.epoch) ready keeps)
     ∙ by_option (brick_numbered number ready) refl
     ∙ ap (λ c. cond (has_brick shape.shape.sizes d.span number) (content_with_mark d.epoch c) c) (content_is shape.shape.sizes recent ready number ∙ ap (λ o. unwrap_or o (newborn shape.shape.sizes recent number)) (same_content number old ready same) ∙ sym (content_is shape.shape.sizes recent old number)) where
       keeps : (b : BrickState) → ((brick_after_deletion shape.shape.sizes d.span d.epoch) b).home.number ≡ b.home.number
@@ -62,30 +62,30 @@ deleted_among shape recent d number old ready same all =
         by_test true = refl
         by_test false = refl
 
-      of_brick : (b : BrickState) (n : ℕ) → b.home.number ≡ n → content_of ((brick_after_deletion shape.shape.sizes d.span d.epoch) b) ≡ cond (has_brick shape.shape.sizes d.span n) (content_with_mark d.epoch (content_of b)) (content_of b)
-      of_brick b n e = by_test (has_brick shape.shape.sizes d.span b.home.number) ∙ ap (λ n. cond (has_brick shape.shape.sizes d.span n) (content_with_mark d.epoch (content_of b)) (content_of b)) e where
-        by_test : (t : Bool) → content_of (cond t (brick_with_mark d.epoch b) b) ≡ cond t (content_with_mark d.epoch (content_of b)) (content_of b)
+      of_brick : (b : BrickState) (n : ℕ) → b.home.number ≡ n → content_of_brick ((brick_after_deletion shape.shape.sizes d.span d.epoch) b) ≡ cond (has_brick shape.shape.sizes d.span n) (content_with_mark d.epoch (content_of_brick b)) (content_of_brick b)
+      of_brick b n e = by_test (has_brick shape.shape.sizes d.span b.home.number) ∙ ap (λ n. cond (has_brick shape.shape.sizes d.span n) (content_with_mark d.epoch (content_of_brick b)) (content_of_brick b)) e where
+        by_test : (t : Bool) → content_of_brick (cond t (brick_with_mark d.epoch b) b) ≡ cond t (content_with_mark d.epoch (content_of_brick b)) (content_of_brick b)
         by_test true = refl
         by_test false = refl
 
-      by_option : (o : Option BrickState) → brick_numbered number ready ≡ o → option_map_or content_of (option_map (brick_after_deletion shape.shape.sizes d.span d.epoch) o) (newborn shape.shape.sizes (recent ++ d ∷ []) number) ≡ cond (has_brick shape.shape.sizes d.span number) (content_with_mark d.epoch (option_map_or content_of o (newborn shape.shape.sizes recent number))) (option_map_or content_of o (newborn shape.shape.sizes recent number))
+      by_option : (o : Option BrickState) → brick_numbered number ready ≡ o → option_map_or content_of_brick (option_map (brick_after_deletion shape.shape.sizes d.span d.epoch) o) (newborn shape.shape.sizes (recent ++ d ∷ []) number) ≡ cond (has_brick shape.shape.sizes d.span number) (content_with_mark d.epoch (option_map_or content_of_brick o (newborn shape.shape.sizes recent number))) (option_map_or content_of_brick o (newborn shape.shape.sizes recent number))
       by_option None e = born_deleted shape.shape.sizes recent d number
       by_option (Some b) e = of_brick b number (numbered_holds (IsBrickOf shape) number ready b all e).1
 
 -- an epoch is taken back, and what no snapshot needs is taken out
 pub without_among : (sizes : List Size) (recent : List Deletion) (epoch number : ℕ) (bricks : List BrickState) → content_among sizes (filter (λ d. not (d.epoch == epoch)) recent) (map (brick_without epoch) bricks) number ≡ content_without epoch (content_among sizes recent bricks number)
 without_among sizes recent epoch number bricks =
-    ap (λ o. option_map_or content_of o (newborn sizes (filter (λ d. not (d.epoch == epoch)) recent) number)) (numbered_map number (brick_without epoch) bricks (λ b. refl))
+    ap (λ o. option_map_or content_of_brick o (newborn sizes (filter (λ d. not (d.epoch == epoch)) recent) number)) (numbered_map number (brick_without epoch) bricks (λ b. refl))
     ∙ by_option (brick_numbered number bricks) where
-      by_option : (o : Option BrickState) → option_map_or content_of (option_map (brick_without epoch) o) (newborn sizes (filter (λ d. not (d.epoch == epoch)) recent) number) ≡ content_without epoch (option_map_or content_of o (newborn sizes recent number))
+      by_option : (o : Option BrickState) → option_map_or content_of_brick (option_map (brick_without epoch) o) (newborn sizes (filter (λ d. not (d.epoch == epoch)) recent) number) ≡ content_without epoch (option_map_or content_of_brick o (newborn sizes recent number))
       by_option None = born_without sizes recent epoch number
       by_option (Some b) = refl
 
 pub purged_among : (sizes : List Size) (recent : List Deletion) (epoch number : ℕ) (bricks : List BrickState) → content_among sizes (filter (λ d. not (nat_le d.epoch epoch)) recent) (map (brick_purged epoch) bricks) number ≡ content_purged epoch (content_among sizes recent bricks number)
 purged_among sizes recent epoch number bricks =
-    ap (λ o. option_map_or content_of o (newborn sizes (filter (λ d. not (nat_le d.epoch epoch)) recent) number)) (numbered_map number (brick_purged epoch) bricks (λ b. refl))
+    ap (λ o. option_map_or content_of_brick o (newborn sizes (filter (λ d. not (nat_le d.epoch epoch)) recent) number)) (numbered_map number (brick_purged epoch) bricks (λ b. refl))
     ∙ by_option (brick_numbered number bricks) where
-      by_option : (o : Option BrickState) → option_map_or content_of (option_map (brick_purged epoch) o) (newborn sizes (filter (λ d. not (nat_le d.epoch epoch)) recent) number) ≡ content_purged epoch (option_map_or content_of o (newborn sizes recent number))
+      by_option : (o : Option BrickState) → option_map_or content_of_brick (option_map (brick_purged epoch) o) (newborn sizes (filter (λ d. not (nat_le d.epoch epoch)) recent) number) ≡ content_purged epoch (option_map_or content_of_brick o (newborn sizes recent number))
       by_option None = born_purged sizes recent epoch number
       by_option (Some b) = refl
 
@@ -137,7 +137,7 @@ module _ (sizes : List Size) (span : Span) (bits : List Entry → List Bool) whe
       filter-append (λ row. brick_of sizes row.coords == number) (shown b) (found bricks)
       ∙ ap (λ l. l ++ rows_of_brick sizes number (found bricks)) (shown_of shape number b e (All-head (IsBrickOf shape) b bricks all) (All-head OwnsRows b bricks own))
       ∙ by_test (found_in shape recent number bricks e (All-tail (IsBrickOf shape) b bricks all) (All-tail OwnsRows b bricks own) apart.1) (b.home.number == number) refl where
-        by_test : rows_of_brick sizes number (found bricks) ≡ seen (content_among sizes recent bricks number) → (t : Bool) → (b.home.number == number) ≡ t → cond (number == b.home.number) (shown b) [] ++ rows_of_brick sizes number (found bricks) ≡ seen (option_map_or content_of (cond t (Some b) (brick_numbered number bricks)) (newborn sizes recent number))
+        by_test : rows_of_brick sizes number (found bricks) ≡ seen (content_among sizes recent bricks number) → (t : Bool) → (b.home.number == number) ≡ t → cond (number == b.home.number) (shown b) [] ++ rows_of_brick sizes number (found bricks) ≡ seen (option_map_or content_of_brick (cond t (Some b) (brick_numbered number bricks)) (newborn sizes recent number))
         by_test again true h =
             (λ t. cond (is_other b.home.number number h t) (shown b) [] ++ none_found shape number bricks e (All-tail (IsBrickOf shape) b bricks all) (All-tail OwnsRows b bricks own) (others_apart b.home.number number (numbers_of_bricks bricks) h apart.0) t)
             ∙ append-nil (shown b)

@@ -11,7 +11,7 @@ use Rattle.cube_values.specs.Shapes.{bricks_of}
 use Rattle.brick_store.specs.Bricks.{Home, BrickState}
 use Rattle.brick_map.specs.declared.deletion.Deletion.{Deletion}
 use Rattle.brick_map.specs.Appended.{content_numbered}
-use Rattle.brick_map.specs.Births.{brick_numbered, content_among, content_of, newborn, rows_count}
+use Rattle.brick_map.specs.Births.{brick_numbered, content_among, content_of_brick, newborn, rows_count}
 use Rattle.brick_map.specs.Lists.{HasSame, IsBrickOf, bricks_with}
 use Rattle.brick_map.specs.Places.{numbers_of_bricks}
 use Rattle.brick_map.proofs.Lists.{KeepsNumber}
@@ -103,9 +103,9 @@ same_content number [] [] h = refl
 same_content number [] (y ∷ new) h = absurd h
 same_content number (x ∷ old) [] h = absurd h
 same_content number (x ∷ old) (y ∷ new) h =
-    ap (λ n. option_map content_of (cond (n == number) (Some y) (brick_numbered number new))) (λ t. (h.0.home t).number)
+    ap (λ n. option_map content_of_brick (cond (n == number) (Some y) (brick_numbered number new))) (λ t. (h.0.home t).number)
     ∙ by_test (same_content number old new h.1) (x.home.number == number) where
-      by_test : content_numbered number new ≡ content_numbered number old → (t : Bool) → option_map content_of (cond t (Some y) (brick_numbered number new)) ≡ option_map content_of (cond t (Some x) (brick_numbered number old))
+      by_test : content_numbered number new ≡ content_numbered number old → (t : Bool) → option_map content_of_brick (cond t (Some y) (brick_numbered number new)) ≡ option_map content_of_brick (cond t (Some x) (brick_numbered number old))
       by_test again true = λ t. Some (record { rows = h.0.rows t; entries = h.0.entries t })
       by_test again false = again
 
@@ -124,6 +124,6 @@ same_bricks shape (x ∷ old) (y ∷ new) h all =
 -- what a brick has, there or not
 pub content_is : (sizes : List Size) (recent : List Deletion) (bricks : List BrickState) (number : ℕ) → content_among sizes recent bricks number ≡ unwrap_or (content_numbered number bricks) (newborn sizes recent number)
 content_is sizes recent bricks number = by_option (brick_numbered number bricks) where
-  by_option : (o : Option BrickState) → option_map_or content_of o (newborn sizes recent number) ≡ unwrap_or (option_map content_of o) (newborn sizes recent number)
+  by_option : (o : Option BrickState) → option_map_or content_of_brick o (newborn sizes recent number) ≡ unwrap_or (option_map content_of_brick o) (newborn sizes recent number)
   by_option None = refl
   by_option (Some b) = refl

@@ -5,14 +5,14 @@ use Rattle.std.proofs.lemmas.Bool.Decides.{nat_tests}
 use Rattle.brick_store.specs.Bricks.{BrickState}
 use Rattle.brick_map.specs.Births.{brick_numbered}
 use Rattle.brick_map.specs.Lists.{bricks_with}
-use Rattle.brick_map.specs.Places.{place_of, numbers_of_bricks}
+use Rattle.brick_map.specs.Places.{brick_place, numbers_of_bricks}
 
 -- A change that keeps the number.
 abbrev pub KeepsNumber : (BrickState → BrickState) → Type 0
 KeepsNumber change = (b : BrickState) → (change b).home.number ≡ b.home.number
 
 -- the place of a number depends on the numbers alone
-pub place_by_numbers : (number : ℕ) (a b : List BrickState) → numbers_of_bricks a ≡ numbers_of_bricks b → place_of number a ≡ place_of number b
+pub place_by_numbers : (number : ℕ) (a b : List BrickState) → numbers_of_bricks a ≡ numbers_of_bricks b → brick_place number a ≡ brick_place number b
 place_by_numbers number [] [] e = refl
 place_by_numbers number [] (y ∷ b) e = cc
 place_by_numbers number (x ∷ a) [] e = cc
@@ -27,10 +27,10 @@ pub record StandsAt (number : ℕ) (bricks : List BrickState) (place : ℕ) : Ty
   pub is : (d : BrickState) → brick_numbered number bricks ≡ Some (get_or bricks place d)
   pub change : (change : BrickState → BrickState) (d : BrickState) → set bricks place (change (get_or bricks place d)) ≡ bricks_with number change bricks
 
-pub stands : (number : ℕ) (bricks : List BrickState) (place : ℕ) → place_of number bricks ≡ Some place → StandsAt number bricks place
+pub stands : (number : ℕ) (bricks : List BrickState) (place : ℕ) → brick_place number bricks ≡ Some place → StandsAt number bricks place
 stands number [] place e = cc
 stands number (b ∷ bricks) place e = by_test (λ q there. stands number bricks q there) (b.home.number == number) refl e where
-  by_option : ((q : ℕ) → place_of number bricks ≡ Some q → StandsAt number bricks q) → (o : Option ℕ) → place_of number bricks ≡ o → (b.home.number == number) ≡ false → option_map suc o ≡ Some place → StandsAt number (b ∷ bricks) place
+  by_option : ((q : ℕ) → brick_place number bricks ≡ Some q → StandsAt number bricks q) → (o : Option ℕ) → brick_place number bricks ≡ o → (b.home.number == number) ≡ false → option_map suc o ≡ Some place → StandsAt number (b ∷ bricks) place
   by_option again None there h e = cc
   by_option again (Some q) there h e =
       let is_next : suc q ≡ place = cc in
@@ -41,7 +41,7 @@ stands number (b ∷ bricks) place e = by_test (λ q there. stands number bricks
         change = λ change d. ap (λ l. b ∷ l) (rest.change change d) ∙ sym (ap (λ t. cond t (change b ∷ bricks) (b ∷ bricks_with number change bricks)) h);
       })
 
-  by_test : ((q : ℕ) → place_of number bricks ≡ Some q → StandsAt number bricks q) → (t : Bool) → (b.home.number == number) ≡ t → cond t (Some 0) (option_map suc (place_of number bricks)) ≡ Some place → StandsAt number (b ∷ bricks) place
+  by_test : ((q : ℕ) → brick_place number bricks ≡ Some q → StandsAt number bricks q) → (t : Bool) → (b.home.number == number) ≡ t → cond t (Some 0) (option_map suc (brick_place number bricks)) ≡ Some place → StandsAt number (b ∷ bricks) place
   by_test again true h e =
       let is_first : 0 ≡ place = cc in
       subst (StandsAt number (b ∷ bricks)) is_first (record {
@@ -49,7 +49,7 @@ stands number (b ∷ bricks) place e = by_test (λ q there. stands number bricks
         is = λ d. ap (λ t. cond t (Some b) (brick_numbered number bricks)) h;
         change = λ change d. sym (ap (λ t. cond t (change b ∷ bricks) (b ∷ bricks_with number change bricks)) h);
       })
-  by_test again false h e = by_option again (place_of number bricks) refl h e
+  by_test again false h e = by_option again (brick_place number bricks) refl h e
 
 -- where it has none, no brick has it
 pub record IsAbsent (number : ℕ) (bricks : List BrickState) : Type 0 where
@@ -60,10 +60,10 @@ pub record IsAbsent (number : ℕ) (bricks : List BrickState) : Type 0 where
 other_way : (a b : ℕ) → (a == b) ≡ false → (b == a) ≡ false
 other_way a b h = grind (arith, nat_tests)
 
-pub absent : (number : ℕ) (bricks : List BrickState) → place_of number bricks ≡ None → IsAbsent number bricks
+pub absent : (number : ℕ) (bricks : List BrickState) → brick_place number bricks ≡ None → IsAbsent number bricks
 absent number [] e = record { none = refl; unchanged = λ change. refl; among = refl }
 absent number (b ∷ bricks) e = by_test (λ there. absent number bricks there) (b.home.number == number) refl e where
-  by_option : (place_of number bricks ≡ None → IsAbsent number bricks) → (o : Option ℕ) → place_of number bricks ≡ o → (b.home.number == number) ≡ false → option_map suc o ≡ None → IsAbsent number (b ∷ bricks)
+  by_option : (brick_place number bricks ≡ None → IsAbsent number bricks) → (o : Option ℕ) → brick_place number bricks ≡ o → (b.home.number == number) ≡ false → option_map suc o ≡ None → IsAbsent number (b ∷ bricks)
   by_option again (Some q) there h e = cc
   by_option again None there h e =
       let rest = again there in
@@ -73,43 +73,43 @@ absent number (b ∷ bricks) e = by_test (λ there. absent number bricks there) 
         among = ap (λ t. t || list_any (nat_eq number) (numbers_of_bricks bricks)) (other_way b.home.number number h) ∙ rest.among;
       }
 
-  by_test : (place_of number bricks ≡ None → IsAbsent number bricks) → (t : Bool) → (b.home.number == number) ≡ t → cond t (Some 0) (option_map suc (place_of number bricks)) ≡ None → IsAbsent number (b ∷ bricks)
+  by_test : (brick_place number bricks ≡ None → IsAbsent number bricks) → (t : Bool) → (b.home.number == number) ≡ t → cond t (Some 0) (option_map suc (brick_place number bricks)) ≡ None → IsAbsent number (b ∷ bricks)
   by_test again true h e = cc
-  by_test again false h e = by_option again (place_of number bricks) refl h e
+  by_test again false h e = by_option again (brick_place number bricks) refl h e
 
 -- a brick of another number than all others is born
-not_first : (number : ℕ) (b : BrickState) (bricks : List BrickState) → place_of number (b ∷ bricks) ≡ None → (b.home.number == number) ≡ false
+not_first : (number : ℕ) (b : BrickState) (bricks : List BrickState) → brick_place number (b ∷ bricks) ≡ None → (b.home.number == number) ≡ false
 not_first number b bricks e = by_test (b.home.number == number) refl e where
-  by_test : (t : Bool) → (b.home.number == number) ≡ t → cond t (Some 0) (option_map suc (place_of number bricks)) ≡ None → (b.home.number == number) ≡ false
+  by_test : (t : Bool) → (b.home.number == number) ≡ t → cond t (Some 0) (option_map suc (brick_place number bricks)) ≡ None → (b.home.number == number) ≡ false
   by_test true h e = cc
   by_test false h e = h
 
-not_later : (number : ℕ) (b : BrickState) (bricks : List BrickState) → place_of number (b ∷ bricks) ≡ None → place_of number bricks ≡ None
-not_later number b bricks e = by_option (place_of number bricks) refl (sym (ap (λ t. cond t (Some 0) (option_map suc (place_of number bricks))) (not_first number b bricks e)) ∙ e) where
-  by_option : (o : Option ℕ) → place_of number bricks ≡ o → option_map suc o ≡ None → place_of number bricks ≡ None
+not_later : (number : ℕ) (b : BrickState) (bricks : List BrickState) → brick_place number (b ∷ bricks) ≡ None → brick_place number bricks ≡ None
+not_later number b bricks e = by_option (brick_place number bricks) refl (sym (ap (λ t. cond t (Some 0) (option_map suc (brick_place number bricks))) (not_first number b bricks e)) ∙ e) where
+  by_option : (o : Option ℕ) → brick_place number bricks ≡ o → option_map suc o ≡ None → brick_place number bricks ≡ None
   by_option None h e = h
   by_option (Some q) h e = cc
 
 apart : (a b m : ℕ) → (a == b) ≡ false → (a == m) ≡ true → (b == m) ≡ false
 apart a b m h k = grind (arith, nat_tests)
 
-pub numbered_born : (number : ℕ) (bricks : List BrickState) (b : BrickState) → place_of b.home.number bricks ≡ None → brick_numbered number (bricks ++ b ∷ []) ≡ cond (b.home.number == number) (Some b) (brick_numbered number bricks)
+pub numbered_born : (number : ℕ) (bricks : List BrickState) (b : BrickState) → brick_place b.home.number bricks ≡ None → brick_numbered number (bricks ++ b ∷ []) ≡ cond (b.home.number == number) (Some b) (brick_numbered number bricks)
 numbered_born number [] b e = refl
 numbered_born number (x ∷ bricks) b e = by_test (numbered_born number bricks b (not_later b.home.number x bricks e)) (x.home.number == number) refl where
   by_test : brick_numbered number (bricks ++ b ∷ []) ≡ cond (b.home.number == number) (Some b) (brick_numbered number bricks) → (t : Bool) → (x.home.number == number) ≡ t → cond t (Some x) (brick_numbered number (bricks ++ b ∷ [])) ≡ cond (b.home.number == number) (Some b) (cond t (Some x) (brick_numbered number bricks))
   by_test again true h = sym (ap (λ t. cond t (Some b) (Some x)) (apart x.home.number b.home.number number (not_first b.home.number x bricks e) h))
   by_test again false h = again
 
-pub place_born : (number : ℕ) (bricks : List BrickState) (b : BrickState) → place_of b.home.number bricks ≡ None → place_of number (bricks ++ b ∷ []) ≡ cond (b.home.number == number) (Some (length bricks)) (place_of number bricks)
+pub place_born : (number : ℕ) (bricks : List BrickState) (b : BrickState) → brick_place b.home.number bricks ≡ None → brick_place number (bricks ++ b ∷ []) ≡ cond (b.home.number == number) (Some (length bricks)) (brick_place number bricks)
 place_born number [] b e = refl
 place_born number (x ∷ bricks) b e = by_test (place_born number bricks b (not_later b.home.number x bricks e)) (x.home.number == number) refl where
   push_in : (t : Bool) (o : Option ℕ) → option_map suc (cond t (Some (length bricks)) o) ≡ cond t (Some (suc (length bricks))) (option_map suc o)
   push_in true o = refl
   push_in false o = refl
 
-  by_test : place_of number (bricks ++ b ∷ []) ≡ cond (b.home.number == number) (Some (length bricks)) (place_of number bricks) → (t : Bool) → (x.home.number == number) ≡ t → cond t (Some 0) (option_map suc (place_of number (bricks ++ b ∷ []))) ≡ cond (b.home.number == number) (Some (suc (length bricks))) (cond t (Some 0) (option_map suc (place_of number bricks)))
+  by_test : brick_place number (bricks ++ b ∷ []) ≡ cond (b.home.number == number) (Some (length bricks)) (brick_place number bricks) → (t : Bool) → (x.home.number == number) ≡ t → cond t (Some 0) (option_map suc (brick_place number (bricks ++ b ∷ []))) ≡ cond (b.home.number == number) (Some (suc (length bricks))) (cond t (Some 0) (option_map suc (brick_place number bricks)))
   by_test again true h = sym (ap (λ t. cond t (Some (suc (length bricks))) (Some 0)) (apart x.home.number b.home.number number (not_first b.home.number x bricks e) h))
-  by_test again false h = ap (option_map suc) again ∙ push_in (b.home.number == number) (place_of number bricks)
+  by_test again false h = ap (option_map suc) again ∙ push_in (b.home.number == number) (brick_place number bricks)
 
 -- the brick of a number is changed
 pub numbers_with : (number : ℕ) (change : BrickState → BrickState) (bricks : List BrickState) → KeepsNumber change → numbers_of_bricks (bricks_with number change bricks) ≡ numbers_of_bricks bricks

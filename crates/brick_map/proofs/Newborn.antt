@@ -5,7 +5,7 @@ use Rattle.cube_values.specs.declared.shape.Size.{Size}
 use Rattle.cube_values.specs.declared.span.Span.{Span}
 use Rattle.brick_store.specs.Bricks.{BrickState}
 use Rattle.brick_map.specs.declared.deletion.Deletion.{Deletion}
-use Rattle.brick_map.specs.Births.{content_of, content_with_mark, has_brick, newborn}
+use Rattle.brick_map.specs.Births.{content_of_brick, content_with_mark, has_brick, newborn}
 use Rattle.brick_map.specs.Lists.{MayMark, brick_after_deletion, brick_with_mark}
 use Rattle.brick_map.proofs.Births.{born_deleted}
 
@@ -15,9 +15,9 @@ deleted_home sizes box epoch b = by_test (has_brick sizes box b.home.number) whe
   by_test true = refl
   by_test false = refl
 
-pub deleted_content : (sizes : List Size) (box : Span) (epoch : ℕ) (b : BrickState) → content_of (brick_after_deletion sizes box epoch b) ≡ cond (has_brick sizes box b.home.number) (content_with_mark epoch (content_of b)) (content_of b)
+pub deleted_content : (sizes : List Size) (box : Span) (epoch : ℕ) (b : BrickState) → content_of_brick (brick_after_deletion sizes box epoch b) ≡ cond (has_brick sizes box b.home.number) (content_with_mark epoch (content_of_brick b)) (content_of_brick b)
 deleted_content sizes box epoch b = by_test (has_brick sizes box b.home.number) where
-  by_test : (t : Bool) → content_of (cond t (brick_with_mark epoch b) b) ≡ cond t (content_with_mark epoch (content_of b)) (content_of b)
+  by_test : (t : Bool) → content_of_brick (cond t (brick_with_mark epoch b) b) ≡ cond t (content_with_mark epoch (content_of_brick b)) (content_of_brick b)
   by_test true = refl
   by_test false = refl
 
@@ -33,7 +33,7 @@ may_mark sizes box b l = by_test (has_brick sizes box b.home.number) where
   by_test true = l
   by_test false = omega arith
 
-pub born_more : (sizes : List Size) (recent : List Deletion) (i number : ℕ) (d : Deletion) (b : BrickState) → i < length recent → d ≡ get_or recent i d → b.home.number ≡ number → content_of b ≡ newborn sizes (take i recent) number → content_of (brick_after_deletion sizes d.span d.epoch b) ≡ newborn sizes (take (i + 1) recent) number
+pub born_more : (sizes : List Size) (recent : List Deletion) (i number : ℕ) (d : Deletion) (b : BrickState) → i < length recent → d ≡ get_or recent i d → b.home.number ≡ number → content_of_brick b ≡ newborn sizes (take i recent) number → content_of_brick (brick_after_deletion sizes d.span d.epoch b) ≡ newborn sizes (take (i + 1) recent) number
 born_more sizes recent i number d b l is home content =
     deleted_content sizes d.span d.epoch b
     ∙ (λ t. cond (has_brick sizes d.span (home t)) (content_with_mark d.epoch (content t)) (content t))

@@ -11,7 +11,7 @@ use Rattle.std.proofs.lemmas.Map.Keys.{IsDistinct-push}
 use Rattle.cube_values.specs.declared.row.CodedRow.{CodedRow}
 use Rattle.brick_store.specs.Bricks.{BrickState}
 use Rattle.brick_map.specs.declared.list.BrickList.TheInside.{Inside}
-use Rattle.brick_map.specs.Places.{ArePlaced, numbers_of_bricks, place_of}
+use Rattle.brick_map.specs.Places.{ArePlaced, numbers_of_bricks, brick_place}
 use Rattle.brick_map.specs.Births.{brick_numbered}
 use Rattle.brick_map.specs.Lists.{TakesRows}
 use Rattle.brick_map.proofs.Lists.{StandsAt, absent, place_born, place_by_numbers, stands}
@@ -25,26 +25,26 @@ placed_still l bricks h e = record {
 cmp_is_eq : (a b : ℕ) → is_eq (nat_cmp a b) ≡ (a == b)
 cmp_is_eq a b = grind (arith, nat_tests)
 
-pub placed_born : (l : Inside) (bricks : Vec BrickState Global) (places : BTreeMap ℕ ℕ) (b : BrickState) (number count : ℕ) → ArePlaced l → b.home.number ≡ number → place_of number l.bricks.items ≡ None → bricks.items ≡ l.bricks.items ++ b ∷ [] → count ≡ length l.bricks.items → ((q : ℕ) → get nat_cmp places q ≡ cond (is_eq (nat_cmp number q)) (Some count) (get nat_cmp l.places q)) → ArePlaced (record { bricks = bricks; places = places })
+pub placed_born : (l : Inside) (bricks : Vec BrickState Global) (places : BTreeMap ℕ ℕ) (b : BrickState) (number count : ℕ) → ArePlaced l → b.home.number ≡ number → brick_place number l.bricks.items ≡ None → bricks.items ≡ l.bricks.items ++ b ∷ [] → count ≡ length l.bricks.items → ((q : ℕ) → get nat_cmp places q ≡ cond (is_eq (nat_cmp number q)) (Some count) (get nat_cmp l.places q)) → ArePlaced (record { bricks = bricks; places = places })
 placed_born l bricks places b number count h e none items counted updates =
     let old = l.bricks.items in
-    let new : place_of b.home.number old ≡ None = ap (λ n. place_of n old) e ∙ none in
+    let new : brick_place b.home.number old ≡ None = ap (λ n. brick_place n old) e ∙ none in
     record {
       places = λ q.
           updates q
           ∙ (λ t. cond (cmp_is_eq (sym e t) q t) (Some (counted t)) (h.places q t))
           ∙ sym (place_born q old b new)
-          ∙ ap (place_of q) (sym items);
+          ∙ ap (brick_place q) (sym items);
       distinct = subst (λ (l : List BrickState). IsDistinct nat_eq (numbers_of_bricks l)) (sym items)
           (subst (IsDistinct nat_eq) (sym (map-append (λ (b : BrickState). b.home.number) old (b ∷ [])))
           (IsDistinct-push nat_eq_equiv (numbers_of_bricks old) b.home.number h.distinct (absent b.home.number old new).among));
     }
 
 -- where a number was found
-pub found : (l : Inside) (v : List BrickState) (number place : ℕ) → l.bricks.items ≡ v → place_of number v ≡ Some place → StandsAt number l.bricks.items place
-found l v number place e f = stands number l.bricks.items place (ap (place_of number) e ∙ f)
+pub found : (l : Inside) (v : List BrickState) (number place : ℕ) → l.bricks.items ≡ v → brick_place number v ≡ Some place → StandsAt number l.bricks.items place
+found l v number place e f = stands number l.bricks.items place (ap (brick_place number) e ∙ f)
 
-pub takes_found : (l : Inside) (v : List BrickState) (number place : ℕ) (rows : List CodedRow) (b : BrickState) → l.bricks.items ≡ v → place_of number v ≡ Some place → IsSomeAnd (brick_numbered number v) (TakesRows rows) → b ≡ get_or l.bricks.items place b → TakesRows rows b
+pub takes_found : (l : Inside) (v : List BrickState) (number place : ℕ) (rows : List CodedRow) (b : BrickState) → l.bricks.items ≡ v → brick_place number v ≡ Some place → IsSomeAnd (brick_numbered number v) (TakesRows rows) → b ≡ get_or l.bricks.items place b → TakesRows rows b
 takes_found l v number place rows b e f takes is =
     let at = found l v number place e f in
     let there : brick_numbered number v ≡ Some b = ap (brick_numbered number) (sym e) ∙ at.is b ∙ ap Some (sym is) in

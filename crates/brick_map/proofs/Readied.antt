@@ -11,9 +11,9 @@ use Rattle.brick_store.specs.Bricks.{BrickState, Home}
 use Rattle.brick_map.specs.declared.deletion.Deletion.{Deletion}
 use Rattle.brick_map.specs.declared.runs.BatchRun.{BatchRun}
 use Rattle.brick_map.specs.Batches.{AreRuns, has_run, rows_for, run_at, runs_for}
-use Rattle.brick_map.specs.Births.{BrickContent, brick_numbered, content_among, content_of, newborn}
+use Rattle.brick_map.specs.Births.{BrickContent, brick_numbered, content_among, content_of_brick, newborn}
 use Rattle.brick_map.specs.Lists.{IsBrickOf, brick_with_room, bricks_with, home_of, spare_entries_at, spare_rows_at}
-use Rattle.brick_map.specs.Places.{place_of}
+use Rattle.brick_map.specs.Places.{brick_place}
 use Rattle.brick_map.specs.Waiting.{IsReadied}
 use Rattle.brick_map.proofs.Counts.{all_with, count_push, count_with_same}
 use Rattle.brick_map.proofs.Lists.{absent, numbered_born, numbered_with, place_born, stands}
@@ -48,9 +48,9 @@ entries_spare o = option_map_or (λ b. b.spare_entries) o 0
 equal : (a b : ℕ) → (a == b) ≡ true → a ≡ b
 equal a b h = grind (arith, nat_tests)
 
-pub readied_born : (shape : CubeShape) (recent : List Deletion) (old : List BrickState) (b : BrickState) (number : ℕ) → All (IsBrickOf shape) old → place_of number old ≡ None → number < bricks_of shape.shape.sizes → b.home ≡ home_of shape number → content_of b ≡ newborn shape.shape.sizes recent number → IsReadied shape recent old (old ++ b ∷ [])
+pub readied_born : (shape : CubeShape) (recent : List Deletion) (old : List BrickState) (b : BrickState) (number : ℕ) → All (IsBrickOf shape) old → brick_place number old ≡ None → number < bricks_of shape.shape.sizes → b.home ≡ home_of shape number → content_of_brick b ≡ newborn shape.shape.sizes recent number → IsReadied shape recent old (old ++ b ∷ [])
 readied_born shape recent old b number all none l home content = record {
-  same = λ n. ap (λ o. option_map_or content_of o (newborn shape.shape.sizes recent n)) (numbered n) ∙ by_test n (number == n) refl;
+  same = λ n. ap (λ o. option_map_or content_of_brick o (newborn shape.shape.sizes recent n)) (numbered n) ∙ by_test n (number == n) refl;
   count = omega (arith, count_push old b, ap (λ (c : BrickContent). length c.rows) content);
   bricks = All-push (IsBrickOf shape) old b all (record {
     home = home ∙ ap (home_of shape) (sym is_number);
@@ -62,8 +62,8 @@ readied_born shape recent old b number all none l home content = record {
   is_number : b.home.number ≡ number
   is_number = ap (λ (h : Home). h.number) home
 
-  new : place_of b.home.number old ≡ None
-  new = ap (λ n. place_of n old) is_number ∙ none
+  new : brick_place b.home.number old ≡ None
+  new = ap (λ n. brick_place n old) is_number ∙ none
 
   gone : brick_numbered number old ≡ None
   gone = (absent number old none).none
@@ -74,13 +74,13 @@ readied_born shape recent old b number all none l home content = record {
   gone_at : (n : ℕ) → (number == n) ≡ true → brick_numbered n old ≡ None
   gone_at n h = ap (λ m. brick_numbered m old) (sym (equal number n h)) ∙ gone
 
-  by_test : (n : ℕ) (t : Bool) → (number == n) ≡ t → option_map_or content_of (cond (number == n) (Some b) (brick_numbered n old)) (newborn shape.shape.sizes recent n) ≡ content_among shape.shape.sizes recent old n
+  by_test : (n : ℕ) (t : Bool) → (number == n) ≡ t → option_map_or content_of_brick (cond (number == n) (Some b) (brick_numbered n old)) (newborn shape.shape.sizes recent n) ≡ content_among shape.shape.sizes recent old n
   by_test n true h =
-      ap (λ t. option_map_or content_of (cond t (Some b) (brick_numbered n old)) (newborn shape.shape.sizes recent n)) h
+      ap (λ t. option_map_or content_of_brick (cond t (Some b) (brick_numbered n old)) (newborn shape.shape.sizes recent n)) h
       ∙ content
       ∙ ap (newborn shape.shape.sizes recent) (equal number n h)
-      ∙ sym (ap (λ o. option_map_or content_of o (newborn shape.shape.sizes recent n)) (gone_at n h))
-  by_test n false h = ap (λ t. option_map_or content_of (cond t (Some b) (brick_numbered n old)) (newborn shape.shape.sizes recent n)) h
+      ∙ sym (ap (λ o. option_map_or content_of_brick o (newborn shape.shape.sizes recent n)) (gone_at n h))
+  by_test n false h = ap (λ t. option_map_or content_of_brick (cond t (Some b) (brick_numbered n old)) (newborn shape.shape.sizes recent n)) h
 
   rows_more : (n : ℕ) (t : Bool) → (number == n) ≡ t → spare_rows_at n old ≤ spare_rows_at n (old ++ b ∷ [])
   rows_more n true h = omega (arith, ap rows_spare (gone_at n h))
@@ -92,13 +92,13 @@ readied_born shape recent old b number all none l home content = record {
 
 pub readied_room : (shape : CubeShape) (recent : List Deletion) (old : List BrickState) (number rows entries : ℕ) → All (IsBrickOf shape) old → IsReadied shape recent old (bricks_with number (brick_with_room rows entries) old)
 readied_room shape recent old number rows entries all = record {
-  same = λ n. ap (λ o. option_map_or content_of o (newborn shape.shape.sizes recent n)) (numbered_with n number (brick_with_room rows entries) old (λ b. refl)) ∙ same (newborn shape.shape.sizes recent n) (n == number) (brick_numbered n old);
+  same = λ n. ap (λ o. option_map_or content_of_brick o (newborn shape.shape.sizes recent n)) (numbered_with n number (brick_with_room rows entries) old (λ b. refl)) ∙ same (newborn shape.shape.sizes recent n) (n == number) (brick_numbered n old);
   count = count_with_same number (brick_with_room rows entries) old (λ b. refl);
   bricks = all_with (IsBrickOf shape) number (brick_with_room rows entries) old (λ b i. record { home = i.home; number = i.number }) all;
   rows = λ n. omega (arith, ap rows_spare (numbered_with n number (brick_with_room rows entries) old (λ b. refl)), more_rows (n == number) (brick_numbered n old));
   entries = λ n. omega (arith, ap entries_spare (numbered_with n number (brick_with_room rows entries) old (λ b. refl)), more_entries (n == number) (brick_numbered n old));
 } where
-  same : (born : BrickContent) (t : Bool) (o : Option BrickState) → option_map_or content_of (cond t (option_map (brick_with_room rows entries) o) o) born ≡ option_map_or content_of o born
+  same : (born : BrickContent) (t : Bool) (o : Option BrickState) → option_map_or content_of_brick (cond t (option_map (brick_with_room rows entries) o) o) born ≡ option_map_or content_of_brick o born
   same born true None = refl
   same born true (Some b) = refl
   same born false o = refl
@@ -121,7 +121,7 @@ pub record HasRoomAt (number rows entries : ℕ) (bricks : List BrickState) : Ty
 own_number : (a : ℕ) → (a == a) ≡ true
 own_number a = grind (arith, nat_tests)
 
-pub has_room : (bricks : List BrickState) (number place rows entries : ℕ) → place_of number bricks ≡ Some place → HasRoomAt number rows entries (bricks_with number (brick_with_room rows entries) bricks)
+pub has_room : (bricks : List BrickState) (number place rows entries : ℕ) → brick_place number bricks ≡ Some place → HasRoomAt number rows entries (bricks_with number (brick_with_room rows entries) bricks)
 has_room [] number place rows entries e = cc
 has_room (x ∷ bricks) number place rows entries e =
     let at = stands number (x ∷ bricks) place e in
@@ -131,17 +131,17 @@ has_room (x ∷ bricks) number place rows entries e =
           let now = numbered_with number number (brick_with_room rows entries) (x ∷ bricks) (λ b. refl) ∙ (λ t. cond (own_number number t) (option_map (brick_with_room rows entries) (there t)) (there t)) in
           record { for_rows = omega (arith, ap rows_spare now); for_entries = omega (arith, ap entries_spare now) }
 
-pub room_made : (bricks : List BrickState) (number rows entries : ℕ) → place_of number bricks ≢ None → HasRoomAt number rows entries (bricks_with number (brick_with_room rows entries) bricks)
-room_made bricks number rows entries there = by_option (place_of number bricks) refl where
-  by_option : (o : Option ℕ) → place_of number bricks ≡ o → HasRoomAt number rows entries (bricks_with number (brick_with_room rows entries) bricks)
+pub room_made : (bricks : List BrickState) (number rows entries : ℕ) → brick_place number bricks ≢ None → HasRoomAt number rows entries (bricks_with number (brick_with_room rows entries) bricks)
+room_made bricks number rows entries there = by_option (brick_place number bricks) refl where
+  by_option : (o : Option ℕ) → brick_place number bricks ≡ o → HasRoomAt number rows entries (bricks_with number (brick_with_room rows entries) bricks)
   by_option None e = absurd (there e)
   by_option (Some place) e = has_room bricks number place rows entries e
 
-pub born_there : (old new : List BrickState) (b : BrickState) (number : ℕ) → place_of number old ≡ None → b.home.number ≡ number → new ≡ old ++ b ∷ [] → place_of number new ≢ None
+pub born_there : (old new : List BrickState) (b : BrickState) (number : ℕ) → brick_place number old ≡ None → b.home.number ≡ number → new ≡ old ++ b ∷ [] → brick_place number new ≢ None
 born_there old new b number none is made e =
-    let gone : place_of b.home.number old ≡ None = ap (λ n. place_of n old) is ∙ none in
+    let gone : brick_place b.home.number old ≡ None = ap (λ n. brick_place n old) is ∙ none in
     let here : (b.home.number == number) ≡ true = ap (λ n. n == number) is ∙ own_number number in
-    let there : place_of number new ≡ Some (length old) = ap (place_of number) made ∙ place_born number old b gone ∙ ap (λ t. cond t (Some (length old)) (place_of number old)) here in
+    let there : brick_place number new ≡ Some (length old) = ap (brick_place number) made ∙ place_born number old b gone ∙ ap (λ t. cond t (Some (length old)) (brick_place number old)) here in
     let clash : Some (length old) ≡ None = sym there ∙ e in
     cc
 

@@ -15,9 +15,9 @@ use Rattle.cube_rounds.specs.Demands.{AreRising}
 use Rattle.brick_store.specs.Bricks.{BrickState}
 use Rattle.brick_store.specs.Copies.{round_part}
 use Rattle.brick_map.specs.declared.deletion.Deletion.{Deletion}
-use Rattle.brick_map.specs.Births.{BrickContent, brick_numbered, content_among, content_of, newborn}
+use Rattle.brick_map.specs.Births.{BrickContent, brick_numbered, content_among, content_of_brick, newborn}
 use Rattle.brick_map.specs.Copied.{IsCopied, round_part_with, part_numbered, part_with_entries, parts_at}
-use Rattle.brick_map.specs.Places.{place_of}
+use Rattle.brick_map.specs.Places.{brick_place}
 use Rattle.brick_map.proofs.Counts.{numbered_at}
 use Rattle.brick_map.proofs.Lists.{absent}
 
@@ -127,20 +127,20 @@ not_found number (x ∷ entries) e = by_test (λ g. not_found number entries g) 
   by_test again false h g = ap (λ t. cond t (Some x.1) (lookup (is_at (nat_cmp number)) entries)) h ∙ again g
 
 -- where a number has a place, its brick stands there
-placed_brick : (number : ℕ) (bricks : List BrickState) (place : ℕ) → place_of number bricks ≡ Some place → slice_get bricks place ≡ brick_numbered number bricks
+placed_brick : (number : ℕ) (bricks : List BrickState) (place : ℕ) → brick_place number bricks ≡ Some place → slice_get bricks place ≡ brick_numbered number bricks
 placed_brick number [] place e = cc
 placed_brick number (b ∷ bricks) place e = by_test (λ q there. placed_brick number bricks q there) (b.home.number == number) e where
-  by_option : ((q : ℕ) → place_of number bricks ≡ Some q → slice_get bricks q ≡ brick_numbered number bricks) → (o : Option ℕ) → place_of number bricks ≡ o → option_map suc o ≡ Some place → slice_get (b ∷ bricks) place ≡ brick_numbered number bricks
+  by_option : ((q : ℕ) → brick_place number bricks ≡ Some q → slice_get bricks q ≡ brick_numbered number bricks) → (o : Option ℕ) → brick_place number bricks ≡ o → option_map suc o ≡ Some place → slice_get (b ∷ bricks) place ≡ brick_numbered number bricks
   by_option again None there e = cc
   by_option again (Some q) there e =
       let is : suc q ≡ place = cc in
       ap (slice_get (b ∷ bricks)) (sym is) ∙ again q there
 
-  by_test : ((q : ℕ) → place_of number bricks ≡ Some q → slice_get bricks q ≡ brick_numbered number bricks) → (t : Bool) → cond t (Some 0) (option_map suc (place_of number bricks)) ≡ Some place → slice_get (b ∷ bricks) place ≡ cond t (Some b) (brick_numbered number bricks)
+  by_test : ((q : ℕ) → brick_place number bricks ≡ Some q → slice_get bricks q ≡ brick_numbered number bricks) → (t : Bool) → cond t (Some 0) (option_map suc (brick_place number bricks)) ≡ Some place → slice_get (b ∷ bricks) place ≡ cond t (Some b) (brick_numbered number bricks)
   by_test again true e =
       let is : 0 ≡ place = cc in
       ap (slice_get (b ∷ bricks)) (sym is)
-  by_test again false e = by_option again (place_of number bricks) refl e
+  by_test again false e = by_option again (brick_place number bricks) refl e
 
 -- the parts of bricks
 module _ (from to : ℕ) (bricks : List BrickState) where
@@ -160,7 +160,7 @@ module _ (from to : ℕ) (bricks : List BrickState) where
   no_parts n e = ap (λ (o : Option BrickState). option_map_or (λ b. part_with_entries (round_part from to b)) o []) e
 
   -- the brick of one more number is copied
-  pub one_more : (parts new whole : List BrickPart) (left rest : List (ℕ × ℕ)) (n place : ℕ) → left ≡ (n, place) ∷ rest → place_of n bricks ≡ Some place → new ≡ parts ++ option_map_or (λ b. part_with_entries (round_part from to b)) (slice_get bricks place) [] → parts ++ flat_map (parts_at from to bricks) (keys_of left) ≡ whole → new ++ flat_map (parts_at from to bricks) (keys_of rest) ≡ whole
+  pub one_more : (parts new whole : List BrickPart) (left rest : List (ℕ × ℕ)) (n place : ℕ) → left ≡ (n, place) ∷ rest → brick_place n bricks ≡ Some place → new ≡ parts ++ option_map_or (λ b. part_with_entries (round_part from to b)) (slice_get bricks place) [] → parts ++ flat_map (parts_at from to bricks) (keys_of left) ≡ whole → new ++ flat_map (parts_at from to bricks) (keys_of rest) ≡ whole
   one_more parts new whole left rest n place next there is before =
       ap (λ l. l ++ flat_map (parts_at from to bricks) (keys_of rest)) (is ∙ ap (λ (o : Option BrickState). parts ++ option_map_or (λ b. part_with_entries (round_part from to b)) o []) (placed_brick n bricks place there))
       ∙ append_assoc parts (parts_at from to bricks n) (flat_map (parts_at from to bricks) (keys_of rest))
@@ -171,7 +171,7 @@ module _ (from to : ℕ) (bricks : List BrickState) where
   pub all_rise : (numbers : List ℕ) (parts : List BrickPart) → IsStrictlySortedBy nat_cmp numbers → parts ≡ flat_map (parts_at from to bricks) numbers → AreRising 0 parts
   all_rise numbers parts sorted is = subst (AreRising 0) (sym is) (parts_rise (parts_at from to bricks) own_parts 0 numbers (ascend numbers sorted))
 
-  pub all_found : (entries : List (ℕ × ℕ)) (parts : List BrickPart) (number : ℕ) → IsStrictlySortedBy nat_cmp (keys_of entries) → lookup (is_at (nat_cmp number)) entries ≡ place_of number bricks → parts ≡ flat_map (parts_at from to bricks) (keys_of entries) → part_numbered number parts ≡ slice_get (parts_at from to bricks number) 0
+  pub all_found : (entries : List (ℕ × ℕ)) (parts : List BrickPart) (number : ℕ) → IsStrictlySortedBy nat_cmp (keys_of entries) → lookup (is_at (nat_cmp number)) entries ≡ brick_place number bricks → parts ≡ flat_map (parts_at from to bricks) (keys_of entries) → part_numbered number parts ≡ slice_get (parts_at from to bricks number) 0
   all_found entries parts number sorted places is =
       ap (part_numbered number) is
       ∙ part_is (parts_at from to bricks) own_parts number 0 (keys_of entries) (ascend (keys_of entries) sorted) (λ e. no_parts number (absent number bricks (sym places ∙ not_found number entries e)).none)
@@ -183,12 +183,12 @@ copied_among from to number sizes recent bricks found e =
       born : BrickContent
       born = newborn sizes recent number
 
-      there : (b : BrickState) → b.home.number ≡ number → IsCopied (round_part_with from to number (content_of b)) b.rows (slice_get (part_with_entries (round_part from to b)) 0)
-      there b is = subst (λ n. IsCopied (round_part_with from to n (content_of b)) b.rows (slice_get (part_with_entries (round_part from to b)) 0)) is (by_test (length (round_part from to b).entries == 0) refl) where
+      there : (b : BrickState) → b.home.number ≡ number → IsCopied (round_part_with from to number (content_of_brick b)) b.rows (slice_get (part_with_entries (round_part from to b)) 0)
+      there b is = subst (λ n. IsCopied (round_part_with from to n (content_of_brick b)) b.rows (slice_get (part_with_entries (round_part from to b)) 0)) is (by_test (length (round_part from to b).entries == 0) refl) where
         by_test : (t : Bool) → (length (round_part from to b).entries == 0) ≡ t → IsCopied (round_part from to b) b.rows (slice_get (cond t [] (round_part from to b ∷ [])) 0)
         by_test true h = inl (empty (round_part from to b).entries h)
         by_test false h = (refl, λ g. absurd (some (round_part from to b).entries h g))
 
-      by_option : (o : Option BrickState) → brick_numbered number bricks ≡ o → IsCopied (round_part_with from to number (option_map_or content_of o born)) (option_map_or content_of o born).rows (slice_get (option_map_or (λ b. part_with_entries (round_part from to b)) o []) 0)
+      by_option : (o : Option BrickState) → brick_numbered number bricks ≡ o → IsCopied (round_part_with from to number (option_map_or content_of_brick o born)) (option_map_or content_of_brick o born).rows (slice_get (option_map_or (λ b. part_with_entries (round_part from to b)) o []) 0)
       by_option None g = inr refl
       by_option (Some b) g = there b (numbered_at number bricks b g)

@@ -29,9 +29,9 @@ AreRuns sizes rows from [] = from ≡ length rows
 AreRuns sizes rows from (run ∷ runs) = IsRunFrom sizes rows from run × AreRuns sizes rows run.to runs
 
 -- The numbers of the runs rise, from one on.
-abbrev pub RiseFrom : ℕ → List BatchRun → Type 0
-RiseFrom low [] = Unit {0}
-RiseFrom low (run ∷ runs) = (low ≤ run.number) × RiseFrom (run.number + 1) runs
+abbrev pub RunsRiseFrom : ℕ → List BatchRun → Type 0
+RunsRiseFrom low [] = Unit {0}
+RunsRiseFrom low (run ∷ runs) = (low ≤ run.number) × RunsRiseFrom (run.number + 1) runs
 
 -- A run is of the brick of a number.
 abbrev pub has_run : ℕ → List BatchRun → Bool

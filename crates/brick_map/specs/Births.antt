@@ -34,8 +34,8 @@ pub record CubeState : Type 0 where
   pub bricks : List BrickState
   pub recent : List Deletion
 
-abbrev pub sizes_of : CubeState → List Size
-sizes_of cube = cube.shape.shape.sizes
+abbrev pub cube_sizes : CubeState → List Size
+cube_sizes cube = cube.shape.shape.sizes
 
 -- A box that cuts no brick has all of a brick where it has the brick's first coordinates.
 abbrev pub has_brick : List Size → Span → ℕ → Bool
@@ -50,8 +50,8 @@ abbrev pub newborn : List Size → List Deletion → ℕ → BrickContent
 newborn sizes recent number =
     record { rows = []; entries = fold vector_with_entry [] (birth_marks sizes recent number) }
 
-abbrev pub content_of : BrickState → BrickContent
-content_of b = record { rows = b.rows; entries = b.entries }
+abbrev pub content_of_brick : BrickState → BrickContent
+content_of_brick b = record { rows = b.rows; entries = b.entries }
 
 -- The brick of a number.
 abbrev pub brick_numbered : ℕ → List BrickState → Option BrickState
@@ -61,10 +61,10 @@ brick_numbered number (b ∷ bricks) = if b.home.number == number then Some b el
 -- What the brick of a number has, there or not.
 abbrev pub content_among : List Size → List Deletion → List BrickState → ℕ → BrickContent
 content_among sizes recent bricks number =
-    option_map_or content_of (brick_numbered number bricks) (newborn sizes recent number)
+    option_map_or content_of_brick (brick_numbered number bricks) (newborn sizes recent number)
 
 abbrev pub brick_in : CubeState → ℕ → BrickContent
-brick_in cube number = content_among (sizes_of cube) cube.recent cube.bricks number
+brick_in cube number = content_among (cube_sizes cube) cube.recent cube.bricks number
 
 -- How many rows bricks have.
 abbrev pub rows_count : List BrickState → ℕ

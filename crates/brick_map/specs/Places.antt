@@ -6,9 +6,9 @@ use Rattle.std.specs.BTreeMap.{get}
 use Rattle.brick_store.specs.Bricks.{BrickState}
 use Rattle.brick_map.specs.declared.list.BrickList.TheInside.{Inside}
 
-abbrev pub place_of : ℕ → List BrickState → Option ℕ
-place_of number [] = None
-place_of number (b ∷ bricks) = if b.home.number == number then Some 0 else option_map suc (place_of number bricks)
+abbrev pub brick_place : ℕ → List BrickState → Option ℕ
+brick_place number [] = None
+brick_place number (b ∷ bricks) = if b.home.number == number then Some 0 else option_map suc (brick_place number bricks)
 
 -- The numbers of bricks.
 abbrev pub numbers_of_bricks : List BrickState → List ℕ
@@ -16,5 +16,5 @@ numbers_of_bricks bricks = map (λ b. b.home.number) bricks
 
 -- The map has the place of each brick, and no two bricks have one number.
 pub record ArePlaced (l : Inside) : Type 0 where
-  pub places : (number : ℕ) → get nat_cmp l.places number ≡ place_of number l.bricks.items
+  pub places : (number : ℕ) → get nat_cmp l.places number ≡ brick_place number l.bricks.items
   pub distinct : IsDistinct nat_eq (numbers_of_bricks l.bricks.items)

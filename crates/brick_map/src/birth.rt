@@ -3,9 +3,9 @@
 ghost use Rattle.std.specs.Prelude.{◌≡◌, ◌≢◌, ℕ, ◌<◌, ◌≤◌, None, All, IfOk, OnOk};
 ghost use Rattle.cube_values.specs.Shapes.{IsSoundCube, bricks_of};
 ghost use Rattle.brick_map.specs.Batches.{AreRuns};
-ghost use Rattle.brick_map.specs.Births.{content_of, newborn};
+ghost use Rattle.brick_map.specs.Births.{content_of_brick, newborn};
 ghost use Rattle.brick_map.specs.Lists.{IsBrickOf, home_of, spare_entries_at, spare_rows_at};
-ghost use Rattle.brick_map.specs.Places.{place_of};
+ghost use Rattle.brick_map.specs.Places.{brick_place};
 ghost use Rattle.brick_map.specs.Waiting.{IsReadied, IsReadyFor, IsWaiting};
 
 use crate::deletion::Deletion;
@@ -28,7 +28,7 @@ pub fn newborn(
     requires recent { All (IsWaiting shape.now.shape.sizes) recent.now }
     ensures home { IfOk result (λ b. b.home ≡ home_of shape.now number) }
     ensures content { IfOk result
-        (λ b. content_of b ≡ newborn shape.now.shape.sizes recent.now number) }
+        (λ b. content_of_brick b ≡ newborn shape.now.shape.sizes recent.now number) }
 {
     let mut brick = Brick::new(alloc, &shape.shape, shape.metrics, number)?;
     brick.prepare(0, recent.len() as u64)?;
@@ -51,7 +51,7 @@ pub fn give_birth(
     requires recent { All (IsWaiting shape.now.shape.sizes) recent.now }
     requires bricks { All (IsBrickOf shape.now) list.old }
     ensures readied { IsReadied shape.now recent.now list.old list.new }
-    ensures there { OnOk result (place_of number list.new ≢ None) }
+    ensures there { OnOk result (brick_place number list.new ≢ None) }
 {
     match list.find(number) {
         Some(_) => Ok(()),

@@ -7,7 +7,7 @@ ghost use Rattle.std.specs.Ordering.{nat_cmp};
 ghost use Rattle.cube_rounds.specs.Demands.{AreRising};
 ghost use Rattle.brick_store.specs.Copies.{round_part};
 ghost use Rattle.brick_map.specs.Copied.{part_numbered, part_with_entries, parts_at};
-ghost use Rattle.brick_map.specs.Places.{place_of};
+ghost use Rattle.brick_map.specs.Places.{brick_place};
 
 use brick_store::Brick;
 use cube_rounds::RoundBrick;
@@ -23,7 +23,7 @@ pub fn copy_by_number(
     from: u64,
     to: u64,
 ) -> Result<Vec<RoundBrick>, AllocError>
-    requires { (number : ℕ) → get nat_cmp places.now number ≡ place_of number bricks.now }
+    requires { (number : ℕ) → get nat_cmp places.now number ≡ brick_place number bricks.now }
     ensures rising { IfOk result (λ parts. AreRising 0 parts.items) }
     ensures parts { IfOk result (λ parts. (number : ℕ)
         → part_numbered number parts.items ≡ slice_get (parts_at from to bricks.now number) 0) }

@@ -10,7 +10,7 @@ ghost use Rattle.brick_store.specs.Rows.{rows_shown};
 ghost use Rattle.cube_rounds.specs.Demands.{AreRising};
 ghost use Rattle.condition_spans.specs.Spans.{CutNoBrick};
 ghost use Rattle.brick_map.specs.Batches.{IsRowOfCube};
-ghost use Rattle.brick_map.specs.Births.{brick_in, content_purged, content_with_mark, content_with_rows, content_without, has_brick, rows_count, rows_found, rows_found_apart, rows_of_brick, sizes_of};
+ghost use Rattle.brick_map.specs.Births.{brick_in, content_purged, content_with_mark, content_with_rows, content_without, has_brick, rows_count, rows_found, rows_found_apart, rows_of_brick, cube_sizes};
 ghost use Rattle.brick_map.specs.Copied.{IsCopied, part_numbered, round_part_with};
 ghost use Rattle.brick_map.specs.Cubes.{HasSameBricks};
 ghost use Rattle.brick_map.specs.Waiting.{is_above, is_of_other};
@@ -88,7 +88,8 @@ impl CubeBricks {
         requires few { rows_count self.old.bricks + length batch.now.rows < 2 ^ 63 }
         ensures appended { OnOk result ((number : ℕ) → brick_in self.new number
             ≡ content_with_rows epoch
-            (rows_of_brick (sizes_of self.old) number batch.now.rows) (brick_in self.old number)) }
+            (rows_of_brick (cube_sizes self.old) number batch.now.rows)
+            (brick_in self.old number)) }
         ensures count { OnOk result
             (rows_count self.new.bricks ≡ rows_count self.old.bricks + length batch.now.rows) }
         ensures err { OnErr result (HasSameBricks self.old self.new) }
@@ -109,9 +110,9 @@ impl CubeBricks {
     /// Where memory is wanted nothing changes.
     pub fn drop_box(&mut self, epoch: u64, span: &Span) -> Result<(), AllocError>
         requires parts { All IsSoundPart span.now.parts }
-        requires whole { CutNoBrick (sizes_of self.old) span.now.parts }
+        requires whole { CutNoBrick (cube_sizes self.old) span.now.parts }
         ensures deleted { OnOk result ((number : ℕ) → brick_in self.new number
-            ≡ (if has_brick (sizes_of self.old) span.now number
+            ≡ (if has_brick (cube_sizes self.old) span.now number
             then content_with_mark epoch (brick_in self.old number)
             else brick_in self.old number)) }
         ensures waits { OnOk result (self.new.recent
@@ -168,13 +169,13 @@ impl CubeBricks {
         into: &mut Partial,
     ) -> Result<(), AllocError>
         requires sound { IsSoundQuery query.now
-            (length (sizes_of self.now)) self.now.shape.metrics }
+            (length (cube_sizes self.now)) self.now.shape.metrics }
         requires parts { All IsSoundPart query.now.span.parts }
         requires room { HasRoom query.now (rows_count self.now.bricks) into.old.groups }
         ensures found { OnOk result (Gains query.now
             (rows_found query.now.span snapshot.now self.now.bricks)
             into.old.groups into.new.groups) }
-        ensures by_brick { OnOk result ((number : ℕ) → rows_of_brick (sizes_of self.now) number
+        ensures by_brick { OnOk result ((number : ℕ) → rows_of_brick (cube_sizes self.now) number
             (rows_found query.now.span snapshot.now self.now.bricks)
             ≡ rows_shown query.now.span snapshot.now
             (brick_in self.now number).entries (brick_in self.now number).rows) }
@@ -195,7 +196,7 @@ impl CubeBricks {
         went: &mut Partial,
     ) -> Result<(), AllocError>
         requires sound { IsSoundQuery query.now
-            (length (sizes_of self.now)) self.now.shape.metrics }
+            (length (cube_sizes self.now)) self.now.shape.metrics }
         requires parts { All IsSoundPart query.now.span.parts }
         requires came_room { HasRoom query.now (rows_count self.now.bricks) came.old.groups }
         requires went_room { HasRoom query.now (rows_count self.now.bricks) went.old.groups }
@@ -206,12 +207,12 @@ impl CubeBricks {
             (rows_found_apart query.now.span from.now to.now self.now.bricks)
             went.old.groups went.new.groups) }
         ensures came_by_brick { OnOk result ((number : ℕ)
-            → rows_of_brick (sizes_of self.now) number
+            → rows_of_brick (cube_sizes self.now) number
             (rows_found_apart query.now.span to.now from.now self.now.bricks)
             ≡ rows_apart query.now.span to.now from.now
             (brick_in self.now number).entries (brick_in self.now number).rows) }
         ensures went_by_brick { OnOk result ((number : ℕ)
-            → rows_of_brick (sizes_of self.now) number
+            → rows_of_brick (cube_sizes self.now) number
             (rows_found_apart query.now.span from.now to.now self.now.bricks)
             ≡ rows_apart query.now.span from.now to.now
             (brick_in self.now number).entries (brick_in self.now number).rows) }

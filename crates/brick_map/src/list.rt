@@ -11,7 +11,7 @@ ghost use Rattle.cube_rounds.specs.Demands.{AreRising};
 ghost use Rattle.brick_map.specs.Births.{brick_numbered};
 ghost use Rattle.brick_map.specs.Copied.{part_numbered, parts_at};
 ghost use Rattle.brick_map.specs.Lists.{HasNumberBelow, HasSame, MayMark, TakesRows, bricks_with, brick_after_deletion, brick_purged, brick_with_room, brick_with_rows, brick_without};
-ghost use Rattle.brick_map.specs.Places.{place_of, numbers_of_bricks};
+ghost use Rattle.brick_map.specs.Places.{brick_place, numbers_of_bricks};
 
 use crate::copies::copy_by_number;
 use crate::passes::{delete_from_each, prepare_deletions, purge_each, rollback_each};
@@ -62,7 +62,7 @@ impl BrickList {
 
     /// Where the brick of a number stands; None where it is not there.
     pub fn find(&self, number: u64) -> Option<usize>
-        ensures { result ≡ place_of number self.now }
+        ensures { result ≡ brick_place number self.now }
     {
         self.places.get(&number).copied()
     }
@@ -70,7 +70,7 @@ impl BrickList {
     /// Adds a brick of a number of which there is none. Where memory is wanted nothing changes.
     pub fn add(&mut self, number: u64, brick: Brick) -> Result<(), AllocError>
         requires number { brick.home.number ≡ number }
-        requires new { place_of number self.old ≡ None }
+        requires new { brick_place number self.old ≡ None }
         ensures ok { OnOk result (self.new ≡ self.old ++ brick ∷ []) }
         ensures err { OnErr result (self.new ≡ self.old) }
     {

@@ -4,7 +4,7 @@ ghost use Rattle.std.specs.Prelude.{◌≡◌, ◌^◌, ◌<◌, ◌≤◌, leng
 ghost use Rattle.cube_values.specs.Shapes.{IsSoundShape, bricks_of};
 ghost use Rattle.cube_values.specs.Batches.{coded_row_at};
 ghost use Rattle.brick_address.specs.Addresses.{brick_of, AreCoords};
-ghost use Rattle.brick_map.specs.Batches.{IsRunFrom, AreRuns, AreRunsOver, RiseFrom, rows_for, run_at, runs_for};
+ghost use Rattle.brick_map.specs.Batches.{IsRunFrom, AreRuns, AreRunsOver, RunsRiseFrom, rows_for, run_at, runs_for};
 
 use brick_address::brick_of;
 use cube_values::{CodedRows, Shape};
@@ -70,7 +70,7 @@ fn number_at(shape: &Shape, batch: &CodedRows, row: usize) -> u64
 /// Whether the numbers of the runs rise, so that no brick has two.
 pub fn do_rise(runs: &[BatchRun]) -> bool
     requires { All (λ run. run.number < 2 ^ 62) runs.now }
-    ensures { IsTrue result → RiseFrom 0 runs.now }
+    ensures { IsTrue result → RunsRiseFrom 0 runs.now }
 {
     let mut low = 0;
     'runs: for run in runs {
@@ -93,7 +93,7 @@ pub struct Room {
 pub fn room_for(runs: &[BatchRun], i: usize, rows: usize, apart: bool) -> Room
     requires there { i < length runs.now }
     requires runs { AreRunsOver rows 0 runs.now }
-    requires apart { IsTrue apart → RiseFrom 0 runs.now }
+    requires apart { IsTrue apart → RunsRiseFrom 0 runs.now }
     ensures rows { rows_for (run_at runs.now i).number runs.now ≤ result.rows }
     ensures entries { runs_for (run_at runs.now i).number runs.now ≤ result.entries }
 {

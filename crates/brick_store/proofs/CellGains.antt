@@ -20,7 +20,7 @@ use Rattle.agg_fold.specs.Totals.{AreToldOf}
 use Rattle.agg_fold.proofs.GroupRows.{stand_moved}
 use Rattle.brick_columns.specs.Rows.{BrickRow, BrickRows}
 use Rattle.brick_store.specs.Cells.{cell_of, rows_in_cell, rows_below_cell, cell_metrics, CanFold, IsRowOfCell, IsTakenRow, IsToldBy}
-use Rattle.brick_store.specs.Whole.{coords_from, row_with_coords}
+use Rattle.brick_store.specs.Whole.{coords_at_offsets, row_with_coords}
 use Rattle.brick_store.proofs.Coordinates.{coords_long}
 use Rattle.brick_store.proofs.CellRows.{below_more, few_below}
 use Rattle.brick_store.proofs.Folds.{gains_more, gains_none, gains_same, room_after}
@@ -49,7 +49,7 @@ told_all rows (item ∷ items) (s ∷ sums) (l ∷ lows) (h ∷ highs) p q r tol
 pub taken_row : (query : BoundQuery) (columns : BrickRows) (starts : List ℕ) (row : BrickRow) → CanFold query columns → length starts ≡ length columns.layout.ranges → IsTakenRow columns.layout starts query row → IsQueryRow query (row_with_coords starts row)
 taken_row query columns starts row fold long taken =
     let wide = length_all_zip ◌<◌ row.offsets columns.layout.ranges taken.brick.offsets in
-    let dims : length columns.layout.ranges ≡ length (coords_from starts row.offsets) = omega (arith, coords_long starts row.offsets, wide, long) in
+    let dims : length columns.layout.ranges ≡ length (coords_at_offsets starts row.offsets) = omega (arith, coords_long starts row.offsets, wide, long) in
     record {
       sound = subst (λ (n : ℕ). IsSoundQuery query n (length row.metrics)) dims (subst (λ (n : ℕ). IsSoundQuery query (length columns.layout.ranges) n) (sym taken.brick.metrics) fold.sound);
       inside = taken.inside;
@@ -67,7 +67,7 @@ module _ (query : BoundQuery) (columns : BrickRows) (starts : List ℕ) (cell : 
       record { brick = t.brick; small = t.small; number = cell_passed _ cell (filter_passes test rows i d p) }
 
   pub told_rows : (key : List ℕ) (n : ℕ) (sums lows highs : List ℤ) → n ≡ length (rows_in_cell columns.layout.ranges query.group cell rows)
-      → ((row : BrickRow) → IsRowOfCell columns.layout starts query.group cell row → key ≡ coded_key query.group (coords_from starts row.offsets))
+      → ((row : BrickRow) → IsRowOfCell columns.layout starts query.group cell row → key ≡ coded_key query.group (coords_at_offsets starts row.offsets))
       → told_tallies query.items sums lows highs ≡ map (tally_of (cell_metrics columns.layout.ranges query.group cell rows)) query.items
       → AreToldOf query key (record { rows = n; sums = sums; least = lows; greatest = highs }) (map (row_with_coords starts) (rows_in_cell columns.layout.ranges query.group cell rows))
   told_rows key n sums lows highs count keyed told =

@@ -7,7 +7,7 @@ use Rattle.std.proofs.lemmas.List.Elements.{All-head, All-tail, All-drop, All-ge
 use Rattle.agg_fold.specs.Coded.{coded_key}
 use Rattle.brick_columns.specs.Rows.{BrickRow, Layout, IsBrickRow, offset_at}
 use Rattle.brick_store.specs.Cells.{cell_count, cell_of, IsRowOfCell}
-use Rattle.brick_store.specs.Whole.{coords_from}
+use Rattle.brick_store.specs.Whole.{coords_at_offsets}
 use Rattle.brick_store.proofs.Coordinates.{coords_long, coord_here, written_more}
 
 -- an offset lies below its range
@@ -105,7 +105,7 @@ high_digits o r m n h e =
 -- what is left of a cell's number before dimension i, and what the key has up to there
 pub record IsKeySoFar (layout : Layout) (starts group : List ℕ) (cell left : ℕ) (key : List ℕ) (i : ℕ) (row : BrickRow) : Type 0 where
   pub rest : left ≡ cell_of layout.ranges (drop i group) row
-  pub front : take i key ≡ take i (coded_key group (coords_from starts row.offsets))
+  pub front : take i key ≡ take i (coded_key group (coords_at_offsets starts row.offsets))
 
 module _ (layout : Layout) (starts group : List ℕ) (cell left : ℕ) (key : List ℕ) (i : ℕ) (row : BrickRow) (long : length starts ≡ length layout.ranges) (dims : All (λ dim. dim < length layout.ranges) group) (h : i < length group) (r : IsRowOfCell layout starts group cell row) (s : IsKeySoFar layout starts group cell left key i row) where
   there : get_or group i 0 < length layout.ranges
@@ -124,13 +124,13 @@ module _ (layout : Layout) (starts group : List ℕ) (cell left : ℕ) (key : Li
   coord_small =
       let d = get_or group i 0 in
       let here = coord_here starts row.offsets d 0 0 (omega (arith, there, long)) (omega (arith, there, wide)) in
-      let small = All-get_or (λ coord. coord < 4294967296) (coords_from starts row.offsets) d 0 (omega (arith, coords_long starts row.offsets, there, long, wide)) r.small in
+      let small = All-get_or (λ coord. coord < 4294967296) (coords_at_offsets starts row.offsets) d 0 (omega (arith, coords_long starts row.offsets, there, long, wide)) r.small in
       omega (arith, here, small, digit_here)
 
   pub key_more : i < length key → IsKeySoFar layout starts group cell (left / get_or layout.ranges (get_or group i 0) 0) (set key i (get_or starts (get_or group i 0) 0 + left % get_or layout.ranges (get_or group i 0) 0)) (i + 1) row
   key_more k =
       let d = get_or group i 0 in
-      let coords = coords_from starts row.offsets in
+      let coords = coords_at_offsets starts row.offsets in
       let here = coord_here starts row.offsets d 0 0 (omega (arith, there, long)) (omega (arith, there, wide)) in
       let value : get_or starts d 0 + left % get_or layout.ranges d 0 ≡ get_or (coded_key group coords) i 0 =
       ap (λ o. get_or starts d 0 + o) digit_here ∙ sym here ∙ sym (get_or-map (λ e. get_or coords e 0) group i 0 0 h) in

@@ -15,7 +15,7 @@ use Rattle.purge_plan.specs.Purged.{is_spared, spared_bits}
 use Rattle.std.proofs.lemmas.List.FromFn.{length-map-range_with_len}
 use Rattle.epochs_vector.specs.Entries.{Vector}
 use Rattle.epochs_vector.proofs.Ends.{vector_rows}
-use Rattle.brick_columns.specs.Rows.{BrickRow, BrickRows, Layout, LiesFrom, row_from, layout_of}
+use Rattle.brick_columns.specs.Rows.{BrickRow, BrickRows, Layout, LiesFrom, offset_row, layout_of}
 use Rattle.brick_columns.proofs.KeptItems.{kept_all, kept_map}
 use Rattle.brick_store.specs.Bricks.{Home, BrickState, IsRowOf}
 use Rattle.brick_store.specs.Whole.{starts_of, row_with_coords, home_in, contract_view, IsWhole}
@@ -39,10 +39,10 @@ pub seen_length : (b : Inside) (v : BrickState) → contract_view b ≡ v → le
 seen_length b v e = ap (λ (v : BrickState). length v.rows) (sym e) ∙ length-map b.columns.rows (row_with_coords b.starts.items)
 
 -- rows at the end
-pub rows_appended : (starts : List ℕ) (home : Home) (old : List BrickRow) (more : List CodedRow) → starts ≡ starts_of home.sizes home.number → All IsSoundSize home.sizes → All (IsRowOf home) more → map (row_with_coords starts) (old ++ map (row_from starts) more) ≡ map (row_with_coords starts) old ++ more
+pub rows_appended : (starts : List ℕ) (home : Home) (old : List BrickRow) (more : List CodedRow) → starts ≡ starts_of home.sizes home.number → All IsSoundSize home.sizes → All (IsRowOf home) more → map (row_with_coords starts) (old ++ map (offset_row starts) more) ≡ map (row_with_coords starts) old ++ more
 rows_appended starts home old more s h i =
-    map-append (row_with_coords starts) old (map (row_from starts) more)
-    ∙ ap (λ rows. map (row_with_coords starts) old ++ rows) (ap (λ f. map (row_with_coords f) (map (row_from f) more)) s ∙ rows_back home more h i)
+    map-append (row_with_coords starts) old (map (offset_row starts) more)
+    ∙ ap (λ rows. map (row_with_coords starts) old ++ rows) (ap (λ f. map (row_with_coords f) (map (offset_row f) more)) s ∙ rows_back home more h i)
 
 -- rows whose bit is set
 pub rows_left : (starts : List ℕ) (bits : List Bool) (old : List BrickRow) → map (row_with_coords starts) (items_where_true bits old) ≡ items_where_true bits (map (row_with_coords starts) old)
@@ -90,7 +90,7 @@ sound_left b bits w =
     rw (rows_left b.starts.items bits b.columns.rows) (kept_all (IsRowOf (home_in b)) bits (map (row_with_coords b.starts.items) b.columns.rows) w.sound)
 
 -- rows that are appended are of the brick
-pub sound_appended : (b : Inside) (more : List CodedRow) → IsWhole b → All (IsRowOf (home_in b)) more → All (IsRowOf (home_in b)) (map (row_with_coords b.starts.items) (b.columns.rows ++ map (row_from b.starts.items) more))
+pub sound_appended : (b : Inside) (more : List CodedRow) → IsWhole b → All (IsRowOf (home_in b)) more → All (IsRowOf (home_in b)) (map (row_with_coords b.starts.items) (b.columns.rows ++ map (offset_row b.starts.items) more))
 sound_appended b more w h =
     rw (rows_appended b.starts.items (home_in b) b.columns.rows more w.starts w.shape.sizes h) (All-append (IsRowOf (home_in b)) (map (row_with_coords b.starts.items) b.columns.rows) more w.sound h)
 

@@ -8,7 +8,7 @@ use Rattle.cube_values.specs.declared.span.Part.{Part}
 use Rattle.cube_values.specs.Spans.{part_has, parts_have}
 use Rattle.brick_columns.specs.Rows.{BrickRow, row_at}
 use Rattle.brick_store.specs.Cuts.{AreCleared, AreClearedFrom}
-use Rattle.brick_store.specs.Whole.{coords_from}
+use Rattle.brick_store.specs.Whole.{coords_at_offsets}
 
 and_false : (b : Bool) → (b && false) ≡ false
 and_false true = refl
@@ -123,4 +123,4 @@ parts_more parts coords i d p q = ap (λ n. parts_have (take n parts) (take n co
 
 -- the first parts have the first coordinates of a row
 abbrev pub first_parts_have : List Part → List ℕ → ℕ → BrickRow → Bool
-first_parts_have parts starts n row = parts_have (take n parts) (take n (coords_from starts row.offsets))
+first_parts_have parts starts n row = parts_have (take n parts) (take n (coords_at_offsets starts row.offsets))

@@ -3,12 +3,12 @@ use Rattle.std.proofs.Common.{◌≡◌, ℕ, ◌+◌, ◌<◌, zero, suc, List,
 use Rattle.std.specs.List.{zip}
 use Rattle.std.proofs.lemmas.List.{length-map, take_more, take_more_set}
 use Rattle.std.proofs.lemmas.Slice.Zip.{length-zip}
-use Rattle.brick_store.specs.Whole.{coords_from}
+use Rattle.brick_store.specs.Whole.{coords_at_offsets}
 
-pub coords_long : (starts offsets : List ℕ) → length (coords_from starts offsets) ≡ min (length starts) (length offsets)
+pub coords_long : (starts offsets : List ℕ) → length (coords_at_offsets starts offsets) ≡ min (length starts) (length offsets)
 coords_long starts offsets = length-map (zip starts offsets) (λ p. p.0 + p.1) ∙ length-zip starts offsets
 
-pub coord_here : (starts offsets : List ℕ) (i d e : ℕ) → i < length starts → i < length offsets → get_or (coords_from starts offsets) i 0 ≡ get_or starts i d + get_or offsets i e
+pub coord_here : (starts offsets : List ℕ) (i d e : ℕ) → i < length starts → i < length offsets → get_or (coords_at_offsets starts offsets) i 0 ≡ get_or starts i d + get_or offsets i e
 coord_here [] offsets i d e p q = absurd (omega arith)
 coord_here (s ∷ starts) [] i d e p q = absurd (omega arith)
 coord_here (s ∷ starts) (o ∷ offsets) zero d e p q = refl

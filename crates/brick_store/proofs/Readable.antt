@@ -8,7 +8,7 @@ use Rattle.cube_values.specs.Shapes.{IsSoundSize}
 use Rattle.brick_address.specs.Addresses.{AreCoords}
 use Rattle.brick_columns.specs.Rows.{BrickRow, IsBrickRow, Layout}
 use Rattle.brick_store.specs.Bricks.{Home, BrickState, IsRowOf}
-use Rattle.brick_store.specs.Whole.{HasSmallCoords, HaveCoordsFrom, IsWhole, contract_view, coords_from, home_in, row_with_coords}
+use Rattle.brick_store.specs.Whole.{HasSmallCoords, HaveCoordsFrom, IsWhole, contract_view, coords_at_offsets, home_in, row_with_coords}
 use Rattle.brick_store.specs.declared.brick.Brick.TheInside.{Inside}
 use Rattle.brick_store.proofs.Changes.{seen_length}
 use Rattle.brick_store.proofs.Starts.{starts_long}
@@ -26,7 +26,7 @@ all_small home starts [] h i = All-nil (HasSmallCoords starts)
 all_small home starts (row ∷ rows) h i =
     let first = All-head (IsRowOf home) (row_with_coords starts row) (map (row_with_coords starts) rows) i in
     let rest = All-tail (IsRowOf home) (row_with_coords starts row) (map (row_with_coords starts) rows) i in
-    All-cons (HasSmallCoords starts) row rows (small_coords home.sizes (coords_from starts row.offsets) h first.coords.of_cube) (all_small home starts rows h rest)
+    All-cons (HasSmallCoords starts) row rows (small_coords home.sizes (coords_at_offsets starts row.offsets) h first.coords.of_cube) (all_small home starts rows h rest)
 
 -- how many dimensions there are
 pub dims_known : (b : Inside) → IsWhole b → length b.starts.items ≡ length b.shape.sizes

@@ -11,9 +11,9 @@ use Rattle.brick_address.specs.Addresses.{size_at, range_in, length_of, coord_at
 use Rattle.brick_address.proofs.Bricks.{bricks_pos, first_range_below, each_coord}
 use Rattle.brick_address.proofs.Dimensions.{length_pos, in_bounds, lie_apart}
 use Rattle.packed_words.specs.Rows.{differences}
-use Rattle.brick_columns.specs.Rows.{Layout, LiesFrom, row_from}
+use Rattle.brick_columns.specs.Rows.{Layout, LiesFrom, offset_row}
 use Rattle.brick_store.specs.Bricks.{Home, IsRowOf}
-use Rattle.brick_store.specs.Whole.{starts_of, coords_from, row_with_coords}
+use Rattle.brick_store.specs.Whole.{starts_of, coords_at_offsets, row_with_coords}
 
 -- a brick has a coordinate at offset 0 in each dimension
 pub zeros_fit : (sizes : List Size) (number : ℕ) → All IsSoundSize sizes → number < bricks_of sizes → AreOffsets sizes number (replicate (length sizes) 0)
@@ -34,7 +34,7 @@ start_at sizes number dim h b l =
 pub record LieFrom (sizes : List Size) (starts coords : List ℕ) : Type 0 where
   pub above : AllZip ◌≤◌ starts coords
   pub inside : AllZip ◌<◌ (differences coords starts) (map (λ size. size.range) sizes)
-  pub back : coords_from starts (differences coords starts) ≡ coords
+  pub back : coords_at_offsets starts (differences coords starts) ≡ coords
 
 pub lie_from : (sizes : List Size) (number : ℕ) (coords : List ℕ) → All IsSoundSize sizes → LieIn sizes number coords → LieFrom sizes (starts_of sizes number) coords
 lie_from [] number [] h i = record { above = tt; inside = tt; back = refl }
@@ -60,12 +60,12 @@ row_lies home layout row h r m i =
     let by = lie_from home.sizes home.number row.coords h i.coords in
     record { above = by.above; inside = record { offsets = rw r by.inside; metrics = i.metrics ∙ sym m } }
 
-pub row_back : (home : Home) (row : CodedRow) → All IsSoundSize home.sizes → IsRowOf home row → row_with_coords (starts_of home.sizes home.number) (row_from (starts_of home.sizes home.number) row) ≡ row
+pub row_back : (home : Home) (row : CodedRow) → All IsSoundSize home.sizes → IsRowOf home row → row_with_coords (starts_of home.sizes home.number) (offset_row (starts_of home.sizes home.number) row) ≡ row
 row_back home row h i =
     let by = lie_from home.sizes home.number row.coords h i.coords in
     λ t. record { coords = by.back t; metrics = row.metrics }
 
-pub rows_back : (home : Home) (rows : List CodedRow) → All IsSoundSize home.sizes → All (IsRowOf home) rows → map (row_with_coords (starts_of home.sizes home.number)) (map (row_from (starts_of home.sizes home.number)) rows) ≡ rows
+pub rows_back : (home : Home) (rows : List CodedRow) → All IsSoundSize home.sizes → All (IsRowOf home) rows → map (row_with_coords (starts_of home.sizes home.number)) (map (offset_row (starts_of home.sizes home.number)) rows) ≡ rows
 rows_back home [] h i = refl
 rows_back home (row ∷ rows) h i =
     λ t. row_back home row h (All-head (IsRowOf home) row rows i) t ∷ rows_back home rows h (All-tail (IsRowOf home) row rows i) t

@@ -16,12 +16,12 @@ abbrev pub starts_of : List Size → ℕ → List ℕ
 starts_of sizes number = coords_of sizes number (replicate (length sizes) 0)
 
 -- The coordinates at offsets from these starts.
-abbrev pub coords_from : List ℕ → List ℕ → List ℕ
-coords_from starts offsets = map (λ p. p.0 + p.1) (zip starts offsets)
+abbrev pub coords_at_offsets : List ℕ → List ℕ → List ℕ
+coords_at_offsets starts offsets = map (λ p. p.0 + p.1) (zip starts offsets)
 
 -- Coordinates at offsets that 32 bits can count.
 abbrev pub HasSmallCoords : List ℕ → BrickRow → Type 0
-HasSmallCoords starts row = All (λ coord. coord < 2 ^ 32) (coords_from starts row.offsets)
+HasSmallCoords starts row = All (λ coord. coord < 2 ^ 32) (coords_at_offsets starts row.offsets)
 
 -- Rows whose coordinates from these starts can be read, with what the numbers of dimensions and metrics have to be.
 pub record HaveCoordsFrom (starts : List ℕ) (columns : BrickRows) : Type 0 where
@@ -33,7 +33,7 @@ pub record HaveCoordsFrom (starts : List ℕ) (columns : BrickRows) : Type 0 whe
 
 -- A row by its offsets, as a row by coordinates.
 abbrev pub row_with_coords : List ℕ → BrickRow → CodedRow
-row_with_coords starts row = record { coords = coords_from starts row.offsets; metrics = row.metrics }
+row_with_coords starts row = record { coords = coords_at_offsets starts row.offsets; metrics = row.metrics }
 
 -- Which brick it is.
 abbrev pub home_in : Inside → Home

@@ -4,7 +4,7 @@ ghost use Rattle.std.specs.Prelude.{◌≡◌, ℕ, ◌+◌, ◌*◌, ◌^◌, �
 ghost use Rattle.agg_fold.specs.Coded.{coded_key};
 ghost use Rattle.brick_columns.specs.Rows.{BrickRow, IsBrickRow, row_at};
 ghost use Rattle.brick_store.specs.Cells.{cell_count, cell_of, IsRowOfCell};
-ghost use Rattle.brick_store.specs.Whole.{coords_from};
+ghost use Rattle.brick_store.specs.Whole.{coords_at_offsets};
 
 use brick_columns::Columns;
 
@@ -79,7 +79,7 @@ pub fn write_key(columns: &Columns, starts: &[u32], group: &[u32], cell: u32, ke
     requires some { (row : BrickRow)
         × IsRowOfCell columns.now.layout starts.now group.now cell row }
     ensures { (row : BrickRow) → IsRowOfCell columns.now.layout starts.now group.now cell row
-        → key.new ≡ coded_key group.now (coords_from starts.now row.offsets) }
+        → key.new ≡ coded_key group.now (coords_at_offsets starts.now row.offsets) }
 {
     let mut left = cell;
     'dims: for i in 0..group.len() {

@@ -2,7 +2,7 @@
 
 ghost use Rattle.std.specs.Prelude.{◌≡◌, ◌^◌, ◌<◌, length};
 ghost use Rattle.brick_columns.specs.Rows.{IsBrickRow, row_at};
-ghost use Rattle.brick_store.specs.Whole.{HaveCoordsFrom, coords_from};
+ghost use Rattle.brick_store.specs.Whole.{HaveCoordsFrom, coords_at_offsets};
 
 use brick_columns::Columns;
 
@@ -18,7 +18,8 @@ pub fn read_row(
     requires readable { HaveCoordsFrom starts.now columns.now }
     requires coords_long { length coords.old ≡ length starts.now }
     requires metrics_long { length metrics.old ≡ columns.now.layout.metrics }
-    ensures coords { coords.new ≡ coords_from starts.now (row_at columns.now.rows row).offsets }
+    ensures coords { coords.new ≡ coords_at_offsets starts.now
+        (row_at columns.now.rows row).offsets }
     ensures metrics { metrics.new ≡ (row_at columns.now.rows row).metrics }
     ensures coords_long { length coords.new ≡ length coords.old }
     ensures metrics_long { length metrics.new ≡ length metrics.old }
@@ -32,7 +33,8 @@ fn read_coords(columns: &Columns, starts: &[u32], row: u64, coords: &mut [u32])
     requires row { row < length columns.now.rows }
     requires readable { HaveCoordsFrom starts.now columns.now }
     requires long { length coords.old ≡ length starts.now }
-    ensures value { coords.new ≡ coords_from starts.now (row_at columns.now.rows row).offsets }
+    ensures value { coords.new ≡ coords_at_offsets starts.now
+        (row_at columns.now.rows row).offsets }
     ensures long { length coords.new ≡ length coords.old }
 {
     'dims: for dim in 0..starts.len() {

@@ -10,10 +10,10 @@ use Rattle.cube_values.specs.declared.value.Value.{Value}
 use Rattle.cube_values.specs.declared.value.Value.TheVariants.{Text, Int}
 
 -- Codes stand in the order of the texts. A text is read as the first, which may be none; a number is itself.
-abbrev pub number_for : List (Option ℕ) → Value → Option ℤ
-number_for codes (Int n) = Some n
-number_for [] (Text text) = None
-number_for (code ∷ codes) (Text text) = option_map pos code
+abbrev pub number_by_codes : List (Option ℕ) → Value → Option ℤ
+number_by_codes codes (Int n) = Some n
+number_by_codes [] (Text text) = None
+number_by_codes (code ∷ codes) (Text text) = option_map pos code
 
 -- The codes behind that of a value.
 abbrev pub codes_behind : List (Option ℕ) → Value → List (Option ℕ)
@@ -25,7 +25,7 @@ codes_behind (code ∷ codes) (Text text) = codes
 abbrev pub coded_values : List (Option ℕ) → List Value → List Value
 coded_values codes [] = []
 coded_values codes (v ∷ values) =
-    cons_option (option_map Int (number_for codes v)) (coded_values (codes_behind codes v) values)
+    cons_option (option_map Int (number_by_codes codes v)) (coded_values (codes_behind codes v) values)
 
 -- The values that a test compares with.
 abbrev pub values_of_test : ValueTest → List Value

@@ -47,9 +47,9 @@ abbrev pub start_of : ℤ → ℕ
 start_of (pos n) = n
 start_of (negsuc n) = 0
 
-abbrev pub end_of : ℤ → ℕ
-end_of (pos n) = n + 1
-end_of (negsuc n) = 0
+abbrev pub coord_behind : ℤ → ℕ
+coord_behind (pos n) = n + 1
+coord_behind (negsuc n) = 0
 
 -- The coordinate that a value is.
 abbrev pub coord_of : ℕ → Value → Option ℕ

@@ -77,7 +77,8 @@ fn append_code(
     texts: &[Text],
     value: &Value,
 ) -> Result<(), AllocError>
-    ensures { OnOk result (codes.new.items ≡ codes.old.items ++ codes_among texts.now (value.now ∷ [])) }
+    ensures { OnOk result (codes.new.items ≡ codes.old.items
+        ++ codes_among texts.now (value.now ∷ [])) }
 {
     if let Value::Text(text) = value {
         codes.push(code_in(texts, text)?)?;

@@ -5,7 +5,7 @@ ghost use Rattle.std.specs.List.{cons_option, list_any};
 ghost use Rattle.std.specs.Option.{option_map};
 ghost use Rattle.cube_values.specs.Spans.{Rises};
 ghost use Rattle.cube_values.specs.declared.value.Value.TheVariants.{Int};
-ghost use Rattle.condition_spans.specs.CodedConditions.{number_for, codes_behind, coded_values};
+ghost use Rattle.condition_spans.specs.CodedConditions.{number_by_codes, codes_behind, coded_values};
 ghost use Rattle.condition_spans.specs.Spans.{coord_of, coords_among};
 
 use crate::grow::append;
@@ -13,7 +13,7 @@ use cube_values::Value;
 use std::alloc::{AllocError, Global};
 
 fn next_number(codes: &[Option<u32>]) -> Option<i64>
-    ensures { result ≡ number_for codes.now (Value.Text []) }
+    ensures { result ≡ number_by_codes codes.now (Value.Text []) }
 {
     match codes {
         [Some(code), ..] => Some(i64::from(*code)),
@@ -22,8 +22,8 @@ fn next_number(codes: &[Option<u32>]) -> Option<i64>
 }
 
 /// The number that a value is read as.
-fn number_for(codes: &[Option<u32>], value: &Value) -> Option<i64>
-    ensures { result ≡ number_for codes.now value.now }
+fn number_by_codes(codes: &[Option<u32>], value: &Value) -> Option<i64>
+    ensures { result ≡ number_by_codes codes.now value.now }
 {
     match value {
         Value::Int(n) => Some(*n),
@@ -98,7 +98,7 @@ fn coords_among(
     let mut codes_left = codes;
     let mut values_left = values;
     'values: while let [value, values_rest @ ..] = values_left {
-        let coord = coord_for(cardinality, number_for(codes_left, value));
+        let coord = coord_for(cardinality, number_by_codes(codes_left, value));
         append(&mut coords, coord)?;
         codes_left = codes_behind(codes_left, value);
         values_left = values_rest;
@@ -125,7 +125,8 @@ pub fn rising_coords(
 ) -> Result<Vec<u32>, AllocError>
     ensures rises { IfOk result (λ coords. Rises coords.items) }
     ensures same { IfOk result (λ coords. (coord : ℕ) → list_any (λ c. c == coord) coords.items
-        ≡ list_any (λ c. c == coord) (coords_among cardinality (coded_values codes.now values.now))) }
+        ≡ list_any (λ c. c == coord) (coords_among cardinality
+        (coded_values codes.now values.now))) }
 {
     let mut coords = coords_among(alloc, cardinality, values, codes)?;
     make_rising(&mut coords);

@@ -7,7 +7,7 @@ ghost use Rattle.cube_values.specs.Values.{value_eq};
 ghost use Rattle.cube_values.specs.Spans.{part_has, IsSoundPart, Rises};
 ghost use Rattle.cube_values.specs.declared.value.Value.TheVariants.{Int};
 ghost use Rattle.condition_spans.specs.CodedConditions.{coded_values, values_of_test, coded_test, coded_condition, coded_conditions};
-ghost use Rattle.condition_spans.specs.Spans.{IsPartOf, passes_at, passes_here, start_of, end_of};
+ghost use Rattle.condition_spans.specs.Spans.{IsPartOf, passes_at, passes_here, start_of, coord_behind};
 
 use crate::coords::{codes_behind_all, rising_coords};
 use cube_values::{Condition, Coords, Part, Value, ValueTest};
@@ -100,8 +100,8 @@ fn start_of(low: i64) -> u64
 }
 
 /// The first coordinate that is above a number.
-fn end_of(high: i64) -> u64
-    ensures { result ≡ end_of high }
+fn coord_behind(high: i64) -> u64
+    ensures { result ≡ coord_behind high }
 {
     if high < 0 { 0 } else { high as u64 + 1 }
 }
@@ -126,7 +126,7 @@ fn part_between_numbers(cardinality: u32, low: i64, high: i64) -> Part
         (λ x. lies_between (Int low) (Int high) (Int (pos x))) result }
     ensures sound { IsSoundPart result }
 {
-    part_from(cardinality, start_of(low), end_of(high))
+    part_from(cardinality, start_of(low), coord_behind(high))
 }
 
 /// The coordinates between two values. Between texts there are none.

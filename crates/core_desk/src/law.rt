@@ -59,7 +59,8 @@ pub fn bounds_stay_safe()
 pub fn nothing_aborted_counts()
     ensures apart { (o : Opening) (es : List CoreEvent) (e : ℕ) → IsCoreRun o es
         → has_aborted es e ≡ true → has_committed o es e ≡ false }
-    ensures counts { (o : Opening) (es : List CoreEvent) (number e : ℕ) (s : Snapshot) → IsCoreRun o es
+    ensures counts { (o : Opening) (es : List CoreEvent) (number e : ℕ) (s : Snapshot)
+        → IsCoreRun o es
         → held_by (counters_of_run o es).snapshots number ≡ Some s → has_aborted es e ≡ true
         → counts_for o es s e ≡ false }
 {}
@@ -77,7 +78,8 @@ pub fn desk_calls_meet_their_conditions()
     ensures commits { (o : Opening) (a statement epoch : ℕ) (es : List CoreEvent)
         → IsCoreRun o (By a (OnDesk (Commit statement epoch)) ∷ es)
         → HoldsWriter (counters_of_run o es) a epoch }
-    ensures aborts { (o : Opening) (a statement epoch : ℕ) (cause : AbortCause) (es : List CoreEvent)
+    ensures aborts { (o : Opening) (a statement epoch : ℕ) (cause : AbortCause)
+        (es : List CoreEvent)
         → IsCoreRun o (By a (OnDesk (AbortEnd statement epoch cause)) ∷ es)
         → HoldsWriter (counters_of_run o es) a epoch }
     ensures closes { (o : Opening) (a number statement : ℕ) (es : List CoreEvent)

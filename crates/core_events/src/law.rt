@@ -21,7 +21,8 @@ pub fn names_only_grow()
         ≡ (dictionary_of o cube dim es).names ++ rest) }
     ensures codes { (o : Opening) (a cube dim n : ℕ) (name : List ℕ) (code : Code)
         (later es : List CoreEvent)
-        → IsCoreRun o (By a (OnNames (Encode cube dim name code)) ∷ es) → number_by_code code ≡ Some n
+        → IsCoreRun o (By a (OnNames (Encode cube dim name code)) ∷ es)
+        → number_by_code code ≡ Some n
         → slice_get (dictionary_of o cube dim
         (later ++ By a (OnNames (Encode cube dim name code)) ∷ es)).names n ≡ Some name }
     ensures known { (o : Opening) (es : List CoreEvent) → IsCoreRun o es → (a cube dim : ℕ)

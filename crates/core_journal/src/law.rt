@@ -45,7 +45,8 @@ pub fn notes_and_ends_meet_their_conditions()
     ensures commits { (o : Opening) (a statement epoch : ℕ) (es : List CoreEvent)
         → IsCoreRun o (By a (OnDesk (Commit statement epoch)) ∷ es)
         → epoch ≡ held_epoch (counters_of_run o es) a }
-    ensures aborts { (o : Opening) (a statement epoch : ℕ) (cause : AbortCause) (es : List CoreEvent)
+    ensures aborts { (o : Opening) (a statement epoch : ℕ) (cause : AbortCause)
+        (es : List CoreEvent)
         → IsCoreRun o (By a (OnDesk (AbortEnd statement epoch cause)) ∷ es)
         → epoch ≡ held_epoch (counters_of_run o es) a }
 {}

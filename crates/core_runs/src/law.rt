@@ -21,7 +21,8 @@ ghost use Rattle.core_runs.specs.Told.{rolled_back, told_of};
 /// A purge is at an epoch up to LSE, and no client was shown a greater LSE than the desk has.
 pub fn purges_stay_safe()
     ensures purge { (o : Opening) (es : List CoreEvent) (mail epoch : ℕ) (answer : JobOutcome)
-        → IsCoreRun o (At mail (Work (Purge epoch) answer) ∷ es) → epoch ≤ (counters_of_run o es).lse }
+        → IsCoreRun o (At mail (Work (Purge epoch) answer) ∷ es)
+        → epoch ≤ (counters_of_run o es).lse }
     ensures shown { (o : Opening) (es : List CoreEvent) (client : ℕ) → IsCoreRun o es
         → (client_state o client es).lse ≤ (counters_of_run o es).lse }
 {}
@@ -53,7 +54,8 @@ pub fn bricks_keep_what_they_were_told()
 /// they were appended.
 pub fn queries_see_one_snapshot()
     ensures { (o : Opening) (es : List CoreEvent) (client brick : ℕ) (query : BoundQuery)
-        (s : Snapshot) → IsCoreRun o es → HasAnswered o.shards query s (client_state o client es).group
+        (s : Snapshot) → IsCoreRun o es → HasAnswered o.shards query s
+        (client_state o client es).group
         → rows_of_brick o query.cube brick (rows_fetched (client_state o client es).group.answers)
         ≡ rows_asked o es query s brick }
 {}

@@ -28,7 +28,8 @@ pub fn committed_transactions_are_done()
 
 /// An aborted transaction was rolled back on every shard.
 pub fn aborted_transactions_leave_nothing()
-    ensures { (o : Opening) (es : List CoreEvent) (shard epoch : ℕ) → IsCoreRun o es → shard < o.shards
+    ensures { (o : Opening) (es : List CoreEvent) (shard epoch : ℕ) → IsCoreRun o es
+        → shard < o.shards
         → has_aborted es epoch ≡ true → rolled_back shard es epoch ≡ true }
 {}
 

@@ -61,9 +61,9 @@ IsJudged decl fields coords metrics (step.Bad fault) = record_fault decl fields 
 IsJudged decl fields coords metrics step.End = ⊥
 
 -- A step takes a record and judges it, or there is none left.
-abbrev pub IsStep : LoadState → LoadState → Step → Type 0
-IsStep old new step.End = IsOver old new
-IsStep old new answer = TakesRecord old new × IsJudged new.decl new.fields new.coords new.metrics answer
+abbrev pub IsLoadStep : LoadState → LoadState → Step → Type 0
+IsLoadStep old new step.End = IsOver old new
+IsLoadStep old new answer = TakesRecord old new × IsJudged new.decl new.fields new.coords new.metrics answer
 
 -- A load takes its next record, which is this row and has this number.
 pub record GivesRow (old new : LoadState) (number : ℕ) (row : Row) : Type 0 where
@@ -79,7 +79,7 @@ pub record GivesFault (old new : LoadState) (number : ℕ) (reason : BadRow) : T
   pub fault : record_fault new.decl new.fields ≡ Some reason
 
 -- The next record as a value: a row or why it is none, with its number.
-abbrev pub IsNext : LoadState → LoadState → Record → Type 0
-IsNext old new rec.End = IsOver old new
-IsNext old new (rec.Good number row) = GivesRow old new number row
-IsNext old new (rec.Bad number reason) = GivesFault old new number reason
+abbrev pub IsNextRecord : LoadState → LoadState → Record → Type 0
+IsNextRecord old new rec.End = IsOver old new
+IsNextRecord old new (rec.Good number row) = GivesRow old new number row
+IsNextRecord old new (rec.Bad number reason) = GivesFault old new number reason

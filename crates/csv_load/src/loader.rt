@@ -1,7 +1,7 @@
 //! The records of a file as rows of a cube, one after the other.
 
 ghost use Rattle.std.specs.Prelude.{◌≡◌, ◌<◌, [], length, get_or, IsUtf8, IfOk, OnErr};
-ghost use Rattle.csv_load.specs.Loads.{BeginsLoad, IsNext, IsStep};
+ghost use Rattle.csv_load.specs.Loads.{BeginsLoad, IsNextRecord, IsLoadStep};
 
 use crate::judge::{field, judge};
 use crate::row::record_row;
@@ -67,7 +67,7 @@ impl Loader {
     /// Reads the next record and says whether it is a row. The error is out of memory, and after it
     /// the load is to be dropped.
     pub fn step(&mut self) -> Result<Step, AllocError>
-        ensures { IfOk result (λ answer. IsStep self.old self.new answer) }
+        ensures { IfOk result (λ answer. IsLoadStep self.old self.new answer) }
     {
         if !self.source.read()? {
             return Ok(Step::End);
@@ -83,7 +83,7 @@ impl Loader {
 
     /// The next record as a value of its own, with its number. The error is that of `step`.
     pub fn next(&mut self) -> Result<Record, AllocError>
-        ensures { IfOk result (λ answer. IsNext self.old self.new answer) }
+        ensures { IfOk result (λ answer. IsNextRecord self.old self.new answer) }
     {
         match self.step()? {
             Step::Good => Ok(Record::Good {

@@ -40,6 +40,6 @@ rows_seen s entries i (row ∷ rows) =
 
 -- The rows that rounds keep of a brick for a snapshot, which is the reader at the last round's epoch: those of the
 -- parts joined that no mark hides.
-abbrev pub rows_of_brick : Snapshot → ℕ → ℕ → List Round → List CodedRow
-rows_of_brick s place brick rounds =
+abbrev pub kept_rows_of_brick : Snapshot → ℕ → ℕ → List Round → List CodedRow
+kept_rows_of_brick s place brick rounds =
     let parts = parts_of_brick place brick rounds in rows_seen s (entries_joined 0 parts) 0 (rows_joined parts)

@@ -28,12 +28,12 @@ abbrev pub small_insert : ℕ → ℕ → Statement
 small_insert x m = statement.Insert (codes "t") ((Int (pos x) ∷ Int (pos m) ∷ []) ∷ [])
 
 -- SUM(m), COUNT(*)
-abbrev pub sum_and_count : List Item
-sum_and_count = Sum (codes "m") ∷ CountAll ∷ []
+abbrev pub sum_and_count_items : List Item
+sum_and_count_items = Sum (codes "m") ∷ CountAll ∷ []
 
 -- WATCH SELECT SUM(m), COUNT(*) FROM t
 abbrev pub small_watch : Statement
-small_watch = statement.Watch sum_and_count (codes "t") [] []
+small_watch = statement.Watch sum_and_count_items (codes "t") [] []
 
 -- DELETE FROM t
 abbrev pub small_delete : Statement
@@ -41,7 +41,7 @@ small_delete = statement.Delete (codes "t") []
 
 -- SELECT SUM(m), COUNT(*) FROM t
 abbrev pub small_select : Statement
-small_select = statement.Select sum_and_count (codes "t") [] [] [] [] None
+small_select = statement.Select sum_and_count_items (codes "t") [] [] [] [] None
 
 -- A run of these scripts with this journal, over the small cube and without a store.
 abbrev pub small_run : List (List Sentence) → List JournalEntry → RunRecord

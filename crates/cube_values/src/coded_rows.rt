@@ -24,7 +24,12 @@ impl Model for CodedRows {
 
     ghost Value = { Batch };
 
-    ghost view = { λ b. record { rows = flat_rows b.dims b.width b.coords.items b.metrics.items b.rows; dims = b.dims; width = b.width; room = b.room } };
+    ghost view = { λ b. record {
+      rows = flat_rows b.dims b.width b.coords.items b.metrics.items b.rows;
+      dims = b.dims;
+      width = b.width;
+      room = b.room;
+    } };
 
     ghost invariant = { λ b. (b.rows ≤ b.room)
         × IsFlat b.dims b.rows b.room (vec_capacity b.coords) b.coords.items

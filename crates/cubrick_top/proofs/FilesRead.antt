@@ -13,7 +13,7 @@ use Rattle.outside.specs.ShelfCalls.{ShelfCall}
 use Rattle.run_files.specs.Readings.{AbsenceRises, FaultRises, IsRead, ReadsBy, ShowsFile}
 use Rattle.cube_language.specs.Pieces.{IsScript}
 use Rattle.cube_language.specs.CubesText.{Declares}
-use Rattle.run_files.specs.RunFiles.{CubesFile, FileReading, Fails, FirstBad, Gives, IsBad, IsInOrder, ScriptFile}
+use Rattle.run_files.specs.RunFiles.{CubesFile, FileReading, Fails, FirstBad, Gives, IsBad, ReadsInOrder, ScriptFile}
 use Rattle.run_files.specs.Texts.{DeclaresGiven, HoldsScript}
 use Rattle.run_files.specs.declared.bad_file.BadFile.{BadFile}
 use Rattle.run_files.specs.declared.script.Script.{Script}
@@ -21,7 +21,7 @@ use Rattle.row_loads.specs.LoadsFromShelf.{ShelfSeen}
 use Rattle.script_sentences.specs.Sentences.{IsRunnable, SaysInPlace}
 use Rattle.sql_words.specs.Texts.{AreTextsAt}
 use Rattle.cubrick_top.specs.Answers.{ReadsScript, ScriptCalls, ShowsInput, ShowsScript, fault_for}
-use Rattle.cubrick_top.specs.Inputs.{FilesShow, InputCalls, ReadsInput, TwoReadings, bad_of, files_of, reading_of}
+use Rattle.cubrick_top.specs.Inputs.{FilesShow, InputCalls, ReadsInput, TwoReadings, bad_of, run_files_of, reading_of}
 use Rattle.cubrick_top.specs.declared.fault.BuiltPart.TheVariants as part
 use Rattle.cubrick_top.specs.declared.fault.Fault.{Fault}
 use Rattle.cubrick_top.specs.declared.fault.Fault.TheVariants.{File, NotBuilt, NoMemory, OutputFault, Words}
@@ -125,13 +125,13 @@ script_unread told before now name cubes error fault r h =
 -- ---- both files
 
 pub in_order : (cubes_name : List ℕ) (declared : List Decl) (reading : FileReading) (text : List ℕ)
-    → reading ≡ Gives (whole text) → Declares text declared → IsInOrder (CubesFile cubes_name) reading
-in_order cubes_name declared reading text is h = coe 1 0 (i. IsInOrder (CubesFile cubes_name) (is i)) (declared, h)
+    → reading ≡ Gives (whole text) → Declares text declared → ReadsInOrder (CubesFile cubes_name) reading
+in_order cubes_name declared reading text is h = coe 1 0 (i. ReadsInOrder (CubesFile cubes_name) (is i)) (declared, h)
 
 pub first_script : (two : TwoReadings) (cubes_name script_name : List ℕ) (declared : List Decl) (text : List ℕ)
     (bad : BadFile) → two.cubes ≡ Gives (whole text) → Declares text declared
     → IsBad (ScriptFile 1 script_name) two.script bad
-    → FirstBad (reading_of two) (files_of cubes_name script_name) bad
+    → FirstBad (reading_of two) (run_files_of cubes_name script_name) bad
 first_script two cubes_name script_name declared text bad is h found = record {
   before = CubesFile cubes_name ∷ [];
   file = ScriptFile 1 script_name;
@@ -204,7 +204,7 @@ both_read seen middle cubes_name script_name declared answer r s faults absences
         }
 
 pub first_cubes : (two : TwoReadings) (cubes_name script_name : List ℕ) (bad : BadFile)
-    → IsBad (CubesFile cubes_name) two.cubes bad → FirstBad (reading_of two) (files_of cubes_name script_name) bad
+    → IsBad (CubesFile cubes_name) two.cubes bad → FirstBad (reading_of two) (run_files_of cubes_name script_name) bad
 first_cubes two cubes_name script_name bad found = record {
   before = [];
   file = CubesFile cubes_name;

@@ -5,13 +5,13 @@ use Rattle.cube_language.specs.Pieces.{IsScript}
 use Rattle.outside.specs.Counts.{Rose}
 use Rattle.outside.specs.Given.{Given, whole}
 use Rattle.run_files.specs.Readings.{FaultRises, IsToldAs}
-use Rattle.run_files.specs.RunFiles.{CubesFile, FileReading, Fails, FilesEnd, FirstBad, Gives, IsBad, IsInOrder, RunFile, ScriptFile}
+use Rattle.run_files.specs.RunFiles.{CubesFile, FileReading, Fails, FilesEnd, FirstBad, Gives, IsBad, ReadsInOrder, RunFile, ScriptFile}
 use Rattle.run_files.specs.declared.bad_file.BadFile.{BadFile}
 use Rattle.run_files.specs.declared.bad_file.BadFile.TheVariants.{ReadFailed}
 use Rattle.row_loads.specs.LoadsFromShelf.{ShelfSeen}
 use Rattle.script_sentences.specs.Sentences.{AsksForWatch, ScriptsThatRunAskForNoWatch}
 use Rattle.sql_words.specs.Laws.{ScriptsHaveOneListOfPieces}
-use Rattle.cubrick_top.specs.Inputs.{AreBothTold, AskForWatch, TwoReadings, files_of, reading_of}
+use Rattle.cubrick_top.specs.Inputs.{AreBothTold, AskForWatch, TwoReadings, run_files_of, reading_of}
 use Rattle.cubrick_top.specs.Runs.{Ends, HasBadFile, IsReady, IsServed, OutputRises, Runs, status_of}
 use Rattle.cubrick_top.specs.declared.fault.BuiltPart.TheVariants as part
 use Rattle.cubrick_top.specs.declared.fault.Fault.{Fault}
@@ -45,11 +45,11 @@ module _ (known : FilesAreKnown) (seen : ShelfSeen) (two : TwoReadings) (cubes_n
     (told : AreBothTold seen.told cubes_name script_name two) (ready : IsReady seen.told cubes_name script_name)
     (quiet : Rose seen.faults seen.new_faults → ⊥) where
   -- where a file could not be read, the count of faults rose
-  failed : (bad found : BadFile) → FirstBad (reading_of two) (files_of cubes_name script_name) bad
-      → FirstBad (reading_of two) (files_of cubes_name script_name) found
+  failed : (bad found : BadFile) → FirstBad (reading_of two) (run_files_of cubes_name script_name) bad
+      → FirstBad (reading_of two) (run_files_of cubes_name script_name) found
       → FaultRises (Some bad) seen.faults seen.new_faults → (name : List ℕ) → found ≡ ReadFailed name → ⊥
   failed bad found a b rises name is =
-      let same = known.one_end (reading_of two) (files_of cubes_name script_name) (Some bad) (Some found) a b in
+      let same = known.one_end (reading_of two) (run_files_of cubes_name script_name) (Some bad) (Some found) a b in
       quiet (coe 0 1 (i. FaultRises ((same ∙ ap (λ (x : BadFile). Some x) is) i) seen.faults seen.new_faults) rises)
 
   pub no_bad_file : (bad : BadFile) → HasBadFile seen two cubes_name script_name bad → ⊥
@@ -63,15 +63,15 @@ module _ (known : FilesAreKnown) (seen : ShelfSeen) (two : TwoReadings) (cubes_n
           h.faults script_name refl
       at_script (Gives given) is cubes =
           let script = script_as_ready seen.told cubes_name script_name two.script given ready is told.script in
-          let good : FilesEnd (reading_of two) (files_of cubes_name script_name) None = (
+          let good : FilesEnd (reading_of two) (run_files_of cubes_name script_name) None = (
             in_order cubes_name ready.cubes two.cubes ready.input.text cubes ready.input.declares,
             (
-              coe 1 0 (i. IsInOrder (ScriptFile 1 script_name) (script i))
+              coe 1 0 (i. ReadsInOrder (ScriptFile 1 script_name) (script i))
                   (ready.input.script.pieces, ready.input.script.in_order),
               tt,
             ),
           ) in
-          none-some bad (known.one_end (reading_of two) (files_of cubes_name script_name) None (Some bad) good h.first)
+          none-some bad (known.one_end (reading_of two) (run_files_of cubes_name script_name) None (Some bad) good h.first)
 
       at_cubes : (reading : FileReading) → two.cubes ≡ reading → ⊥
       at_cubes Fails is =

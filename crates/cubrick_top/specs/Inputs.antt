@@ -19,8 +19,8 @@ use Rattle.cubrick_top.specs.declared.fault.Fault.TheVariants.{File, NotBuilt, N
 use Rattle.cubrick_top.specs.declared.files.Input.{Input}
 
 -- The files by their names, in the order in which they are read.
-abbrev pub files_of : List ℕ → List ℕ → List RunFile
-files_of cubes_name script_name = CubesFile cubes_name ∷ ScriptFile 1 script_name ∷ []
+abbrev pub run_files_of : List ℕ → List ℕ → List RunFile
+run_files_of cubes_name script_name = CubesFile cubes_name ∷ ScriptFile 1 script_name ∷ []
 
 -- What reading the cubes file and the script comes to.
 pub record TwoReadings : Type 0 where
@@ -72,7 +72,7 @@ pub record AskForWatch (two : TwoReadings) : Type 0 where
 abbrev pub FilesShow : TwoReadings → List ℕ → List ℕ → Result Input Fault → Type 0
 FilesShow two cubes_name script_name (Ok input) = GiveInput two input.cubes.items input.script.items
 FilesShow two cubes_name script_name (Err (File bad)) =
-    FirstBad (reading_of two) (files_of cubes_name script_name) bad
+    FirstBad (reading_of two) (run_files_of cubes_name script_name) bad
 FilesShow two cubes_name script_name (Err (NotBuilt part.Script)) = AskForWatch two
 FilesShow two cubes_name script_name (Err NoMemory) = Unit {0}
 FilesShow two cubes_name script_name (Err fault) = ⊥
@@ -85,7 +85,7 @@ bad_of answer = None
 -- The calls by which files were read up to the first that is bad.
 abbrev pub ReadsUpTo : TwoReadings → List ℕ → List ℕ → BadFile → List ShelfCall → List ShelfCall → Type 0
 ReadsUpTo two cubes_name script_name bad past now =
-    (f : FirstBad (reading_of two) (files_of cubes_name script_name) bad)
+    (f : FirstBad (reading_of two) (run_files_of cubes_name script_name) bad)
     × ReadInTurn (reading_of two) (f.before ++ f.file ∷ []) past now
 
 -- The calls by which the files were read: no file behind the one that is bad. Where memory ran out they may be any.
@@ -93,7 +93,7 @@ abbrev pub InputCalls : TwoReadings → List ℕ → List ℕ → Result Input F
 InputCalls two cubes_name script_name (Err (File bad)) past now = ReadsUpTo two cubes_name script_name bad past now
 InputCalls two cubes_name script_name (Err NoMemory) past now = Unit {0}
 InputCalls two cubes_name script_name answer past now =
-    ReadInTurn (reading_of two) (files_of cubes_name script_name) past now
+    ReadInTurn (reading_of two) (run_files_of cubes_name script_name) past now
 
 -- The files were read as the shelf tells them and counts their faults, by these calls, and it shows in the answer.
 pub record ReadsInput (seen : ShelfSeen) (cubes_name script_name : List ℕ) (answer : Result Input Fault) : Type 0 where

@@ -20,7 +20,7 @@ use Rattle.script_runs.specs.ScriptRuns.{LeavesLegal, RunsWhole}
 use Rattle.script_sentences.specs.Sentences.{sentence_of}
 use Rattle.script_sentences.specs.declared.said.Said.{Said}
 use Rattle.session_scripts.specs.CountedReplies.{GainsReplies}
-use Rattle.cubrick_top.specs.Inputs.{AreBothTold, AskForWatch, GiveInput, ReadsUpTo, TwoReadings, files_of, reading_of}
+use Rattle.cubrick_top.specs.Inputs.{AreBothTold, AskForWatch, GiveInput, ReadsUpTo, TwoReadings, run_files_of, reading_of}
 use Rattle.cubrick_top.specs.declared.fault.BuiltPart.TheVariants as part
 use Rattle.cubrick_top.specs.declared.fault.Fault.{Fault}
 use Rattle.cubrick_top.specs.declared.fault.Fault.TheVariants.{Words, File, NotBuilt, OutputFault, NoMemory}
@@ -69,7 +69,7 @@ pub record HasText (seen : ShelfSeen) (two : TwoReadings) (finish : Finish) (tex
 -- A file was bad, the first that was, and none behind it was read.
 pub record HasBadFile (seen : ShelfSeen) (two : TwoReadings) (cubes_name script_name : List ℕ) (file : BadFile)
     : Type 0 where
-  pub first : FirstBad (reading_of two) (files_of cubes_name script_name) file
+  pub first : FirstBad (reading_of two) (run_files_of cubes_name script_name) file
   pub calls : WhereKnown (ReadsUpTo two cubes_name script_name file) seen.calls seen.new_calls
   pub faults : FaultRises (Some file) seen.faults seen.new_faults
   pub absences : AbsenceRises (Some file) seen.absences seen.new_absences
@@ -77,7 +77,7 @@ pub record HasBadFile (seen : ShelfSeen) (two : TwoReadings) (cubes_name script_
 -- The files are in order, and the script asks for a watch.
 pub record HasWatch (seen : ShelfSeen) (two : TwoReadings) (cubes_name script_name : List ℕ) : Type 0 where
   pub asks : AskForWatch two
-  pub calls : WhereKnown (ReadInTurn (reading_of two) (files_of cubes_name script_name)) seen.calls seen.new_calls
+  pub calls : WhereKnown (ReadInTurn (reading_of two) (run_files_of cubes_name script_name)) seen.calls seen.new_calls
   pub faults : seen.new_faults ≡ seen.faults
   pub absences : seen.new_absences ≡ seen.absences
 

@@ -71,7 +71,8 @@ fn read_sentences_of<H: Shelf>(
     name: &str,
 ) -> Result<Input, Fault>
     ensures same { H.told shelf.new ≡ H.told shelf.old }
-    ensures faults { FaultRises (bad_of result) (H.fault_count shelf.old) (H.fault_count shelf.new) }
+    ensures faults { FaultRises (bad_of result)
+        (H.fault_count shelf.old) (H.fault_count shelf.new) }
     ensures absences { AbsenceRises (bad_of result)
         (H.absence_count shelf.old) (H.absence_count shelf.new) }
     ensures read { ReadsScript (H.told shelf.old) (H.call_list shelf.old) (H.call_list shelf.new)

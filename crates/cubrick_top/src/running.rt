@@ -228,7 +228,8 @@ pub fn run<H: Shelf, K: Sink>(
     ensures silent { length words.now ≢ 2 → K.taken sink.new ≡ K.taken sink.old }
     ensures unasked { length words.now ≢ 2 → H.call_list shelf.new ≡ H.call_list shelf.old }
     ensures quiet { length words.now ≢ 2 → H.fault_count shelf.new ≡ H.fault_count shelf.old }
-    ensures none_absent { length words.now ≢ 2 → H.absence_count shelf.new ≡ H.absence_count shelf.old }
+    ensures none_absent { length words.now ≢ 2
+        → H.absence_count shelf.new ≡ H.absence_count shelf.old }
     ensures same { H.told shelf.new ≡ H.told shelf.old }
     ensures output { OutputRises result.fault (K.fault_count sink.old) (K.fault_count sink.new) }
 

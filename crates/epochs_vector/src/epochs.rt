@@ -33,7 +33,10 @@ impl Model for Epochs {
 
     ghost Value = { Vector };
 
-    ghost view = { λ e. record { entries = e.entries.items; spare = vec_capacity e.entries - vec_len e.entries } };
+    ghost view = { λ e. record {
+      entries = e.entries.items;
+      spare = vec_capacity e.entries - vec_len e.entries;
+    } };
 
     ghost invariant = { λ e. IsVector e.entries.items e.rows };
 }

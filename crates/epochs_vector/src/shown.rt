@@ -13,7 +13,8 @@ pub fn show_rows(bits: &mut Bits, entries: &[Entry], snapshot: &Snapshot, limit:
     requires clear { (i : ℕ) → slice_index_or bits.old.bits i false ≡ false }
     ensures long { length bits.new.bits ≡ length bits.old.bits }
     ensures shown { (i : ℕ) → i < length bits.old.bits
-        → slice_index_or bits.new.bits i false ≡ is_shown snapshot.now limit.now (epoch_at entries.now i) i }
+        → slice_index_or bits.new.bits i false
+        ≡ is_shown snapshot.now limit.now (epoch_at entries.now i) i }
     ensures room { bits.new.room ≡ bits.old.room }
 {
     let mut from = 0;

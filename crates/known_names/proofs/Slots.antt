@@ -4,7 +4,7 @@ use Rattle.std.specs.Cmp.Lexicographic.{bytes_decides}
 use Rattle.std.specs.Str.{bytes_eq}
 use Rattle.std.proofs.lemmas.Bool.{cases_Bool}
 use Rattle.std.proofs.lemmas.List.Elements.{All-get_or, All-nil, All-push, All-set, All-weaker}
-use Rattle.known_names.specs.KnownTexts.{code_of, with_text}
+use Rattle.known_names.specs.KnownTexts.{code_of_known, with_text}
 use Rattle.known_names.specs.ShortKeys.{IsShort, short_key}
 use Rattle.known_names.specs.Slots.{AreRight, IsRight, slot_key}
 use Rattle.known_names.specs.declared.short_keys.ShortKey.{ShortKey}
@@ -30,61 +30,61 @@ right_set known slots i slot right is = All-set (IsRight known) slots i slot is 
 
 -- the slot of a text with its code
 pub right_slot : (known : List (List ℕ × ℕ)) (slot : Slot) (key : ShortKey) (text : List ℕ) (code : ℕ) → IsShort text
-    → key ≡ short_key text → slot_key slot ≡ key → slot.code ≡ code → code_of known text ≡ Some code → IsRight known slot
+    → key ≡ short_key text → slot_key slot ≡ key → slot.code ≡ code → code_of_known known text ≡ Some code → IsRight known slot
 right_slot known slot key text code short is holds has so other other_short other_is =
     let same : other ≡ text = short_same other text other_short short (sym other_is ∙ holds ∙ is) in
-    ap (code_of known) same ∙ so ∙ sym (ap Some has)
+    ap (code_of_known known) same ∙ so ∙ sym (ap Some has)
 
 -- what is found in a slot is the code
 pub right_code : (known : List (List ℕ × ℕ)) (slots : List Slot) (i : ℕ) (d : Slot) (text : List ℕ) (key : ShortKey)
     → AreRight known slots → i < length slots → IsShort text → key ≡ short_key text → slot_key (get_or slots i d) ≡ key
-    → code_of known text ≡ Some (get_or slots i d).code
+    → code_of_known known text ≡ Some (get_or slots i d).code
 right_code known slots i d text key right lt short is holds =
     All-get_or (IsRight known) slots i d lt right text short (holds ∙ is)
 
 -- ---- a text that is added
 
-after : (known : List (List ℕ × ℕ)) (text other : List ℕ) (code had : ℕ) → code_of known other ≡ Some had
-    → code_of (known ++ (text, code) ∷ []) other ≡ Some had
+after : (known : List (List ℕ × ℕ)) (text other : List ℕ) (code had : ℕ) → code_of_known known other ≡ Some had
+    → code_of_known (known ++ (text, code) ∷ []) other ≡ Some had
 after [] text other code had is = absurd cc
 after (e ∷ known) text other code had is = elim (cases_Bool (bytes_eq other e.0)) [
   | inl same ↦ rw same (rw same at is)
   | inr differ ↦ rw differ (after known text other code had (rw differ at is))
 ]
 
-last : (known : List (List ℕ × ℕ)) (text : List ℕ) (code : ℕ) → code_of known text ≡ None
-    → bytes_eq text text ≡ true → code_of (known ++ (text, code) ∷ []) text ≡ Some code
+last : (known : List (List ℕ × ℕ)) (text : List ℕ) (code : ℕ) → code_of_known known text ≡ None
+    → bytes_eq text text ≡ true → code_of_known (known ++ (text, code) ∷ []) text ≡ Some code
 last [] text code none same = rw same refl
 last (e ∷ known) text code none same = elim (cases_Bool (bytes_eq text e.0)) [
   | inl is ↦ let no = rw is at none in absurd cc
   | inr differ ↦ rw differ (last known text code (rw differ at none) same)
 ]
 
-with_new : (known : List (List ℕ × ℕ)) (text : List ℕ) (code : ℕ) → code_of known text ≡ None
+with_new : (known : List (List ℕ × ℕ)) (text : List ℕ) (code : ℕ) → code_of_known known text ≡ None
     → with_text known text code ≡ known ++ (text, code) ∷ []
 with_new known text code none = ap (λ o. cond (is_some o) known (known ++ (text, code) ∷ [])) none
 
 -- what is right stays so where a text is added
 pub right_after : (known : List (List ℕ × ℕ)) (text : List ℕ) (code : ℕ) (slots : List Slot)
-    → code_of known text ≡ None → AreRight known slots → AreRight (with_text known text code) slots
+    → code_of_known known text ≡ None → AreRight known slots → AreRight (with_text known text code) slots
 right_after known text code slots none right =
     subst (λ (k : List (List ℕ × ℕ)). AreRight k slots) (sym (with_new known text code none))
     (All-weaker (IsRight known) (IsRight (known ++ (text, code) ∷ []))
     (λ slot h other short is. after known text other code slot.code (h other short is)) slots right)
 
 -- and the text has its code then
-pub code_then : (known : List (List ℕ × ℕ)) (text : List ℕ) (code : ℕ) → code_of known text ≡ None
-    → bytes_eq text text ≡ true → code_of (with_text known text code) text ≡ Some code
+pub code_then : (known : List (List ℕ × ℕ)) (text : List ℕ) (code : ℕ) → code_of_known known text ≡ None
+    → bytes_eq text text ≡ true → code_of_known (with_text known text code) text ≡ Some code
 code_then known text code none same =
-    ap (λ k. code_of k text) (with_new known text code none) ∙ last known text code none same
+    ap (λ k. code_of_known k text) (with_new known text code none) ∙ last known text code none same
 
 same_text : (text : List ℕ) → bytes_eq text text ≡ true
 same_text text = (bytes_decides text text).1 refl
 
 -- so the slots are right after a text was added and noted
 pub right_with : (known new : List (List ℕ × ℕ)) (text : List ℕ) (code : ℕ) (before after : List Slot)
-    → code_of known text ≡ None → new ≡ with_text known text code → AreRight known before
-    → ((k : List (List ℕ × ℕ)) → AreRight k before → code_of k text ≡ Some code → AreRight k after)
+    → code_of_known known text ≡ None → new ≡ with_text known text code → AreRight known before
+    → ((k : List (List ℕ × ℕ)) → AreRight k before → code_of_known k text ≡ Some code → AreRight k after)
     → AreRight new after
 right_with known new text code before after none added right noted =
     subst (λ (k : List (List ℕ × ℕ)). AreRight k after) (sym added)

@@ -5,12 +5,12 @@ use Rattle.std.specs.List.{IsDistinct}
 use Rattle.std.specs.Map.{keys_of, lookup}
 
 -- The code of a text, where the text is known.
-abbrev pub code_of : List (List ℕ × ℕ) → List ℕ → Option ℕ
-code_of known text = lookup (bytes_eq text) known
+abbrev pub code_of_known : List (List ℕ × ℕ) → List ℕ → Option ℕ
+code_of_known known text = lookup (bytes_eq text) known
 
 -- A text that is not known yet goes last, with its code. What is known stays.
 abbrev pub with_text : List (List ℕ × ℕ) → List ℕ → ℕ → List (List ℕ × ℕ)
-with_text known text code = if is_some (code_of known text) then known else known ++ (text, code) ∷ []
+with_text known text code = if is_some (code_of_known known text) then known else known ++ (text, code) ∷ []
 
 -- No text is known twice.
 abbrev pub HasDistinctTexts : List (List ℕ × ℕ) → Type 0

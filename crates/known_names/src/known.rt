@@ -1,7 +1,7 @@
 //! The list of texts and codes, and how a text is found in it.
 
 ghost use Rattle.std.specs.Prelude.{◌≡◌, [], None, Some, OnOk, OnErr};
-ghost use Rattle.known_names.specs.KnownTexts.{code_of, with_text, HasDistinctTexts};
+ghost use Rattle.known_names.specs.KnownTexts.{code_of_known, with_text, HasDistinctTexts};
 
 use crate::short_texts::ShortTexts;
 use indexmap::IndexMap;
@@ -46,7 +46,7 @@ impl Known {
 
     /// The code of a text, None where it is not known.
     pub fn find(&self, text: &[u8]) -> Option<u32>
-        ensures code { result ≡ code_of self.now text.now }
+        ensures code { result ≡ code_of_known self.now text.now }
         ensures distinct { HasDistinctTexts self.now }
     {
         if let Some(code) = self.short.find(text) {
@@ -60,7 +60,7 @@ impl Known {
     pub fn learn(&mut self, text: &[u8], code: u32) -> Result<(), AllocError>
         ensures learned { OnOk result (self.new ≡ with_text self.old text.now code) }
         ensures err { OnErr result (self.new ≡ self.old) }
-        ensures wanted { OnErr result (code_of self.old text.now ≡ None) }
+        ensures wanted { OnErr result (code_of_known self.old text.now ≡ None) }
     {
         if let Some(_known) = self.find(text) {
             return Ok(());
@@ -70,7 +70,7 @@ impl Known {
 
     /// Adds a text that is not known. Where memory is wanted nothing changes.
     fn add(&mut self, text: &[u8], code: u32) -> Result<(), AllocError>
-        requires { code_of self.old text.now ≡ None }
+        requires { code_of_known self.old text.now ≡ None }
         ensures added { OnOk result (self.new ≡ with_text self.old text.now code) }
         ensures err { OnErr result (self.new ≡ self.old) }
     {

@@ -4,7 +4,7 @@
 //! A short text stands in the slot itself, so a look-up mostly touches one line of memory.
 
 ghost use Rattle.std.specs.Prelude.{◌≡◌, ◌↔◌, ℕ, ◌<◌, List, length, Some, IfOk, IfSome, IsTrue};
-ghost use Rattle.known_names.specs.KnownTexts.{code_of};
+ghost use Rattle.known_names.specs.KnownTexts.{code_of_known};
 ghost use Rattle.known_names.specs.ShortKeys.{IsShort};
 ghost use Rattle.known_names.specs.Slots.{AreRight, IsRight, slot_key};
 
@@ -85,7 +85,8 @@ impl ShortTexts {
 
     /// So many free slots.
     fn free(alloc: Global, count: usize) -> Result<ShortTexts, AllocError>
-        ensures { IfOk result (λ table. (known : List (List ℕ × ℕ)) → AreRight known table.slots.items) }
+        ensures { IfOk result (λ table. (known : List (List ℕ × ℕ))
+            → AreRight known table.slots.items) }
     {
         let mut slots = Vec::with_capacity(alloc, count)?;
         'slots: for _slot in 0..count {
@@ -104,7 +105,7 @@ impl ShortTexts {
     #[inline(always)]
     pub(crate) fn find(&self, text: &[u8]) -> Option<u32>
         ensures { IfSome result (λ code. (known : List (List ℕ × ℕ))
-            → AreRight known self.now.slots.items → code_of known text.now ≡ Some code) }
+            → AreRight known self.now.slots.items → code_of_known known text.now ≡ Some code) }
     {
         let key = ShortKey::of(text)?;
         let hash = key.hash();
@@ -156,7 +157,7 @@ impl ShortTexts {
     /// Notes the code of a text, where it is short and a slot is free.
     pub(crate) fn note(&mut self, text: &[u8], code: u32)
         ensures { (known : List (List ℕ × ℕ)) → AreRight known self.old.slots.items
-            → code_of known text.now ≡ Some code → AreRight known self.new.slots.items }
+            → code_of_known known text.now ≡ Some code → AreRight known self.new.slots.items }
     {
         let Some(key) = ShortKey::of(text) else {
             return;

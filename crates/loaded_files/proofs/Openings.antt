@@ -5,7 +5,7 @@ use Rattle.cube_values.specs.declared.call_error.CallError.{CallError}
 use Rattle.cube_values.specs.declared.call_error.CallError.TheVariants.{Fault, NoMemory}
 use Rattle.cube_language.specs.declared.decl.Decl.{Decl}
 use Rattle.csv_load.specs.Loads.{LoadState}
-use Rattle.outside.specs.Given.{Given, ReadsWhole, Shows, whole, missing}
+use Rattle.outside.specs.Given.{Given, ReadsWhole, ShowsGiven, whole, missing}
 use Rattle.outside.specs.ShelfCalls.{ShelfCall, AnswersBy, GivesBy, WhereKnown}
 use Rattle.outside.specs.declared.reading.FileFault.{FileFault}
 use Rattle.outside.specs.declared.reading.FileFault.TheVariants.{Absent, TooLong, Failed}
@@ -13,13 +13,13 @@ use Rattle.loaded_files.specs.LoadedFiles.{LoadAnswer, LoadCalls, ShowsLoad, Ope
 use Rattle.loaded_files.specs.declared.reading.TheConstants.{LOADED_BYTES}
 
 -- no load began
-fault_shown : (d : Decl) (given : Given) (e : CallError FileFault) → Shows (Err e) given → ShowsLoad d given (Err e)
+fault_shown : (d : Decl) (given : Given) (e : CallError FileFault) → ShowsGiven (Err e) given → ShowsLoad d given (Err e)
 fault_shown d given (Fault Absent) h = h
 fault_shown d given (Fault (TooLong size)) h = h
 fault_shown d given (Fault Failed) h = h
 fault_shown d given NoMemory h = h
 
-fault_calls : (path : List ℕ) (given : Given) (e : CallError FileFault) (past now : List ShelfCall) → Shows (Err e) given → AnswersBy path LOADED_BYTES past now (Err e) → LoadCalls path given (Err e) past now
+fault_calls : (path : List ℕ) (given : Given) (e : CallError FileFault) (past now : List ShelfCall) → ShowsGiven (Err e) given → AnswersBy path LOADED_BYTES past now (Err e) → LoadCalls path given (Err e) past now
 fault_calls path given (Fault Absent) past now h calls = subst (GivesBy path LOADED_BYTES past now) (sym h) calls
 fault_calls path given (Fault (TooLong size)) past now h calls = subst (GivesBy path LOADED_BYTES past now) (sym h) calls
 fault_calls path given (Fault Failed) past now h calls = calls

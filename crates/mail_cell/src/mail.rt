@@ -39,7 +39,8 @@ impl<J, A> Model for Mail<J, A> {
 
     ghost view = { λ m. mail_state m.posted.items m.places.items m.closed };
 
-    ghost invariant = { λ m. IsSound (mail_state m.posted.items m.places.items m.closed) × (length m.places.items ≤ deque_capacity m.posted) };
+    ghost invariant = { λ m. IsSound (mail_state m.posted.items m.places.items m.closed)
+        × (length m.places.items ≤ deque_capacity m.posted) };
 }
 
 impl<J, A: Drop> Mail<J, A> {

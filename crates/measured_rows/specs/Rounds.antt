@@ -13,6 +13,6 @@ IsRoundSize cubes names bytes size =
     ⊎ (((round : Round) → BeginsWithRound sha256 cubes names round bytes → ⊥) × (size ≡ 0))
 
 -- How many bytes a round has that was found, 0 where none was.
-abbrev pub size_in : Option (Round × ℕ) → ℕ
-size_in None = 0
-size_in (Some found) = found.1
+abbrev pub round_size_found : Option (Round × ℕ) → ℕ
+round_size_found None = 0
+round_size_found (Some found) = found.1

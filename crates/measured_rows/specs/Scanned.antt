@@ -20,8 +20,8 @@ abbrev pub all_coords : Span
 all_coords = record { parts = All ∷ All ∷ [] }
 
 -- A sum and a count for each coordinate of the first dimension.
-abbrev pub sum_and_count : BoundQuery
-sum_and_count =
+abbrev pub sums_and_counts : BoundQuery
+sums_and_counts =
     record { cube = 0; span = all_coords; group = 0 ∷ []; items = Group 0 ∷ Sum 0 ∷ Count ∷ [] }
 
 -- A count over all rows.

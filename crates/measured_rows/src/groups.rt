@@ -130,7 +130,8 @@ impl Work for Fold {
     /// The checksum is the sum of the whole numbers in the answer.
     fn work(&mut self, alloc: Global) -> Result<u64, AllocError>
         ensures { IfOk result (λ sum. (rows : List CodedRow) × (length rows ≡ self.old.items)
-            × (sum ≡ table_sum (table_of eight_groups.group eight_groups.items (map (row_for []) rows)))) }
+            × (sum ≡ table_sum (table_of eight_groups.group eight_groups.items (map
+            (row_for []) rows)))) }
     {
         let query = eight_groups(alloc)?;
         let partial = folded(alloc, &query, self.rows.as_slice(), self.items)?;

@@ -5,7 +5,7 @@ ghost use Rattle.cube_rounds.specs.Bytes.{round_bytes};
 ghost use Rattle.cube_language.specs.declared.decl.Decl.{Decl};
 ghost use Rattle.cube_rounds.specs.declared.round.Round.{Round as ARound};
 ghost use Rattle.cube_rounds.specs.Demands.{BeginsWithRound};
-ghost use Rattle.measured_rows.specs.Rounds.{IsRoundSize, size_in};
+ghost use Rattle.measured_rows.specs.Rounds.{IsRoundSize, round_size_found};
 ghost use Rattle.sha2.specs.Sha256.{sha256};
 
 use crate::round_made::{round_front, round_of};
@@ -71,8 +71,8 @@ fn round_in(
 }
 
 /// How many bytes a round has that was found, 0 where none was.
-fn size_in(found: &Option<(Round, usize)>) -> u64
-    ensures { result ≡ size_in found.now }
+fn round_size_found(found: &Option<(Round, usize)>) -> u64
+    ensures { result ≡ round_size_found found.now }
 {
     match found {
         Some((_, size)) => *size as u64,
@@ -106,7 +106,7 @@ impl Work for ReadRound {
     {
         let cubes = self.cubes.as_slice();
         let found = round_in(alloc, self.bytes.as_slice(), cubes, &self.names)?;
-        Ok(size_in(&found))
+        Ok(round_size_found(&found))
     }
 }
 

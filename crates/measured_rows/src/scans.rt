@@ -6,7 +6,7 @@ ghost use Rattle.cube_values.specs.Spans.{IsSoundPart};
 ghost use Rattle.agg_fold.specs.Standing.{StandsFor};
 ghost use Rattle.brick_store.specs.Rows.{rows_shown};
 ghost use Rattle.measured_rows.specs.OneBrick.{one_brick};
-ghost use Rattle.measured_rows.specs.Scanned.{all_coords, all_epochs, count_alone, scanned_sum, sum_and_count};
+ghost use Rattle.measured_rows.specs.Scanned.{all_coords, all_epochs, count_alone, scanned_sum, sums_and_counts};
 
 use crate::groups::table_sum;
 use crate::one_brick::{BATCH, append_all, batch, one_brick};
@@ -39,8 +39,8 @@ fn all_coords(alloc: Global) -> Result<Span, AllocError>
 }
 
 /// A sum and a count for each coordinate of the first dimension.
-fn sum_and_count(alloc: Global) -> Result<BoundQuery, AllocError>
-    ensures { IfOk result (λ query. query ≡ sum_and_count) }
+fn sums_and_counts(alloc: Global) -> Result<BoundQuery, AllocError>
+    ensures { IfOk result (λ query. query ≡ sums_and_counts) }
 {
     Ok(BoundQuery {
         cube: 0,
@@ -103,20 +103,20 @@ pub struct Scan {
     query: BoundQuery,
     ghost home: { brick.home ≡ one_brick },
     ghost few: { length brick.rows < 2 ^ 63 },
-    ghost query_is: { query ≡ sum_and_count },
+    ghost query_is: { query ≡ sums_and_counts },
 }
 
 impl Work for Scan {
     fn prepared(alloc: Global, items: u32) -> Result<Scan, AllocError> {
         Ok(Scan {
             brick: filled(alloc, items)?,
-            query: sum_and_count(alloc)?,
+            query: sums_and_counts(alloc)?,
         })
     }
 
     /// The checksum is the sum of the whole numbers in the answer.
     fn work(&mut self, alloc: Global) -> Result<u64, AllocError>
-        ensures { IfOk result (λ sum. sum ≡ scanned_sum sum_and_count self.old.brick) }
+        ensures { IfOk result (λ sum. sum ≡ scanned_sum sums_and_counts self.old.brick) }
     {
         scanned_sum(alloc, &self.brick, &self.query)
     }

@@ -7,7 +7,7 @@ use Rattle.cube_values.specs.BitRows.{set_bits}
 use Rattle.cube_language.specs.declared.piece.ScriptFault.{ScriptFault}
 use Rattle.cube_language.specs.declared.piece.Piece.{Piece}
 use Rattle.cube_language.specs.Pieces.{IsScript, HasScriptFault}
-use Rattle.known_names.specs.KnownTexts.{code_of}
+use Rattle.known_names.specs.KnownTexts.{code_of_known}
 use Rattle.names_dict.specs.Dictionaries.{Dictionary, number_of}
 use Rattle.purge_plan.specs.Purged.{spared_bits, purged_entries}
 
@@ -23,7 +23,7 @@ numbers_sum d names = sum_by (λ name. option_map_or (λ n. n + 1) (number_of d 
 
 -- Of names and texts that are known: the codes of the names, counted from 1, in 64 bits.
 abbrev pub codes_sum : List (List ℕ × ℕ) → List (List ℕ) → ℕ
-codes_sum known names = sum_by (λ name. option_map_or (λ n. n + 1) (code_of known name) 0) names % 2 ^ 64
+codes_sum known names = sum_by (λ name. option_map_or (λ n. n + 1) (code_of_known known name) 0) names % 2 ^ 64
 
 -- Of a vector that is purged at an epoch: how many rows go and how many entries stay, in 64 bits.
 abbrev pub purge_sum : ℕ → List Entry → ℕ

@@ -30,9 +30,13 @@ impl Model for Dict {
 
     ghost Value = { Seen };
 
-    ghost view = { λ d. record { cardinality = d.cardinality; names = map string_bytes d.names.keys } };
+    ghost view = { λ d. record {
+      cardinality = d.cardinality;
+      names = map string_bytes d.names.keys;
+    } };
 
-    ghost invariant = { λ d. IsUnique string_eq d.names × (length d.names.keys ≤ d.cardinality) × (d.cardinality < 2 ^ 32) };
+    ghost invariant = { λ d. IsUnique string_eq d.names
+        × (length d.names.keys ≤ d.cardinality) × (d.cardinality < 2 ^ 32) };
 }
 
 impl Dict {

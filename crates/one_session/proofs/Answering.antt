@@ -20,7 +20,7 @@ use Rattle.cube_run.specs.SessionStates.{SessionState}
 use Rattle.condition_spans.specs.Codes.{lists_at}
 use Rattle.query_plan.specs.Ties.{rows_taken}
 use Rattle.one_session.specs.Behind.{HaveDone, IsSettled}
-use Rattle.one_session.specs.Changes.{ChangeAt, IsReadBy, StandInOrder, catalog_behind, counts_for, rows_with_changes}
+use Rattle.one_session.specs.Changes.{ChangeAt, IsReadBy, AreInEpochOrder, catalog_behind, operation_counts, rows_with_changes}
 use Rattle.one_session.specs.Pasts.{Beginning, GoesOn, IsInTurn, IsOwned, SessionPast, last_number}
 use Rattle.one_session.proofs.Befores.{le_yes}
 use Rattle.one_session.proofs.Coded.{changes_stand}
@@ -58,9 +58,9 @@ answered beginning past run d s query kept changes done g turn owned r =
 pub reader_answers : (beginning : Beginning) (past : SessionPast) (run : RunRecord) (done : List DoneOperation)
     (state : SessionState) (high bound epoch : ℕ) (d : Decl) (s : Statement) (query : BoundQuery)
     (kept : List CodedRow) (changes : List ChangeAt) → HaveDone beginning past done state
-    → StandInOrder past done high → IsOwned past → GoesOn beginning past run
+    → AreInEpochOrder past done high → IsOwned past → GoesOn beginning past run
     → IsSettled (journal_state beginning.safe past.journal) state.mode bound → beginning.safe ≤ epoch → epoch < bound
-    → IsReadBy beginning past run d s query kept changes (filter (counts_for past (reader_of epoch)) done)
+    → IsReadBy beginning past run d s query kept changes (filter (operation_counts past (reader_of epoch)) done)
     → answer (resolved_query d s) (visible_rows (reader_of epoch) (run_transactions run))
     ≡ table_of query.group query.items
     (rows_taken (lists_at past.names query.cube) query (rows_with_changes query.cube kept changes))
@@ -69,16 +69,16 @@ reader_answers beginning past run done state high bound epoch d s query kept cha
     (reader_view beginning past run done state bound epoch h g settled l
     ∙ reader_run beginning past done high epoch (legal_behind beginning past run g) order
     (ap (λ (b : Bool). b && true) (le_yes beginning.safe epoch low)))
-    ∙ sym (answered beginning past run d s query kept changes (filter (counts_for past (reader_of epoch)) done) g h.turn
+    ∙ sym (answered beginning past run d s query kept changes (filter (operation_counts past (reader_of epoch)) done) g h.turn
     owned r)
 
 pub writer_answers : (beginning : Beginning) (past : SessionPast) (run : RunRecord) (done : List DoneOperation)
     (state : SessionState) (high : ℕ) (writer : Snapshot) (d : Decl) (s : Statement) (query : BoundQuery)
     (kept : List CodedRow) (changes : List ChangeAt) → HaveDone beginning past done state
-    → StandInOrder past done high → IsOwned past → GoesOn beginning past run
+    → AreInEpochOrder past done high → IsOwned past → GoesOn beginning past run
     → IsSettled (journal_state beginning.safe past.journal) state.mode writer.epoch
     → beginning.safe < writer.epoch → sees writer beginning.safe ≡ true → sees writer writer.epoch ≡ true
-    → writer.own ≡ true → IsReadBy beginning past run d s query kept changes (filter (counts_for past writer) done)
+    → writer.own ≡ true → IsReadBy beginning past run d s query kept changes (filter (operation_counts past writer) done)
     → answer (resolved_query d s)
     (visible_rows writer (transactions_inside run 1 (script_of run 1) (last_number past + 1) writer.epoch))
     ≡ table_of query.group query.items
@@ -87,4 +87,4 @@ writer_answers beginning past run done state high writer d s query kept changes 
     ap (answer (resolved_query d s))
     (writer_view beginning past run done state writer h g settled
     ∙ writer_run beginning past done high writer (legal_behind beginning past run g) order low first own is)
-    ∙ sym (answered beginning past run d s query kept changes (filter (counts_for past writer) done) g h.turn owned r)
+    ∙ sym (answered beginning past run d s query kept changes (filter (operation_counts past writer) done) g h.turn owned r)

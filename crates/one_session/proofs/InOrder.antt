@@ -7,7 +7,7 @@ use Rattle.cube_journal.specs.declared.journal_entry.JournalEntry.{JournalEntry}
 use Rattle.cube_run.specs.RunRecords.{Sentence}
 use Rattle.cube_run.specs.RunTransactions.{DoneOperation}
 use Rattle.cube_run.specs.SessionSteps.{belongs_to, session_part}
-use Rattle.one_session.specs.Changes.{EpochsNeverFall, StandInOrder, is_begin_of}
+use Rattle.one_session.specs.Changes.{EpochsNeverFall, AreInEpochOrder, is_begin_of}
 use Rattle.one_session.specs.Pasts.{Beginning, IsOneMore, SessionPast, nothing_behind}
 use Rattle.one_session.proofs.Settled.{all_more}
 
@@ -27,12 +27,12 @@ begun_still before added (o ∷ done) h = (
   begun_still before added done h.1,
 )
 
-pub order_at_first : (beginning : Beginning) → StandInOrder (nothing_behind beginning) [] 0
+pub order_at_first : (beginning : Beginning) → AreInEpochOrder (nothing_behind beginning) [] 0
 order_at_first beginning = record { epochs = omega arith; begun = tt }
 
 pub order_kept : (before after : SessionPast) (sentence : Sentence) (added : List JournalEntry)
-    (done : List DoneOperation) (high : ℕ) → IsOneMore before after sentence added → StandInOrder before done high
-    → StandInOrder after done high
+    (done : List DoneOperation) (high : ℕ) → IsOneMore before after sentence added → AreInEpochOrder before done high
+    → AreInEpochOrder after done high
 order_kept before after sentence added done high m h = record {
   epochs = h.epochs;
   begun =
@@ -42,9 +42,9 @@ order_kept before after sentence added done high m h = record {
 
 pub order_more : (before after : SessionPast) (sentence : Sentence) (added : List JournalEntry)
     (done : List DoneOperation) (high : ℕ) (o : DoneOperation) → IsOneMore before after sentence added
-    → StandInOrder before done high → high ≤ o.epoch
+    → AreInEpochOrder before done high → high ≤ o.epoch
     → list_any (is_begin_of o.epoch) (session_part 1 after.journal) ≡ true
-    → StandInOrder after (done ++ o ∷ []) o.epoch
+    → AreInEpochOrder after (done ++ o ∷ []) o.epoch
 order_more before after sentence added done high o m h l begun =
     let kept = order_kept before after sentence added done high m h in
     record {

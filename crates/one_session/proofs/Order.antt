@@ -25,7 +25,7 @@ use Rattle.cube_run.specs.RunText.{reader_of}
 use Rattle.cube_run.specs.RunTransactions.{DoneOperation, committed_transaction, is_commit_of, operations_at}
 use Rattle.cube_run.specs.SessionSteps.{belongs_to, session_part}
 use Rattle.one_session.specs.Behind.{transactions_at, transactions_behind}
-use Rattle.one_session.specs.Changes.{EpochsNeverFall, StandInOrder, counts_for, is_begin_of}
+use Rattle.one_session.specs.Changes.{EpochsNeverFall, AreInEpochOrder, operation_counts, is_begin_of}
 use Rattle.one_session.specs.Pasts.{Beginning, SessionPast}
 use Rattle.one_session.proofs.Settled.{all_filter, all_more}
 use Rattle.one_session.proofs.Views.{at_epochs, filter_twice, other_below, same_view, sees_other, transaction}
@@ -335,11 +335,11 @@ filter_once : (p : ℕ → Bool) (ts : List Transaction) → at_epochs p (at_epo
 filter_once p ts = weaker p p ts (λ e is. is)
 
 pub reader_run : (beginning : Beginning) (past : SessionPast) (done : List DoneOperation) (high epoch : ℕ)
-    → CountersAllowAll beginning.safe [] past.journal → StandInOrder past done high
+    → CountersAllowAll beginning.safe [] past.journal → AreInEpochOrder past done high
     → sees (reader_of epoch) beginning.safe ≡ true
     → visible_rows (reader_of epoch) (transactions_behind beginning past done)
     ≡ fold after_operation beginning.kept
-    (map (λ o. o.operation) (filter (counts_for past (reader_of epoch)) done))
+    (map (λ o. o.operation) (filter (operation_counts past (reader_of epoch)) done))
 reader_run beginning past done high epoch legal order first =
     let s = reader_of epoch in
     let part = session_part 1 past.journal in
@@ -355,7 +355,7 @@ reader_run beginning past done high epoch legal order first =
     (all_filter (λ t. sees s t.epoch) (λ t. t.operations ≡ operations_at t.epoch done) whole (theirs part done part))
     rises order.epochs
     ∙ ap (map (λ (o : DoneOperation). o.operation))
-    (same_filter (λ o. is_at (epochs_of seen) o.epoch) (counts_for past s)
+    (same_filter (λ o. is_at (epochs_of seen) o.epoch) (operation_counts past s)
     (λ o. list_any (is_begin_of o.epoch) part ≡ true) done
     (λ o begun. committed_at (sees s) o.epoch part done part
     ∙ ap (λ (b : Bool). b && (sees s o.epoch && list_any (is_commit_of o.epoch) part)) begun) order.begun))
@@ -399,7 +399,7 @@ counts_own : (past : SessionPast) (writer : Snapshot) (done : List DoneOperation
     → is_at (epochs_of (at_epochs (sees_other writer)
     (filter_map (committed_transaction (session_part 1 past.journal) done) (session_part 1 past.journal)))
     ++ writer.epoch ∷ []) o.epoch
-    ≡ counts_for past writer o
+    ≡ operation_counts past writer o
 counts_own past writer done o own begun =
     let part = session_part 1 past.journal in
     let q = sees_other writer in
@@ -413,11 +413,11 @@ counts_own past writer done o own begun =
     ∙ ap (λ (b : Bool). (b && (o.epoch == writer.epoch)) || (sees writer o.epoch && commits)) (sym own)
 
 pub writer_run : (beginning : Beginning) (past : SessionPast) (done : List DoneOperation) (high : ℕ)
-    (writer : Snapshot) → CountersAllowAll beginning.safe [] past.journal → StandInOrder past done high
+    (writer : Snapshot) → CountersAllowAll beginning.safe [] past.journal → AreInEpochOrder past done high
     → beginning.safe < writer.epoch → sees writer beginning.safe ≡ true → sees writer writer.epoch ≡ true
     → writer.own ≡ true
     → visible_rows writer (transactions_at beginning past done writer.epoch)
-    ≡ fold after_operation beginning.kept (map (λ o. o.operation) (filter (counts_for past writer) done))
+    ≡ fold after_operation beginning.kept (map (λ o. o.operation) (filter (operation_counts past writer) done))
 writer_run beginning past done high writer legal order later first sees_own is_own =
     let q = sees_other writer in
     let part = session_part 1 past.journal in
@@ -455,6 +455,6 @@ writer_run beginning past done high writer legal order later first sees_own is_o
     (all_filter (λ t. q t.epoch) (λ t. t.operations ≡ operations_at t.epoch done) whole (theirs part done part)) refl)
     rises order.epochs
     ∙ ap (map (λ (o : DoneOperation). o.operation))
-    (same_filter (λ o. is_at (epochs_of us) o.epoch) (counts_for past writer)
+    (same_filter (λ o. is_at (epochs_of us) o.epoch) (operation_counts past writer)
     (λ o. list_any (is_begin_of o.epoch) part ≡ true) done
     (λ o begun. ap (λ (es : List ℕ). is_at es o.epoch) names ∙ counts_own past writer done o is_own begun) order.begun))

@@ -38,13 +38,13 @@ EpochsNeverFall low [] high = low ≤ high
 EpochsNeverFall low (o ∷ done) high = (low ≤ o.epoch) × EpochsNeverFall o.epoch done high
 
 -- Operations stand in the order of their epochs, up to one; each of these was begun behind.
-pub record StandInOrder (past : SessionPast) (done : List DoneOperation) (high : ℕ) : Type 0 where
+pub record AreInEpochOrder (past : SessionPast) (done : List DoneOperation) (high : ℕ) : Type 0 where
   pub epochs : EpochsNeverFall 0 done high
   pub begun : AllByRecursion (λ o. list_any (is_begin_of o.epoch) (session_part 1 past.journal) ≡ true) done
 
 -- An operation counts for a snapshot where it is the snapshot's own, or is committed behind and seen.
-abbrev pub counts_for : SessionPast → Snapshot → DoneOperation → Bool
-counts_for past s o =
+abbrev pub operation_counts : SessionPast → Snapshot → DoneOperation → Bool
+operation_counts past s o =
     (s.own && (o.epoch == s.epoch))
     || (sees s o.epoch && list_any (is_commit_of o.epoch) (session_part 1 past.journal))
 

@@ -6,7 +6,7 @@ use Rattle.cube_values.specs.declared.call_error.CallError.TheVariants.{Fault, N
 use Rattle.outside.specs.declared.reading.FileFault.{FileFault}
 use Rattle.outside.specs.declared.reading.FileFault.TheVariants.{Failed}
 use Rattle.outside.specs.Files.{content_of}
-use Rattle.outside.specs.Given.{Given, missing, given_by, IsWithin, Shows, ReadsWhole}
+use Rattle.outside.specs.Given.{Given, missing, given_by, IsWithin, ShowsGiven, ReadsWhole}
 
 -- what a file gives is within the limit
 within_limit : (limit : ℕ) (content : Option (List ℕ)) → IsWithin limit (given_by limit content)
@@ -17,7 +17,7 @@ within_limit limit (Some bytes) = grind arith
 pub ReadsWhole-of_nothing :
     (told : Option (List (List ℕ × List ℕ))) (name : List ℕ) (limit : ℕ)
     (answer : Result (Vec ℕ Global) (CallError FileFault)) →
-    ((given : Given) → Shows answer given) → ReadsWhole told name limit answer
+    ((given : Given) → ShowsGiven answer given) → ReadsWhole told name limit answer
 ReadsWhole-of_nothing None name limit answer shows =
     record { given = missing; shown = shows missing; within = tt; by_files = λ files e. cc }
 ReadsWhole-of_nothing (Some files) name limit answer shows =

@@ -29,12 +29,12 @@ abbrev pub IsFileFault : Result (Vec ℕ Global) (CallError FileFault) → FileF
 IsFileFault answer fault = IsErrOf answer (Fault fault)
 
 -- the answer is what the file gives, unless the shelf failed or memory ran out
-abbrev pub Shows : Result (Vec ℕ Global) (CallError FileFault) → Given → Type 0
-Shows (Ok bytes) given = given ≡ whole bytes.items
-Shows (Err (Fault Absent)) given = given ≡ missing
-Shows (Err (Fault (TooLong size))) given = given ≡ too_long size
-Shows (Err (Fault Failed)) given = Unit {0}
-Shows (Err NoMemory) given = Unit {0}
+abbrev pub ShowsGiven : Result (Vec ℕ Global) (CallError FileFault) → Given → Type 0
+ShowsGiven (Ok bytes) given = given ≡ whole bytes.items
+ShowsGiven (Err (Fault Absent)) given = given ≡ missing
+ShowsGiven (Err (Fault (TooLong size))) given = given ≡ too_long size
+ShowsGiven (Err (Fault Failed)) given = Unit {0}
+ShowsGiven (Err NoMemory) given = Unit {0}
 
 -- the answer shows something that the file of this name may give, and that is what it does give
 -- where the shelf tells its files
@@ -45,6 +45,6 @@ pub record ReadsWhole
     (answer : Result (Vec ℕ Global) (CallError FileFault))
     : Type 0 where
   pub given : Given
-  pub shown : Shows answer given
+  pub shown : ShowsGiven answer given
   pub within : IsWithin limit given
   pub by_files : (files : List (List ℕ × List ℕ)) → told ≡ Some files → given ≡ given_by limit (content_of files name)

@@ -7,7 +7,7 @@ use Rattle.std.proofs.lemmas.List.Sums.{sum_by_more_le}
 use Rattle.cube_values.specs.BitRows.{has_bit, is_set, bits_of}
 use Rattle.cube_values.proofs.BitWords.{bits_at}
 use Rattle.packed_words.specs.Words.{PackedBits}
-use Rattle.packed_words.specs.Rows.{NumberRows, HasWidth, HoldRows, lowest_bit_of, number_in_rows, row_bits, rows_of_bits}
+use Rattle.packed_words.specs.Rows.{NumberRows, HasWidth, HoldPackedRows, lowest_bit_of, number_in_rows, row_bits, rows_of_bits}
 use Rattle.packed_words.specs.declared.packed_rows.PackedRows.TheInside.{Inside}
 use Rattle.packed_words.specs.Numbers.{number_of_bits}
 use Rattle.packed_words.proofs.Numbers.{number_below}
@@ -20,7 +20,7 @@ seen r = record { widths = r.widths.items; rows = rows_of_bits r.widths.items r.
 pub seen_length : (r : Inside) (v : NumberRows) → seen r ≡ v → length v.rows ≡ r.rows
 seen_length r v e = ap (λ (v : NumberRows). length v.rows) (sym e) ∙ rows_long r.widths.items r.rows r.bits.bits
 
-module _ (widths : List ℕ) (width rows room : ℕ) (packed : PackedBits) (h : HoldRows widths width rows room packed) where
+module _ (widths : List ℕ) (width rows room : ℕ) (packed : PackedBits) (h : HoldPackedRows widths width rows room packed) where
   -- one row more
   pub row_room : rows < room → length packed.bits + sum widths ≤ packed.room
   row_room l = omega (arith, h.long, h.memory, h.total, suc-mul rows width, mul-le-mul_right width l)
@@ -28,7 +28,7 @@ module _ (widths : List ℕ) (width rows room : ℕ) (packed : PackedBits) (h : 
   pub long_rows : length packed.bits ≡ rows * sum widths
   long_rows = h.long ∙ ap (λ w. rows * w) h.total
 
-  pub hold_more : (row : List ℕ) (new : PackedBits) → AllZip HasWidth row widths → rows < room → new ≡ record packed { bits = packed.bits ++ row_bits widths row } → HoldRows widths width (rows + 1) room new
+  pub hold_more : (row : List ℕ) (new : PackedBits) → AllZip HasWidth row widths → rows < room → new ≡ record packed { bits = packed.bits ++ row_bits widths row } → HoldPackedRows widths width (rows + 1) room new
   hold_more row new a l e = record {
     total = h.total;
     narrow = h.narrow;

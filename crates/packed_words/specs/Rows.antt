@@ -54,7 +54,7 @@ rows_of_bits widths zero bits = []
 rows_of_bits widths (suc n) bits = row_of_bits widths bits ∷ rows_of_bits widths n (drop (sum widths) bits)
 
 -- Packed bits hold so many rows of the widths, each of `width` bits, and have room for more of them.
-pub record HoldRows (widths : List ℕ) (width rows room : ℕ) (packed : PackedBits) : Type 0 where
+pub record HoldPackedRows (widths : List ℕ) (width rows room : ℕ) (packed : PackedBits) : Type 0 where
   pub total : width ≡ sum widths
   pub narrow : All (λ w. w ≤ MOST_BITS) widths
   pub few : width < 2 ^ 32

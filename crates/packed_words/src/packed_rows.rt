@@ -27,7 +27,7 @@ pub struct PackedRows {
 }
 
 impl Model for PackedRows {
-    ghost use Rattle.packed_words.specs.Rows.{NumberRows, HoldRows, rows_of_bits};
+    ghost use Rattle.packed_words.specs.Rows.{NumberRows, HoldPackedRows, rows_of_bits};
 
     ghost Value = { NumberRows };
 
@@ -37,7 +37,7 @@ impl Model for PackedRows {
       room = r.room;
     } };
 
-    ghost invariant = { λ r. HoldRows r.widths.items r.width r.rows r.room r.bits };
+    ghost invariant = { λ r. HoldPackedRows r.widths.items r.width r.rows r.room r.bits };
 }
 
 impl PackedRows {

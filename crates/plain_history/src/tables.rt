@@ -100,7 +100,8 @@ fn group_line(
     first: &Row,
 ) -> Result<Line, AllocError>
     ensures { IfOk result (λ line. line
-        ≡ line_of_key group.now items.now (map (λ r. r.now) rows.now) (key_of group.now first.now)) }
+        ≡ line_of_key group.now items.now (map (λ r. r.now) rows.now)
+        (key_of group.now first.now)) }
 {
     let like = rows_like(alloc, group, rows, first)?;
     line_of(alloc, items, like.as_slice())

@@ -225,7 +225,8 @@ fn with_snapshot(
     snapshot: Snapshot,
 ) -> Result<Vec<OpenSnapshot>, AllocError>
     ensures { IfOk result (λ more. more.items
-        ≡ snapshots.items ++ (record { session = session; bound = bound; snapshot = snapshot }) ∷ []) }
+        ≡ snapshots.items
+        ++ (record { session = session; bound = bound; snapshot = snapshot }) ∷ []) }
 {
     let mut more = snapshots;
     more.push(OpenSnapshot {

@@ -4,7 +4,7 @@ ghost use Rattle.std.specs.Prelude.{◌≡◌, ◌≤◌, length, IfOk, IsSome};
 ghost use Rattle.cube_rounds.specs.Demands.{FitsRound};
 ghost use Rattle.outside_disk.specs.Memory.{disk_view};
 ghost use Rattle.outside_disk.specs.Views.{IsSynced};
-ghost use Rattle.round_store.specs.States.{IsAt, Follows, kept_before};
+ghost use Rattle.round_store.specs.States.{IsAt, MayFollowKept, kept_before};
 
 use cube_rounds::Round;
 use cube_schema::Schema;
@@ -208,7 +208,7 @@ fn round_behind(
 /// The next round of a store, up to an epoch.
 fn next_round(alloc: Global, store: &Store, kept: &Kept, epoch: u64) -> Result<Round, AllocError>
     requires { kept.now.declared ≤ length kept.now.cubes }
-    ensures { IfOk result (λ round. Follows (kept_before store.now kept.now) round) }
+    ensures { IfOk result (λ round. MayFollowKept (kept_before store.now kept.now) round) }
 {
     if store.wants_whole() {
         let (cubes, _) = kept.cubes.as_slice().split_at(kept.declared as usize);

@@ -15,7 +15,7 @@ use Rattle.cube_rounds.specs.Bricks.{BrickPart, EntryRows, entries_with_rows}
 use Rattle.cube_rounds.specs.Bytes.{eight_bytes, counted_bytes, entry_rows_bytes, entries_bytes, brick_bytes}
 use Rattle.cube_rounds.specs.Demands.{FitsRow, IsOfEpochs, FitsBrick, AreRising}
 use Rattle.round_fields.specs.Reading.{◌>>=◌, with_test, repeat_step, eight_from}
-use Rattle.round_reading.specs.Payload.{BrickContent, brick_content, entry_step, entries_from, RisingBricks, rising_bricks, with_brick, brick_with, brick_from, brick_step, bricks_counted, bricks_from}
+use Rattle.round_reading.specs.Payload.{EntriesAndRows, brick_content, entry_step, entries_from, RisingBricks, rising_bricks, with_brick, brick_with, brick_from, brick_step, bricks_counted, bricks_from}
 use Rattle.round_fields.proofs.FieldLaws.{IsBytes, bind_ok, passed, ok_is, Takes, Takes-then, Reads, reads_eight, length-eight}
 use Rattle.round_reading.proofs.Sequences.{reads_passing, reads_as, reads_both, reads_putting, steps_take, steps_again, shorter, all_put, EachFits, ReadsStep}
 use Rattle.round_reading.proofs.RowLaws.{is_true, as_true}
@@ -24,18 +24,18 @@ use Rattle.round_reading.proofs.EntryLaws.{FitsEntry, vector_with, spelled_entry
 use Rattle.round_reading.proofs.VectorLaws.{vector_all, entries_all, rows_all, epochs_all, fit_all, vector_each, entries_again, rows_again_all, items_again}
 
 -- The bytes of a vector: the number of its entries, and these with their rows.
-abbrev pub vector_bytes : BrickContent → List ℕ
+abbrev pub vector_bytes : EntriesAndRows → List ℕ
 vector_bytes v = eight_bytes (length v.entries) ++ entries_bytes (entries_with_rows 0 v.rows v.entries)
 
 -- What a brick of this number may have.
-pub record IsRight (cube : Decl) (limits : List ℕ) (from epoch number : ℕ) (v : BrickContent) : Type 0 where
+pub record IsRight (cube : Decl) (limits : List ℕ) (from epoch number : ℕ) (v : EntriesAndRows) : Type 0 where
   pub some : v.entries ≢ []
   pub vector : IsVector v.entries (length v.rows)
   pub epochs : AllByRecursion (IsOfEpochs from epoch) v.entries
   pub rows : AllByRecursion (FitsRow cube limits number) v.rows
 
 -- A vector without entries.
-abbrev pub none : BrickContent
+abbrev pub none : EntriesAndRows
 none = brick_content [] []
 
 some_of : {A : Type 0} (xs : List A) → 0 < length xs → xs ≢ []
@@ -47,14 +47,14 @@ length_some [] some = absurd (some refl)
 length_some (x ∷ xs) some = omega arith
 
 -- What reading entries gives.
-pub record TakesEntries (cube : Decl) (limits : List ℕ) (from epoch number : ℕ) (bytes : List ℕ) (v : BrickContent) (rest : List ℕ) : Type 0 where
+pub record TakesEntries (cube : Decl) (limits : List ℕ) (from epoch number : ℕ) (bytes : List ℕ) (v : EntriesAndRows) (rest : List ℕ) : Type 0 where
   pub items : List EntryRows
   pub are : v ≡ all_put vector_with none items
   pub some : 0 < length items
   pub taken : Takes bytes (eight_bytes (length items) ++ entries_bytes items) rest
   pub fit : EachFits vector_with (FitsEntry cube limits from epoch number) none items
 
-pub entries_take : (cube : Decl) (limits : List ℕ) (from epoch number : ℕ) → 0 < length cube.metrics → epoch < 2 ^ 64 → (bytes : List ℕ) (v : BrickContent) (rest : List ℕ) → IsBytes bytes
+pub entries_take : (cube : Decl) (limits : List ℕ) (from epoch number : ℕ) → 0 < length cube.metrics → epoch < 2 ^ 64 → (bytes : List ℕ) (v : EntriesAndRows) (rest : List ℕ) → IsBytes bytes
     → entries_from cube limits from epoch number bytes ≡ Ok (v, rest) → TakesEntries cube limits from epoch number bytes v rest
 unfolding entries_from
 entries_take cube limits from epoch number wide small bytes v rest fits e =
@@ -71,11 +71,11 @@ entries_take cube limits from epoch number wide small bytes v rest fits e =
     }
 
 -- Entries that were read are a vector over their rows.
-pub entries_vector : (cube : Decl) (limits : List ℕ) (from epoch number : ℕ) → 0 < length cube.metrics → epoch < 2 ^ 64 → (bytes : List ℕ) (v : BrickContent) (rest : List ℕ) → IsBytes bytes
+pub entries_vector : (cube : Decl) (limits : List ℕ) (from epoch number : ℕ) → 0 < length cube.metrics → epoch < 2 ^ 64 → (bytes : List ℕ) (v : EntriesAndRows) (rest : List ℕ) → IsBytes bytes
     → entries_from cube limits from epoch number bytes ≡ Ok (v, rest) → IsVector v.entries (length v.rows)
 entries_vector cube limits from epoch number wide small bytes v rest fits e =
     let t = entries_take cube limits from epoch number wide small bytes v rest fits e in
-    subst (λ (x : BrickContent). IsVector x.entries (length x.rows)) (sym t.are)
+    subst (λ (x : EntriesAndRows). IsVector x.entries (length x.rows)) (sym t.are)
     (vector_all cube limits from epoch number none t.items (record { leads = refl; apart = tt }) t.fit)
 
 -- What is left behind a number is of bytes.
@@ -97,7 +97,7 @@ content_is : (cube : Decl) (limits : List ℕ) (from epoch number : ℕ) (items 
 content_is cube limits from epoch number items =
     λ i. brick_content (entries_all cube limits from epoch number none items i) (rows_all cube limits from epoch number none items i)
 
-entries_right : (cube : Decl) (limits : List ℕ) (from epoch number : ℕ) (bytes : List ℕ) (v : BrickContent) (rest : List ℕ)
+entries_right : (cube : Decl) (limits : List ℕ) (from epoch number : ℕ) (bytes : List ℕ) (v : EntriesAndRows) (rest : List ℕ)
     → TakesEntries cube limits from epoch number bytes v rest → Takes bytes (vector_bytes v) rest × IsRight cube limits from epoch number v
 entries_right cube limits from epoch number bytes v rest t =
     let entries = map (λ (e : EntryRows). e.entry) t.items in
@@ -108,7 +108,7 @@ entries_right cube limits from epoch number bytes v rest t =
     let again : entries_with_rows 0 rows entries ≡ t.items = items_again cube limits from epoch number none t.items t.fit rows refl in
     let spelled : vector_bytes w ≡ eight_bytes (length t.items) ++ entries_bytes t.items = λ i. eight_bytes (count i) ++ entries_bytes (again i) in
     let vector : IsVector entries (length rows) =
-    subst (λ (x : BrickContent). IsVector x.entries (length x.rows)) (content_is cube limits from epoch number t.items)
+    subst (λ (x : EntriesAndRows). IsVector x.entries (length x.rows)) (content_is cube limits from epoch number t.items)
     (vector_all cube limits from epoch number none t.items (record { leads = refl; apart = tt }) t.fit) in
     let right : IsRight cube limits from epoch number w = record {
       some = some_of entries (omega (arith, count, t.some));
@@ -116,7 +116,7 @@ entries_right cube limits from epoch number bytes v rest t =
       epochs = epochs_all cube limits from epoch number none t.items t.fit;
       rows = fit_all cube limits from epoch number none t.items t.fit;
     } in
-    subst (λ (x : BrickContent). Takes bytes (vector_bytes x) rest × IsRight cube limits from epoch number x) (sym is)
+    subst (λ (x : EntriesAndRows). Takes bytes (vector_bytes x) rest × IsRight cube limits from epoch number x) (sym is)
     (subst (λ (text : List ℕ). Takes bytes text rest) (sym spelled) t.taken, right)
 
 some_entry : (items : List EntryRows) → AllByRecursion (λ e. 1 ≤ length (spelled_entry e)) items
@@ -127,7 +127,7 @@ some_entry (e ∷ items) = (some_bytes e.entry e.rows, some_entry items)
     some_bytes (Run epoch end) rows = omega arith
     some_bytes (Mark epoch at) rows = omega arith
 
-entries_read : (cube : Decl) (limits : List ℕ) (from epoch number : ℕ) → 0 < length cube.metrics → epoch < 2 ^ 64 → (v : BrickContent) (rest : List ℕ)
+entries_read : (cube : Decl) (limits : List ℕ) (from epoch number : ℕ) → 0 < length cube.metrics → epoch < 2 ^ 64 → (v : EntriesAndRows) (rest : List ℕ)
     → IsRight cube limits from epoch number v → length (vector_bytes v ++ rest) < 2 ^ 64
     → entries_from cube limits from epoch number (vector_bytes v ++ rest) ≡ Ok (v, rest)
 unfolding entries_from
@@ -148,7 +148,7 @@ entries_read cube limits from epoch number wide small v rest right short =
     content_is cube limits from epoch number items
     ∙ (λ i. brick_content (again i) (rows_again_all cube limits from epoch number 0 v.rows v.entries (omega arith) right.vector.leads i)) in
     let read : repeat_step step n none (more ++ rest) ≡ Ok (v, rest) =
-    ap (λ (k : ℕ). repeat_step step k none (more ++ rest)) (sym count) ∙ all ∙ ap (λ (x : BrickContent). Ok (x, rest)) same in
+    ap (λ (k : ℕ). repeat_step step k none (more ++ rest)) (sym count) ∙ all ∙ ap (λ (x : EntriesAndRows). Ok (x, rest)) same in
     rw (parted, number-read) read
 
 pub reads_entries : (cube : Decl) (limits : List ℕ) (from epoch number : ℕ) → 0 < length cube.metrics → epoch < 2 ^ 64

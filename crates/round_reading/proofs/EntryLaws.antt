@@ -14,7 +14,7 @@ use Rattle.cube_rounds.specs.Bricks.{EntryRows}
 use Rattle.cube_rounds.specs.Bytes.{four_bytes, eight_bytes, signed_bytes, counted_bytes, row_bytes, entry_rows_bytes}
 use Rattle.cube_rounds.specs.Demands.{FitsRow, IsOfEpochs}
 use Rattle.round_fields.specs.Reading.{◌>>=◌, ReadOf, with_test, list_with, repeat_step, byte_from, eight_from}
-use Rattle.round_reading.specs.Payload.{row_from, row_step, run_rows_from, appended_from, joins_last, may_come_next, entry_of_kind, kind_from, BrickContent, brick_content, entry_step}
+use Rattle.round_reading.specs.Payload.{row_from, row_step, run_rows_from, appended_from, joins_last, may_come_next, entry_of_kind, kind_from, EntriesAndRows, brick_content, entry_step}
 use Rattle.round_fields.proofs.FieldLaws.{IsBytes, IsBytes-rest, passed, bind_ok, ok_is, Takes, Takes-then, Reads, reads_eight}
 use Rattle.round_reading.proofs.Sequences.{reads_passing, reads_putting, steps_take, steps_again, shorter, EachFits, ReadsStep, then_ok}
 use Rattle.round_reading.proofs.RowLaws.{is_true, as_true, reads_row}
@@ -94,13 +94,13 @@ abbrev pub HasRows : ℕ → Entry → List CodedRow → Type 0
 HasRows from (Run epoch end) rows = (end ≡ from + length rows) × (0 < length rows)
 HasRows from (Mark epoch at) rows = (at ≡ from) × (rows ≡ [])
 
-pub record FitsEntry (cube : Decl) (limits : List ℕ) (from epoch brick : ℕ) (v : BrickContent) (e : EntryRows) : Type 0 where
+pub record FitsEntry (cube : Decl) (limits : List ℕ) (from epoch brick : ℕ) (v : EntriesAndRows) (e : EntryRows) : Type 0 where
   pub epochs : IsOfEpochs from epoch e.entry
   pub apart : joins_last v.entries e.entry ≡ false
   pub shape : HasRows (length v.rows) e.entry e.rows
   pub fit : AllByRecursion (FitsRow cube limits brick) e.rows
 
-abbrev pub vector_with : BrickContent → EntryRows → BrickContent
+abbrev pub vector_with : EntriesAndRows → EntryRows → EntriesAndRows
 vector_with v e = brick_content (v.entries ++ e.entry ∷ []) (v.rows ++ e.rows)
 
 abbrev pub spelled_entry : EntryRows → List ℕ
@@ -171,13 +171,13 @@ abbrev pub entry_rows : Entry → List CodedRow → EntryRows
 entry_rows entry rows = record { entry = entry; rows = rows }
 
 -- What a step takes: an entry, which it puts behind the others with its rows.
-record TakesEntry (cube : Decl) (limits : List ℕ) (from epoch brick : ℕ) (v : BrickContent) (bytes : List ℕ) (after : BrickContent) (rest : List ℕ) : Type 0 where
+record TakesEntry (cube : Decl) (limits : List ℕ) (from epoch brick : ℕ) (v : EntriesAndRows) (bytes : List ℕ) (after : EntriesAndRows) (rest : List ℕ) : Type 0 where
   pub item : EntryRows
   pub are : after ≡ vector_with v item
   pub taken : Takes bytes (spelled_entry item) rest
   pub fit : FitsEntry cube limits from epoch brick v item
 
-run_takes : (cube : Decl) (limits : List ℕ) (from epoch brick made : ℕ) (v : BrickContent) (bytes r1 : List ℕ) (rows : List CodedRow) (rest : List ℕ)
+run_takes : (cube : Decl) (limits : List ℕ) (from epoch brick made : ℕ) (v : EntriesAndRows) (bytes r1 : List ℕ) (rows : List CodedRow) (rest : List ℕ)
     → Takes bytes (0 ∷ eight_bytes made) r1 → IsOfEpochs from epoch (Run made (length v.rows)) → joins_last v.entries (Run made (length v.rows)) ≡ false
     → run_rows_from cube limits brick v.rows r1 ≡ Ok (rows, rest)
     → TakesEntry cube limits from epoch brick v bytes (brick_content (v.entries ++ Run made (length rows) ∷ []) rows) rest
@@ -197,7 +197,7 @@ run_takes cube limits from epoch brick made v bytes r1 rows rest kind of apart e
       };
     }
 
-mark_takes : (cube : Decl) (limits : List ℕ) (from epoch brick made : ℕ) (v : BrickContent) (bytes rest : List ℕ)
+mark_takes : (cube : Decl) (limits : List ℕ) (from epoch brick made : ℕ) (v : EntriesAndRows) (bytes rest : List ℕ)
     → Takes bytes (1 ∷ eight_bytes made) rest → IsOfEpochs from epoch (Mark made (length v.rows)) → joins_last v.entries (Mark made (length v.rows)) ≡ false
     → TakesEntry cube limits from epoch brick v bytes (brick_content (v.entries ++ Mark made (length v.rows) ∷ []) v.rows) rest
 mark_takes cube limits from epoch brick made v bytes rest kind of apart = record {
@@ -208,7 +208,7 @@ mark_takes cube limits from epoch brick made v bytes rest kind of apart = record
 }
 
 -- By the kind of the entry.
-entry_by : (cube : Decl) (limits : List ℕ) (from epoch brick kind made : ℕ) (v : BrickContent) (bytes r1 : List ℕ) (rows : List CodedRow) (rest : List ℕ)
+entry_by : (cube : Decl) (limits : List ℕ) (from epoch brick kind made : ℕ) (v : EntriesAndRows) (bytes r1 : List ℕ) (rows : List CodedRow) (rest : List ℕ)
     → kind < 2 → Takes bytes (kind ∷ eight_bytes made) r1 → IsOfEpochs from epoch (entry_of_kind kind made (length v.rows))
     → joins_last v.entries (entry_of_kind kind made (length v.rows)) ≡ false
     → appended_from cube limits brick (entry_of_kind kind made (length v.rows)) v.rows r1 ≡ Ok (rows, rest)
@@ -222,7 +222,7 @@ entry_by cube limits from epoch brick (suc zero) made v bytes r1 rows rest known
 entry_by cube limits from epoch brick (suc (suc n)) made v bytes r1 rows rest known kind of apart e = absurd (omega arith)
 
 -- An entry by its kind, with the rows that were read behind it.
-entry_with : (cube : Decl) (limits : List ℕ) (from epoch brick : ℕ) (v : BrickContent) (bytes : List ℕ) (entry : Entry) (r1 : List ℕ) (rows : List CodedRow) (rest : List ℕ)
+entry_with : (cube : Decl) (limits : List ℕ) (from epoch brick : ℕ) (v : EntriesAndRows) (bytes : List ℕ) (entry : Entry) (r1 : List ℕ) (rows : List CodedRow) (rest : List ℕ)
     → TakesKind from epoch v.entries (length v.rows) bytes entry r1 → appended_from cube limits brick entry v.rows r1 ≡ Ok (rows, rest)
     → TakesEntry cube limits from epoch brick v bytes (brick_content (v.entries ++ with_rows_after entry (length rows) ∷ []) rows) rest
 entry_with cube limits from epoch brick v bytes entry r1 rows rest k e =
@@ -231,18 +231,18 @@ entry_with cube limits from epoch brick v bytes entry r1 rows rest k e =
     (λ read. entry_by cube limits from epoch brick k.kind k.made v bytes r1 rows rest k.known k.taken
     (subst (IsOfEpochs from epoch) k.is k.epochs) (subst (λ (x : Entry). joins_last v.entries x ≡ false) k.is k.apart) read) e
 
-entry_takes : (cube : Decl) (limits : List ℕ) (from epoch brick : ℕ) (v : BrickContent) (bytes : List ℕ) (after : BrickContent) (rest : List ℕ) → IsBytes bytes
+entry_takes : (cube : Decl) (limits : List ℕ) (from epoch brick : ℕ) (v : EntriesAndRows) (bytes : List ℕ) (after : EntriesAndRows) (rest : List ℕ) → IsBytes bytes
     → entry_step cube limits from epoch brick v bytes ≡ Ok (after, rest) → TakesEntry cube limits from epoch brick v bytes after rest
 unfolding entry_step
 entry_takes cube limits from epoch brick v bytes after rest fits e =
-    let last : Entry × List ℕ → List CodedRow × List ℕ → ReadOf BrickContent = λ entry rows. Ok (brick_content (v.entries ++ with_rows_after entry.0 (length rows.0) ∷ []) rows.0, rows.1) in
+    let last : Entry × List ℕ → List CodedRow × List ℕ → ReadOf EntriesAndRows = λ entry rows. Ok (brick_content (v.entries ++ with_rows_after entry.0 (length rows.0) ∷ []) rows.0, rows.1) in
     let a = bind_ok (kind_from from epoch v.entries (length v.rows) bytes) (λ entry. appended_from cube limits brick entry.0 v.rows entry.1 >>= last entry) (after, rest) e in
     let b = bind_ok (appended_from cube limits brick a.0.0 v.rows a.0.1) (last a.0) (after, rest) a.2 in
     let same = ok_is ℕ (brick_content (v.entries ++ with_rows_after a.0.0 (length b.0.0) ∷ []) b.0.0, b.0.1) (after, rest) b.2 in
     let k = kind_takes from epoch v.entries (length v.rows) bytes a.0.0 a.0.1 fits a.1 in
     let taken : TakesEntry cube limits from epoch brick v bytes (brick_content (v.entries ++ with_rows_after a.0.0 (length b.0.0) ∷ []) b.0.0) b.0.1 =
     entry_with cube limits from epoch brick v bytes a.0.0 a.0.1 b.0.0 b.0.1 k b.1 in
-    subst (λ (p : BrickContent × List ℕ). TakesEntry cube limits from epoch brick v bytes p.0 p.1) same taken
+    subst (λ (p : EntriesAndRows × List ℕ). TakesEntry cube limits from epoch brick v bytes p.0 p.1) same taken
 
 kind_again : (from epoch : ℕ) (entries : List Entry) (kind made rows : ℕ) (rest : List ℕ) → kind < 2 → made < 2 ^ 64
     → may_come_next from epoch entries (entry_of_kind kind made rows) ≡ true → length (kind ∷ (eight_bytes made ++ rest)) < 2 ^ 64
@@ -253,7 +253,7 @@ kind_again from epoch entries kind made rows rest known small may short =
     let second = reads_eight.again made rest small (omega (arith, short)) in
     rw (first, second, may) refl
 
-entry_again : (cube : Decl) (limits : List ℕ) (from epoch brick : ℕ) → 0 < length cube.metrics → epoch < 2 ^ 64 → (v : BrickContent) (entry : Entry) (rows : List CodedRow) (rest : List ℕ)
+entry_again : (cube : Decl) (limits : List ℕ) (from epoch brick : ℕ) → 0 < length cube.metrics → epoch < 2 ^ 64 → (v : EntriesAndRows) (entry : Entry) (rows : List CodedRow) (rest : List ℕ)
     → FitsEntry cube limits from epoch brick v (entry_rows entry rows) → length (entry_rows_bytes entry rows ++ rest) < 2 ^ 64
     → entry_step cube limits from epoch brick v (entry_rows_bytes entry rows ++ rest) ≡ Ok (vector_with v (entry_rows entry rows), rest)
 unfolding entry_step
@@ -267,9 +267,9 @@ entry_again cube limits from epoch brick wide small v (Run made end) rows rest f
     let behind : length (counted_bytes row_bytes rows ++ rest) < 2 ^ 64 = omega (arith, lt, length-append (eight_bytes made) (counted_bytes row_bytes rows ++ rest)) in
     let read = rows_again cube limits brick wide v.rows rows rest fit.fit fit.shape.1 behind in
     let end-is : length (v.rows ++ rows) ≡ end = length-append v.rows rows ∙ sym fit.shape.0 in
-    let after : BrickContent × List ℕ = (vector_with v (entry_rows (Run made end) rows), rest) in
-    let last : Entry × List ℕ → List CodedRow × List ℕ → ReadOf BrickContent = λ entry rows. Ok (brick_content (v.entries ++ with_rows_after entry.0 (length rows.0) ∷ []) rows.0, rows.1) in
-    let next : Entry × List ℕ → ReadOf BrickContent = λ entry. appended_from cube limits brick entry.0 v.rows entry.1 >>= last entry in
+    let after : EntriesAndRows × List ℕ = (vector_with v (entry_rows (Run made end) rows), rest) in
+    let last : Entry × List ℕ → List CodedRow × List ℕ → ReadOf EntriesAndRows = λ entry rows. Ok (brick_content (v.entries ++ with_rows_after entry.0 (length rows.0) ∷ []) rows.0, rows.1) in
+    let next : Entry × List ℕ → ReadOf EntriesAndRows = λ entry. appended_from cube limits brick entry.0 v.rows entry.1 >>= last entry in
     let front : Entry × List ℕ = (Run made (length v.rows), counted_bytes row_bytes rows ++ rest) in
     let whole : entry_step cube limits from epoch brick v (0 ∷ (eight_bytes made ++ (counted_bytes row_bytes rows ++ rest))) ≡ Ok after =
     then_ok (kind_from from epoch v.entries (length v.rows) (0 ∷ (eight_bytes made ++ (counted_bytes row_bytes rows ++ rest)))) next front (Ok after) kind
@@ -281,9 +281,9 @@ entry_again cube limits from epoch brick wide small v (Mark made at) rows rest f
     let none : rows ≡ [] = fit.shape.1 in
     let may = comes from epoch v.entries (Mark made (length v.rows)) (record { above = fit.epochs.above; within = fit.epochs.within }) (subst (λ (n : ℕ). joins_last v.entries (Mark made n) ≡ false) at-is fit.apart) in
     let kind = kind_again from epoch v.entries 1 made (length v.rows) rest (omega arith) (omega (arith, fit.epochs.within, small)) may short in
-    let after : BrickContent × List ℕ = (vector_with v (entry_rows (Mark made at) rows), rest) in
-    let last : Entry × List ℕ → List CodedRow × List ℕ → ReadOf BrickContent = λ entry rows. Ok (brick_content (v.entries ++ with_rows_after entry.0 (length rows.0) ∷ []) rows.0, rows.1) in
-    let next : Entry × List ℕ → ReadOf BrickContent = λ entry. appended_from cube limits brick entry.0 v.rows entry.1 >>= last entry in
+    let after : EntriesAndRows × List ℕ = (vector_with v (entry_rows (Mark made at) rows), rest) in
+    let last : Entry × List ℕ → List CodedRow × List ℕ → ReadOf EntriesAndRows = λ entry rows. Ok (brick_content (v.entries ++ with_rows_after entry.0 (length rows.0) ∷ []) rows.0, rows.1) in
+    let next : Entry × List ℕ → ReadOf EntriesAndRows = λ entry. appended_from cube limits brick entry.0 v.rows entry.1 >>= last entry in
     then_ok (kind_from from epoch v.entries (length v.rows) (1 ∷ (eight_bytes made ++ rest))) next (Mark made (length v.rows), rest) (Ok after) kind
     (λ i. Ok (brick_content (v.entries ++ Mark made (sym at-is i) ∷ []) ((sym (append-nil v.rows) ∙ ap (λ (r : List CodedRow). v.rows ++ r) (sym none)) i), rest))
 

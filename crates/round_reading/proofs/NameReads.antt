@@ -9,7 +9,7 @@ use Rattle.cube_language.specs.Cubes.{sizes_of}
 use Rattle.cube_rounds.specs.Demands.{DimNames, names_with, coord_limit}
 use Rattle.round_fields.specs.Reading.{with_test, list_with, repeat_step, each_step, eight_from}
 use Rattle.round_fields.proofs.FieldLaws.{passed, bind_ok, ok_is}
-use Rattle.round_reading.specs.Limits.{AreLimits, HasRoom}
+use Rattle.round_reading.specs.Limits.{AreLimits, HasNameRoom}
 use Rattle.round_reading.specs.Payload.{name_from, name_step, names_from, dim_names_from, dim_step}
 
 names_counted : (earlier : List (List ℕ)) (n : ℕ) (s : List (List ℕ)) (bytes : List ℕ) (after : List (List ℕ)) (rest : List ℕ)
@@ -44,7 +44,7 @@ by_kind false cardinality earlier bytes names rest e = tt
 record Lists (dims : List (DimDecl × List (List ℕ))) (before after : DimNames) : Type 0 where
   pub new : DimNames
   pub are : after ≡ before ++ new
-  pub room : AllZip HasRoom dims new
+  pub room : AllZip HasNameRoom dims new
 
 each_room : (dims : List (DimDecl × List (List ℕ))) (before : DimNames) (bytes : List ℕ) (after : DimNames) (rest : List ℕ)
     → each_step dim_step dims before bytes ≡ Ok (after, rest) → Lists dims before after
@@ -65,13 +65,13 @@ each_room (d ∷ dims) before bytes after rest e =
 
 -- The names that were read have room.
 pub dims_room : (dims : List (DimDecl × List (List ℕ))) (bytes : List ℕ) (lists : DimNames) (rest : List ℕ)
-    → each_step dim_step dims [] bytes ≡ Ok (lists, rest) → AllZip HasRoom dims lists
-dims_room dims bytes lists rest e = let r = each_room dims [] bytes lists rest e in subst (AllZip HasRoom dims) (sym r.are) r.room
+    → each_step dim_step dims [] bytes ≡ Ok (lists, rest) → AllZip HasNameRoom dims lists
+dims_room dims bytes lists rest e = let r = each_room dims [] bytes lists rest e in subst (AllZip HasNameRoom dims) (sym r.are) r.room
 
 -- ---- limits
 
 -- There are names for each dimension.
-pub room_length : (dims : List DimDecl) (earlier names : DimNames) → length earlier ≡ length dims → AllZip HasRoom (zip dims earlier) names → length names ≡ length dims
+pub room_length : (dims : List DimDecl) (earlier names : DimNames) → length earlier ≡ length dims → AllZip HasNameRoom (zip dims earlier) names → length names ≡ length dims
 room_length [] [] [] same room = refl
 room_length [] [] (list ∷ names) same room = absurd room
 room_length [] (first ∷ earlier) names same room = absurd (omega arith)
@@ -79,20 +79,20 @@ room_length (dim ∷ dims) [] names same room = absurd (omega arith)
 room_length (dim ∷ dims) (first ∷ earlier) [] same room = absurd room
 room_length (dim ∷ dims) (first ∷ earlier) (list ∷ names) same room = ap suc (room_length dims earlier names (omega arith) room.1)
 
-pub room_at : (dims : List DimDecl) (earlier names : DimNames) (i : ℕ) (d : DimDecl) (e n : List (List ℕ)) → length earlier ≡ length dims → AllZip HasRoom (zip dims earlier) names
-    → i < length dims → HasRoom (get_or dims i d, get_or earlier i e) (get_or names i n)
+pub room_at : (dims : List DimDecl) (earlier names : DimNames) (i : ℕ) (d : DimDecl) (e n : List (List ℕ)) → length earlier ≡ length dims → AllZip HasNameRoom (zip dims earlier) names
+    → i < length dims → HasNameRoom (get_or dims i d, get_or earlier i e) (get_or names i n)
 room_at [] earlier names i d e n same room lt = absurd (omega arith)
 room_at (dim ∷ dims) [] names i d e n same room lt = absurd (omega arith)
 room_at (dim ∷ dims) (first ∷ earlier) [] i d e n same room lt = absurd room
 room_at (dim ∷ dims) (first ∷ earlier) (list ∷ names) zero d e n same room lt = room.0
 room_at (dim ∷ dims) (first ∷ earlier) (list ∷ names) (suc i) d e n same room lt = room_at dims earlier names i d e n (omega arith) room.1 (omega arith)
 
-pub room_here : (dims : List DimDecl) (earlier names : DimNames) (i : ℕ) (d : DimDecl) (e n : List (List ℕ)) → length earlier ≡ length dims → AllZip HasRoom (zip dims earlier) names
-    → i < length dims → d ≡ get_or dims i d → e ≡ get_or earlier i e → n ≡ get_or names i n → HasRoom (d, e) n
+pub room_here : (dims : List DimDecl) (earlier names : DimNames) (i : ℕ) (d : DimDecl) (e n : List (List ℕ)) → length earlier ≡ length dims → AllZip HasNameRoom (zip dims earlier) names
+    → i < length dims → d ≡ get_or dims i d → e ≡ get_or earlier i e → n ≡ get_or names i n → HasNameRoom (d, e) n
 room_here dims earlier names i d e n same room lt d-is e-is n-is =
-    subst (λ (x : DimDecl). HasRoom (x, e) n) (sym d-is)
-    (subst (λ (x : List (List ℕ)). HasRoom (get_or dims i d, x) n) (sym e-is)
-    (subst (λ (x : List (List ℕ)). HasRoom (get_or dims i d, get_or earlier i e) x) (sym n-is) (room_at dims earlier names i d e n same room lt)))
+    subst (λ (x : DimDecl). HasNameRoom (x, e) n) (sym d-is)
+    (subst (λ (x : List (List ℕ)). HasNameRoom (get_or dims i d, x) n) (sym e-is)
+    (subst (λ (x : List (List ℕ)). HasNameRoom (get_or dims i d, get_or earlier i e) x) (sym n-is) (room_at dims earlier names i d e n same room lt)))
 
 -- The limits of so many dimensions.
 abbrev pub limits_so_far : ℕ → List DimDecl → DimNames → DimNames → List ℕ
@@ -107,7 +107,7 @@ one_more (dim ∷ dims) (first ∷ earlier) (list ∷ names) zero d e n same lon
 one_more (dim ∷ dims) (first ∷ earlier) (list ∷ names) (suc i) d e n same long lt =
     ap (λ (l : List ℕ). coord_limit (dim, first ++ list) ∷ l) (one_more dims earlier names i d e n (omega arith) (omega arith) (omega arith))
 
-pub limits_more : (dims : List DimDecl) (earlier names : DimNames) (i : ℕ) (d : DimDecl) (e n : List (List ℕ)) (limits : List ℕ) → length earlier ≡ length dims → AllZip HasRoom (zip dims earlier) names
+pub limits_more : (dims : List DimDecl) (earlier names : DimNames) (i : ℕ) (d : DimDecl) (e n : List (List ℕ)) (limits : List ℕ) → length earlier ≡ length dims → AllZip HasNameRoom (zip dims earlier) names
     → i < length dims → d ≡ get_or dims i d → e ≡ get_or earlier i e → n ≡ get_or names i n
     → limits ≡ limits_so_far i dims earlier names → limits ++ coord_limit (d, e ++ n) ∷ [] ≡ limits_so_far (i + 1) dims earlier names
 limits_more dims earlier names i d e n limits same room lt d-is e-is n-is so_far =
@@ -124,7 +124,7 @@ zip_with (dim ∷ dims) [] names same long = absurd (omega arith)
 zip_with (dim ∷ dims) (first ∷ earlier) [] same long = absurd (omega arith)
 zip_with (dim ∷ dims) (first ∷ earlier) (list ∷ names) same long = ap suc (zip_with dims earlier names (omega arith) (omega arith))
 
-pub limits_all : (dims : List DimDecl) (earlier names : DimNames) (i : ℕ) (limits : List ℕ) → length earlier ≡ length dims → AllZip HasRoom (zip dims earlier) names → length dims ≤ i
+pub limits_all : (dims : List DimDecl) (earlier names : DimNames) (i : ℕ) (limits : List ℕ) → length earlier ≡ length dims → AllZip HasNameRoom (zip dims earlier) names → length dims ≤ i
     → limits ≡ limits_so_far i dims earlier names → limits ≡ map coord_limit (zip dims (names_with earlier names))
 limits_all dims earlier names i limits same room le so_far =
     so_far ∙ ap (map coord_limit) (take_all i (zip dims (names_with earlier names)) (omega (arith, zip_with dims earlier names same (room_length dims earlier names same room))))
@@ -134,7 +134,7 @@ limit_within true cardinality earlier names room = omega (arith, room, length-ap
 limit_within false cardinality earlier names room = omega arith
 
 -- The limits are within the cardinalities.
-pub limits_within : (dims : List DimDecl) (earlier names : DimNames) → length earlier ≡ length dims → AllZip HasRoom (zip dims earlier) names
+pub limits_within : (dims : List DimDecl) (earlier names : DimNames) → length earlier ≡ length dims → AllZip HasNameRoom (zip dims earlier) names
     → AreLimits (map coord_limit (zip dims (names_with earlier names))) (sizes_of dims)
 limits_within [] [] [] same room = tt
 limits_within [] [] (list ∷ names) same room = absurd room

@@ -10,7 +10,7 @@ use Rattle.cube_values.specs.EpochsVector.{Leads, NeighboursApart, IsVector}
 use Rattle.cube_language.specs.declared.decl.Decl.{Decl}
 use Rattle.cube_rounds.specs.Bricks.{EntryRows, rows_between, entries_with_rows}
 use Rattle.cube_rounds.specs.Demands.{FitsRow, IsOfEpochs}
-use Rattle.round_reading.specs.Payload.{joins_last, BrickContent, brick_content}
+use Rattle.round_reading.specs.Payload.{joins_last, EntriesAndRows, brick_content}
 use Rattle.round_reading.proofs.Sequences.{all_put, EachFits}
 use Rattle.cube_rounds.proofs.Leads.{leads_up}
 use Rattle.round_reading.proofs.EntryLaws.{HasRows, FitsEntry, vector_with, entry_rows}
@@ -28,11 +28,11 @@ apart_more (a ∷ []) next apart new = (new, tt)
 apart_more (a ∷ b ∷ entries) next apart new = (apart.0, apart_more (b ∷ entries) next apart.1 new)
 
 module _ (cube : Decl) (limits : List ℕ) (from epoch brick : ℕ) where
-  abbrev Fits : BrickContent → EntryRows → Type 0
+  abbrev Fits : EntriesAndRows → EntryRows → Type 0
   Fits v e = FitsEntry cube limits from epoch brick v e
 
   -- A vector with entries put behind it is a vector.
-  pub vector_all : (v : BrickContent) (items : List EntryRows) → IsVector v.entries (length v.rows) → EachFits vector_with Fits v items
+  pub vector_all : (v : EntriesAndRows) (items : List EntryRows) → IsVector v.entries (length v.rows) → EachFits vector_with Fits v items
       → IsVector (all_put vector_with v items).entries (length (all_put vector_with v items).rows)
   vector_all v [] is fit = is
   vector_all v (e ∷ items) is fit =
@@ -43,15 +43,15 @@ module _ (cube : Decl) (limits : List ℕ) (from epoch brick : ℕ) where
       vector_all (vector_with v e) items more fit.1
 
   -- The entries and rows of a vector with entries put behind it.
-  pub entries_all : (v : BrickContent) (items : List EntryRows) → (all_put vector_with v items).entries ≡ v.entries ++ map (λ e. e.entry) items
+  pub entries_all : (v : EntriesAndRows) (items : List EntryRows) → (all_put vector_with v items).entries ≡ v.entries ++ map (λ e. e.entry) items
   entries_all v [] = sym (append-nil v.entries)
   entries_all v (e ∷ items) = entries_all (vector_with v e) items ∙ append_assoc v.entries (e.entry ∷ []) (map (λ e. e.entry) items)
 
-  pub rows_all : (v : BrickContent) (items : List EntryRows) → (all_put vector_with v items).rows ≡ v.rows ++ flat_map (λ e. e.rows) items
+  pub rows_all : (v : EntriesAndRows) (items : List EntryRows) → (all_put vector_with v items).rows ≡ v.rows ++ flat_map (λ e. e.rows) items
   rows_all v [] = sym (append-nil v.rows)
   rows_all v (e ∷ items) = rows_all (vector_with v e) items ∙ append_assoc v.rows e.rows (flat_map (λ e. e.rows) items)
 
-  pub epochs_all : (v : BrickContent) (items : List EntryRows) → EachFits vector_with Fits v items → AllByRecursion (IsOfEpochs from epoch) (map (λ e. e.entry) items)
+  pub epochs_all : (v : EntriesAndRows) (items : List EntryRows) → EachFits vector_with Fits v items → AllByRecursion (IsOfEpochs from epoch) (map (λ e. e.entry) items)
   epochs_all v [] fit = tt
   epochs_all v (e ∷ items) fit = (fit.0.epochs, epochs_all (vector_with v e) items fit.1)
 
@@ -69,7 +69,7 @@ module _ (cube : Decl) (limits : List ℕ) (from epoch brick : ℕ) where
   all_append P [] ys a b = b
   all_append P (x ∷ xs) ys a b = (a.0, all_append P xs ys a.1 b)
 
-  pub fit_all : (v : BrickContent) (items : List EntryRows) → EachFits vector_with Fits v items → AllByRecursion (FitsRow cube limits brick) (flat_map (λ e. e.rows) items)
+  pub fit_all : (v : EntriesAndRows) (items : List EntryRows) → EachFits vector_with Fits v items → AllByRecursion (FitsRow cube limits brick) (flat_map (λ e. e.rows) items)
   fit_all v [] fit = tt
   fit_all v (e ∷ items) fit = all_append (FitsRow cube limits brick) e.rows (flat_map (λ e. e.rows) items) fit.0.fit (fit_all (vector_with v e) items fit.1)
 
@@ -149,7 +149,7 @@ module _ (cube : Decl) (limits : List ℕ) (from epoch brick : ℕ) where
       λ i. entry_rows (Mark made place) (sym has.1 i) ∷ others i
 
   -- Items that were put one after the other are the entries with their rows.
-  pub items_again : (v : BrickContent) (items : List EntryRows) → EachFits vector_with Fits v items
+  pub items_again : (v : EntriesAndRows) (items : List EntryRows) → EachFits vector_with Fits v items
       → (rows : List CodedRow) → rows ≡ v.rows ++ flat_map (λ e. e.rows) items → entries_with_rows (length v.rows) rows (map (λ e. e.entry) items) ≡ items
   items_again v [] fit rows whole = refl
   items_again v (e ∷ items) fit rows whole =

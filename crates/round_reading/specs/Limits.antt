@@ -9,5 +9,5 @@ abbrev pub AreLimits : List ℕ → List Size → Type 0
 AreLimits limits sizes = AllZip (λ limit size. limit ≤ size.cardinality) limits sizes
 
 -- The names of a dimension of texts are no more than its cardinality with the new ones.
-abbrev pub HasRoom : DimDecl × List (List ℕ) → List (List ℕ) → Type 0
-HasRoom d names = MatchBool d.0.text (length d.1 + length names ≤ d.0.cardinality) (Unit {0})
+abbrev pub HasNameRoom : DimDecl × List (List ℕ) → List (List ℕ) → Type 0
+HasNameRoom d names = MatchBool d.0.text (length d.1 + length names ≤ d.0.cardinality) (Unit {0})

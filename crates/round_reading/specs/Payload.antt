@@ -84,22 +84,22 @@ kind_from from epoch entries rows bytes = do
       else Err (length bytes)
 
 -- Entries, and the rows that they appended.
-pub record BrickContent : Type 0 where
+pub record EntriesAndRows : Type 0 where
   pub entries : List Entry
   pub rows : List CodedRow
 
-abbrev pub brick_content : List Entry → List CodedRow → BrickContent
+abbrev pub brick_content : List Entry → List CodedRow → EntriesAndRows
 brick_content entries rows = record { entries = entries; rows = rows }
 
 -- An entry with its rows.
-unfoldable pub entry_step : Decl → List ℕ → ℕ → ℕ → ℕ → BrickContent → List ℕ → ReadOf BrickContent
+unfoldable pub entry_step : Decl → List ℕ → ℕ → ℕ → ℕ → EntriesAndRows → List ℕ → ReadOf EntriesAndRows
 entry_step cube limits from epoch brick v bytes = do
   entry ← kind_from from epoch v.entries (length v.rows) bytes
   rows ← appended_from cube limits brick entry.0 v.rows entry.1
   Ok (brick_content (v.entries ++ with_rows_after entry.0 (length rows.0) ∷ []) rows.0, rows.1)
 
 -- At least one entry behind the number of entries.
-unfoldable pub entries_from : Decl → List ℕ → ℕ → ℕ → ℕ → List ℕ → ReadOf BrickContent
+unfoldable pub entries_from : Decl → List ℕ → ℕ → ℕ → ℕ → List ℕ → ReadOf EntriesAndRows
 entries_from cube limits from epoch brick bytes = do
   count ← with_test (nat_lt 0) eight_from bytes
   repeat_step (entry_step cube limits from epoch brick) count.0 (brick_content [] []) count.1
@@ -117,7 +117,7 @@ abbrev pub with_brick : RisingBricks → BrickPart → RisingBricks
 with_brick b brick = rising_bricks (brick.brick + 1) (b.bricks ++ brick ∷ [])
 
 -- A brick of these entries and rows.
-abbrev pub brick_with : ℕ → BrickContent → BrickPart
+abbrev pub brick_with : ℕ → EntriesAndRows → BrickPart
 brick_with number v = record { brick = number; entries = v.entries; rows = v.rows }
 
 -- A brick of the cube whose number is not below the least.

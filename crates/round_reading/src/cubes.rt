@@ -5,7 +5,7 @@ ghost use Rattle.std.specs.List.{zip, AllZip};
 ghost use Rattle.cube_rounds.specs.Demands.{names_with, coord_limit, coord_limits, no_names, HaveDims};
 ghost use Rattle.round_fields.specs.Reading.{GivesRead, each_step};
 ghost use Rattle.round_reading.specs.Payload.{cube_step};
-ghost use Rattle.round_reading.specs.Limits.{HasRoom};
+ghost use Rattle.round_reading.specs.Limits.{HasNameRoom};
 
 use crate::entries::{RoundEpochs, bricks_from};
 use crate::names::take_dims;
@@ -16,7 +16,7 @@ use std::alloc::{AllocError, Global};
 
 /// The limit of a dimension's coordinates, by the earlier names and the new ones.
 fn coord_limit(dim: &DimDecl, earlier: &Texts, names: &Texts) -> u32
-    requires { HasRoom (dim.now, earlier.now) names.now }
+    requires { HasNameRoom (dim.now, earlier.now) names.now }
     ensures { result ≡ coord_limit (dim.now, earlier.now ++ names.now) }
 {
     let cardinality = dim.cardinality;
@@ -35,7 +35,7 @@ fn limits_of(
     names: &[Texts],
 ) -> Result<Vec<u32>, AllocError>
     requires earlier { length earlier.now ≡ length cube.now.dims }
-    requires room { AllZip HasRoom (zip cube.now.dims earlier.now) names.now }
+    requires room { AllZip HasNameRoom (zip cube.now.dims earlier.now) names.now }
     ensures { IfOk result (λ limits.
         limits.items ≡ coord_limits cube.now (names_with earlier.now names.now)) }
 {

@@ -13,10 +13,10 @@ use Rattle.gate_writes.proofs.Moments.{LeavesOnly-wider}
 use Rattle.outside_disk.specs.Views.{View, IsSynced, LeavesOnly}
 use Rattle.sha2.specs.Sha256.{sha256}
 use Rattle.store_reading.specs.Pairs.{pair_content, StandsAt}
-use Rattle.round_store.specs.States.{StoreState, place_behind, IsStoreOf, AreFilesOf, Follows, IsEither}
+use Rattle.round_store.specs.States.{StoreState, place_behind, IsStoreOf, AreFilesOf, MayFollowKept, IsEither}
 use Rattle.round_store.proofs.StandsBy.{front_of, ends_shut, is_current, current_with, appending_stands}
 
-pub fits_here : (s : StoreState) (kept : Kept) (round : Round) → IsStoreOf s kept → Follows kept round → FitsRound s.cubes kept.names round
+pub fits_here : (s : StoreState) (kept : Kept) (round : Round) → IsStoreOf s kept → MayFollowKept kept round → FitsRound s.cubes kept.names round
 fits_here s kept round is follows = subst (λ (c : List Decl). FitsRound c kept.names round) (sym is.cubes) follows.fits
 
 pub place_in : (s : StoreState) (kept : Kept) (told : Option (List ℕ)) → IfSome told (λ f. (g : List ℕ) × AreFilesOf s kept f g) → IfSome told (λ f. s.place.end < length f)
@@ -30,7 +30,7 @@ place_in s kept (Some f) files =
 bytes_here : (s : StoreState) (kept : Kept) (round : Round) (bytes : List ℕ) → IsStoreOf s kept → bytes ≡ round_bytes sha256 s.cubes round ++ shut_gate ∷ [] → bytes ≡ round_bytes sha256 kept.cubes round ++ shut_gate ∷ []
 bytes_here s kept round bytes is are = are ∙ ap (λ (c : List Decl). round_bytes sha256 c round ++ shut_gate ∷ []) is.cubes
 
-pub append_moves : (told : Option (List ℕ)) (old new : View) (s : StoreState) (kept : Kept) (g : List ℕ) (round : Round) (bytes : List ℕ) → IsStoreOf s kept → Follows kept round
+pub append_moves : (told : Option (List ℕ)) (old new : View) (s : StoreState) (kept : Kept) (g : List ℕ) (round : Round) (bytes : List ℕ) → IsStoreOf s kept → MayFollowKept kept round
     → bytes ≡ round_bytes sha256 s.cubes round ++ shut_gate ∷ []
     → ((front : List ℕ) → length front ≡ s.place.end → IfSome told (λ f. EndsShut front f → LeavesOnly old new (Appending front bytes)))
     → IfSome told (λ f. AreFilesOf s kept f g → LeavesOnly old new (IsEither kept (kept_with kept round) g))
@@ -41,7 +41,7 @@ append_moves (Some f) old new s kept g round bytes is follows are moves = λ fil
     LeavesOnly-wider old new (Appending front bytes) (IsEither kept (kept_with kept round) g)
     (appending_stands kept s.place f g st round follows bytes (bytes_here s kept round bytes is are)) (moves front (sym st.end) (ends_shut kept s.place f g st))
 
-added_now : (new : Option (List ℕ)) (s after : StoreState) (kept : Kept) (f g : List ℕ) (round : Round) (bytes : List ℕ) (st : StandsAt sha256 (pair_content kept s.place) f g) → Follows kept round
+added_now : (new : Option (List ℕ)) (s after : StoreState) (kept : Kept) (f g : List ℕ) (round : Round) (bytes : List ℕ) (st : StandsAt sha256 (pair_content kept s.place) f g) → MayFollowKept kept round
     → bytes ≡ round_bytes sha256 kept.cubes round ++ shut_gate ∷ [] → has_shut_gate g ≡ s.shut → after.place ≡ place_behind s.place (length bytes) → after.shut ≡ s.shut
     → IfSome new (EndsOpen (front_of kept s.place f g st) bytes) → IfSome new (λ c. AreFilesOf after (kept_with kept round) c g)
 added_now None s after kept f g round bytes st follows are gate place shut opened = tt
@@ -50,7 +50,7 @@ added_now (Some c) s after kept f g round bytes st follows are gate place shut o
   gate = gate ∙ sym shut;
 }
 
-pub append_added : (told new : Option (List ℕ)) (s after : StoreState) (kept : Kept) (g : List ℕ) (round : Round) (bytes : List ℕ) → IsStoreOf s kept → Follows kept round
+pub append_added : (told new : Option (List ℕ)) (s after : StoreState) (kept : Kept) (g : List ℕ) (round : Round) (bytes : List ℕ) → IsStoreOf s kept → MayFollowKept kept round
     → bytes ≡ round_bytes sha256 s.cubes round ++ shut_gate ∷ [] → after.place ≡ place_behind s.place (length bytes) → after.shut ≡ s.shut
     → ((front : List ℕ) → length front ≡ s.place.end → IfSome told (λ f. EndsShut front f → IfSome new (EndsOpen front bytes)))
     → IfSome told (λ f. AreFilesOf s kept f g → IfSome new (λ c. AreFilesOf after (kept_with kept round) c g))

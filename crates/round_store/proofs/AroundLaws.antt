@@ -7,7 +7,7 @@ use Rattle.gate_writes.proofs.Moments.{LeavesOnly-wider}
 use Rattle.outside_disk.specs.Views.{View, IsSynced, LeavesOnly}
 use Rattle.sha2.specs.Sha256.{sha256}
 use Rattle.store_reading.specs.Pairs.{file_of}
-use Rattle.round_store.specs.States.{StoreState, wants_whole, header_cubes, AreFilesOf, kept_before, Follows, IsEither, IsBesideEither, StandForEither}
+use Rattle.round_store.specs.States.{StoreState, wants_whole, header_cubes, AreFilesOf, kept_before, MayFollowKept, IsEither, IsBesideEither, StandForEither}
 use Rattle.round_store.proofs.AppendLaws.{still}
 use Rattle.round_store.proofs.StandsBy.{is_current}
 
@@ -23,11 +23,11 @@ pub files_second : (s : StoreState) (kept : Kept) (a b : Option (List ℕ)) → 
     → Told a b (λ f g. AreFilesOf s kept g f)
 files_second s kept a b is files = subst (λ (x : Bool). Told a b (λ f g. AreFilesOf s kept (file_of x f g) (file_of x g f))) is files
 
-pub follows_behind : (s : StoreState) (kept : Kept) (round : Round) → wants_whole s ≡ false → Follows (kept_before s kept) round → Follows kept round
-follows_behind s kept round is follows = subst (λ (x : Bool). Follows (cond x (kept_of_cubes (header_cubes kept)) kept) round) is follows
+pub follows_behind : (s : StoreState) (kept : Kept) (round : Round) → wants_whole s ≡ false → MayFollowKept (kept_before s kept) round → MayFollowKept kept round
+follows_behind s kept round is follows = subst (λ (x : Bool). MayFollowKept (cond x (kept_of_cubes (header_cubes kept)) kept) round) is follows
 
-pub follows_header : (s : StoreState) (kept : Kept) (round : Round) → wants_whole s ≡ true → Follows (kept_before s kept) round → Follows (kept_of_cubes (header_cubes kept)) round
-follows_header s kept round is follows = subst (λ (x : Bool). Follows (cond x (kept_of_cubes (header_cubes kept)) kept) round) is follows
+pub follows_header : (s : StoreState) (kept : Kept) (round : Round) → wants_whole s ≡ true → MayFollowKept (kept_before s kept) round → MayFollowKept (kept_of_cubes (header_cubes kept)) round
+follows_header s kept round is follows = subst (λ (x : Bool). MayFollowKept (cond x (kept_of_cubes (header_cubes kept)) kept) round) is follows
 
 -- What a call on the first disk, or on the second, has to know of its own file.
 pub first_file : (P : List ℕ → List ℕ → Type 0) (a b : Option (List ℕ)) → (IsSome a ↔ IsSome b) → Told a b P → IfSome a (λ f. (g : List ℕ) × P f g)

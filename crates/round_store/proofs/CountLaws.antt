@@ -4,7 +4,7 @@ use Rattle.std.proofs.lemmas.List.{length-append, take_more, take_all}
 use Rattle.cube_language.specs.declared.decl.Decl.{Decl}
 use Rattle.cube_rounds.specs.declared.round.RoundCube.{RoundCube}
 use Rattle.cube_rounds.specs.Demands.{DimNames, names_with, no_names}
-use Rattle.store_reading.specs.Parts.{NamesFit, all_names_with}
+use Rattle.store_reading.specs.Parts.{HaveNameLists, all_names_with}
 use Rattle.round_store.specs.Counts.{counts_of, row_with, counts_with}
 
 row_is : (lists more : DimNames) → length lists ≡ length more → row_with (map length lists) more ≡ map length (names_with lists more)
@@ -23,14 +23,14 @@ length_none : {A : Type 0} (dims : List A) (lists : DimNames) → lists ≡ map 
 length_none [] lists e = ap length e
 length_none (dim ∷ dims) lists e = ap length e ∙ omega (arith, length_none dims (map (λ dim. []) dims) refl)
 
-pub counts_of_none : (made : List Decl) (parts : List RoundCube) → NamesFit (map no_names made) parts → counts_with [] parts ≡ counts_of (all_names_with (map no_names made) parts)
+pub counts_of_none : (made : List Decl) (parts : List RoundCube) → HaveNameLists (map no_names made) parts → counts_with [] parts ≡ counts_of (all_names_with (map no_names made) parts)
 counts_of_none [] [] fit = refl
 counts_of_none [] (part ∷ parts) fit = absurd fit
 counts_of_none (cube ∷ made) [] fit = absurd fit
 counts_of_none (cube ∷ made) (part ∷ parts) fit = λ i.
     row_of_none cube.dims part.names (omega (arith, fit.0, length_none cube.dims (no_names cube) refl)) i ∷ counts_of_none made parts fit.1 i
 
-pub counts_more : (names : List DimNames) (made : List Decl) (parts : List RoundCube) → NamesFit (names ++ map no_names made) parts
+pub counts_more : (names : List DimNames) (made : List Decl) (parts : List RoundCube) → HaveNameLists (names ++ map no_names made) parts
     → counts_with (counts_of names) parts ≡ counts_of (all_names_with (names ++ map no_names made) parts)
 counts_more [] made parts fit = counts_of_none made parts fit
 counts_more (lists ∷ names) made [] fit = absurd fit

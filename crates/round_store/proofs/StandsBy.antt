@@ -12,7 +12,7 @@ use Rattle.sha2.specs.Sha256.{sha256}
 use Rattle.store_reading.specs.declared.pair.StorePlace.{StorePlace}
 use Rattle.store_reading.specs.Pairs.{pair_content, StandsAt}
 use Rattle.gate_writes.specs.Gates.{EndsShut, EndsOpen, Appending}
-use Rattle.round_store.specs.States.{place_behind, Follows, IsEither}
+use Rattle.round_store.specs.States.{place_behind, MayFollowKept, IsEither}
 
 -- What stands before the gate at which a file ends.
 abbrev pub front_of : (kept : Kept) (place : StorePlace) (file other : List ℕ) → StandsAt sha256 (pair_content kept place) file other → List ℕ
@@ -45,7 +45,7 @@ still_current kept place file other s c shut = record {
   behind = s.behind;
 }
 
-pub current_with : (kept : Kept) (place : StorePlace) (file other : List ℕ) (s : StandsAt sha256 (pair_content kept place) file other) (round : Round) → Follows kept round → (bytes c : List ℕ)
+pub current_with : (kept : Kept) (place : StorePlace) (file other : List ℕ) (s : StandsAt sha256 (pair_content kept place) file other) (round : Round) → MayFollowKept kept round → (bytes c : List ℕ)
     → bytes ≡ round_bytes sha256 kept.cubes round ++ shut_gate ∷ [] → EndsOpen (front_of kept place file other s) bytes c
     → StandsAt sha256 (pair_content (kept_with kept round) (place_behind place (length bytes))) c other
 current_with kept place file other s round follows bytes c bytes-are opened =
@@ -93,7 +93,7 @@ pub is_current : (kept : Kept) (place : StorePlace) (file other : List ℕ) → 
 is_current kept place file other s = record { generation = place.generation; stands = s.stands; most = s.most; behind = s.behind }
 
 -- While a round is put behind the others, the file stands for what was kept or for what is to be kept.
-pub appending_stands : (kept : Kept) (place : StorePlace) (file other : List ℕ) (s : StandsAt sha256 (pair_content kept place) file other) (round : Round) → Follows kept round → (bytes : List ℕ)
+pub appending_stands : (kept : Kept) (place : StorePlace) (file other : List ℕ) (s : StandsAt sha256 (pair_content kept place) file other) (round : Round) → MayFollowKept kept round → (bytes : List ℕ)
     → bytes ≡ round_bytes sha256 kept.cubes round ++ shut_gate ∷ [] → (c : List ℕ) → Appending (front_of kept place file other s) bytes c → IsEither kept (kept_with kept round) other c
 appending_stands kept place file other s round follows bytes bytes-are c (inl shut) = inl (still_current kept place file other s c shut)
 appending_stands kept place file other s round follows bytes bytes-are c (inr opened) =

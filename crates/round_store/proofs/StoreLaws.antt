@@ -7,14 +7,14 @@ use Rattle.cube_language.specs.CubesText.{Declares}
 use Rattle.cube_rounds.specs.declared.round.Round.{Round}
 use Rattle.cube_rounds.specs.Demands.{DimNames, no_names}
 use Rattle.cube_rounds.specs.Stands.{Kept, kept_of_cubes, kept_with, kept_with_all}
-use Rattle.store_reading.specs.Parts.{NamesFit, all_names_with}
+use Rattle.store_reading.specs.Parts.{HaveNameLists, all_names_with}
 use Rattle.store_reading.proofs.Growing.{round_names_fit}
 use Rattle.round_store.specs.Counts.{counts_of, counts_with}
-use Rattle.round_store.specs.States.{StoreState, header_cubes, IsStoreOf, Follows}
+use Rattle.round_store.specs.States.{StoreState, header_cubes, IsStoreOf, MayFollowKept}
 use Rattle.round_store.proofs.CountLaws.{counts_of_none, counts_more}
 
 -- The state behind a round of the current file.
-pub store_with : (s new : StoreState) (kept : Kept) (round : Round) → IsStoreOf s kept → Follows kept round
+pub store_with : (s new : StoreState) (kept : Kept) (round : Round) → IsStoreOf s kept → MayFollowKept kept round
     → new.cubes ≡ s.cubes ++ round.made → new.counts ≡ counts_with s.counts round.cubes → new.declared ≡ s.declared → new.rounds ≡ s.rounds + 1
     → IsStoreOf new (kept_with kept round)
 store_with s new kept round is follows cubes counts declared rounds =
@@ -30,7 +30,7 @@ store_with s new kept round is follows cubes counts declared rounds =
     }
 
 -- The state behind a whole round.
-pub store_of_whole : (s new : StoreState) (kept : Kept) (round : Round) → IsStoreOf s kept → Follows (kept_of_cubes (header_cubes kept)) round
+pub store_of_whole : (s new : StoreState) (kept : Kept) (round : Round) → IsStoreOf s kept → MayFollowKept (kept_of_cubes (header_cubes kept)) round
     → new.cubes ≡ take s.declared s.cubes ++ round.made → new.counts ≡ counts_with [] round.cubes → new.declared ≡ s.declared → new.rounds ≡ 1
     → IsStoreOf new (kept_with (kept_of_cubes (header_cubes kept)) round)
 store_of_whole s new kept round is follows cubes counts declared rounds =
@@ -39,7 +39,7 @@ store_of_whole s new kept round is follows cubes counts declared rounds =
     let long : length head ≡ kept.declared = length-take-le kept.declared kept.cubes is.within in
     let same : take s.declared s.cubes ≡ head = (λ i. take (is.declared i) (is.cubes i)) in
     let header : take (length head) (head ++ round.made) ≡ head = take-append-le (length head) head round.made (omega arith) ∙ take_all (length head) head (omega arith) in
-    let fit : NamesFit (map no_names (head ++ round.made)) round.cubes = subst (λ (n : List DimNames). NamesFit n round.cubes) (sym (map-append no_names head round.made)) (round_names_fit begun round follows.fits) in
+    let fit : HaveNameLists (map no_names (head ++ round.made)) round.cubes = subst (λ (n : List DimNames). HaveNameLists n round.cubes) (sym (map-append no_names head round.made)) (round_names_fit begun round follows.fits) in
     record {
       cubes = cubes ∙ ap (λ (c : List Decl). c ++ round.made) same;
       declared = declared ∙ is.declared ∙ sym long;

@@ -13,8 +13,8 @@ use Rattle.outside_disk.specs.Views.{View, IsSynced, LeavesOnly}
 use Rattle.round_fields.proofs.DigestLaws.{both_true}
 use Rattle.sha2.specs.Sha256.{sha256}
 use Rattle.store_reading.specs.Pairs.{pair_content, StandsAt}
-use Rattle.round_store.specs.States.{StoreState, wants_whole, header_cubes, whole_place, IsStoreOf, AreFilesOf, Follows, IsBesideEither}
-use Rattle.round_store.specs.Wholes.{IsWhole}
+use Rattle.round_store.specs.States.{StoreState, wants_whole, header_cubes, whole_place, IsStoreOf, AreFilesOf, MayFollowKept, IsBesideEither}
+use Rattle.round_store.specs.Wholes.{IsWholeFile}
 use Rattle.round_store.proofs.AppendLaws.{still}
 use Rattle.round_store.proofs.StandsBy.{is_current}
 use Rattle.round_store.proofs.WholeStands.{header_cut, older_file, beside_closed, beside_same, whole_stands}
@@ -48,18 +48,18 @@ gate_in s kept None files = tt
 gate_in s kept (Some g) files = files.1.gate
 
 -- The file of the whole round, beside the one that was current.
-whole_file : (s : StoreState) (kept : Kept) (f g : List ℕ) (round : Round) (bytes : List ℕ) → IsStoreOf s kept → wants_whole s ≡ true → Follows (kept_of_cubes (header_cubes kept)) round
-    → IsWhole (s.place.generation + 1) (take s.declared s.cubes) round bytes → AreFilesOf s kept f g
+whole_file : (s : StoreState) (kept : Kept) (f g : List ℕ) (round : Round) (bytes : List ℕ) → IsStoreOf s kept → wants_whole s ≡ true → MayFollowKept (kept_of_cubes (header_cubes kept)) round
+    → IsWholeFile (s.place.generation + 1) (take s.declared s.cubes) round bytes → AreFilesOf s kept f g
     → StandsAt sha256 (pair_content (kept_with (kept_of_cubes (header_cubes kept)) round) (whole_place (not s.place.second) (s.place.generation + 1) bytes)) (open_gate ∷ bytes) f
 whole_file s kept f g round bytes is wants follows whole files =
-    let whole-here : IsWhole (s.place.generation + 1) (header_cubes kept) round bytes =
-    subst (λ (c : List Decl). IsWhole (s.place.generation + 1) c round bytes) (same_header s kept is) whole in
+    let whole-here : IsWholeFile (s.place.generation + 1) (header_cubes kept) round bytes =
+    subst (λ (c : List Decl). IsWholeFile (s.place.generation + 1) c round bytes) (same_header s kept is) whole in
     let small = next_fits s wants in
     whole_stands (not s.place.second) (s.place.generation + 1) (header_cubes kept) round bytes f is.declares (header_fits s kept is wants) (omega (arith, small)) follows whole-here
     (inr (older_file kept s.place f g files.stands))
 
-replacing_stands : (s : StoreState) (kept : Kept) (f g : List ℕ) (round : Round) (bytes : List ℕ) → IsStoreOf s kept → wants_whole s ≡ true → Follows (kept_of_cubes (header_cubes kept)) round
-    → IsWhole (s.place.generation + 1) (take s.declared s.cubes) round bytes → AreFilesOf s kept f g
+replacing_stands : (s : StoreState) (kept : Kept) (f g : List ℕ) (round : Round) (bytes : List ℕ) → IsStoreOf s kept → wants_whole s ≡ true → MayFollowKept (kept_of_cubes (header_cubes kept)) round
+    → IsWholeFile (s.place.generation + 1) (take s.declared s.cubes) round bytes → AreFilesOf s kept f g
     → (c : List ℕ) → Replacing g bytes c → IsBesideEither kept (kept_with (kept_of_cubes (header_cubes kept)) round) f c
 replacing_stands s kept f g round bytes is wants follows whole files c (inl same) = inl (beside_same kept s.place f g files.stands c same)
 replacing_stands s kept f g round bytes is wants follows whole files c (inr (inl closed)) = inl (beside_closed kept s.place f g files.stands c closed)
@@ -69,7 +69,7 @@ replacing_stands s kept f g round bytes is wants follows whole files c (inr (inr
     (is_current after (whole_place (not s.place.second) (s.place.generation + 1) bytes) (open_gate ∷ bytes) f (whole_file s kept f g round bytes is wants follows whole files)))
 
 pub replace_moves : (told : Option (List ℕ)) (old new : View) (s : StoreState) (kept : Kept) (f : List ℕ) (round : Round) (bytes : List ℕ) → IsStoreOf s kept → wants_whole s ≡ true
-    → Follows (kept_of_cubes (header_cubes kept)) round → IsWhole (s.place.generation + 1) (take s.declared s.cubes) round bytes
+    → MayFollowKept (kept_of_cubes (header_cubes kept)) round → IsWholeFile (s.place.generation + 1) (take s.declared s.cubes) round bytes
     → IfSome told (λ g. LeavesOnly old new (Replacing g bytes))
     → IfSome told (λ g. AreFilesOf s kept f g → LeavesOnly old new (IsBesideEither kept (kept_with (kept_of_cubes (header_cubes kept)) round) f))
 replace_moves None old new s kept f round bytes is wants follows whole moves = tt
@@ -88,7 +88,7 @@ current_gate s kept f g files =
     opened f _ (st.whole ∙ ap (λ (b : List ℕ). (b ++ rounds_bytes sha256 st.cubes st.rounds) ++ st.gate ∷ st.rest) (header_cut s.place.generation (cubes_text st.cubes)))
 
 replaced_now : (new : Option (List ℕ)) (s after : StoreState) (kept : Kept) (f g : List ℕ) (round : Round) (bytes : List ℕ) → IsStoreOf s kept → wants_whole s ≡ true
-    → Follows (kept_of_cubes (header_cubes kept)) round → IsWhole (s.place.generation + 1) (take s.declared s.cubes) round bytes → AreFilesOf s kept f g
+    → MayFollowKept (kept_of_cubes (header_cubes kept)) round → IsWholeFile (s.place.generation + 1) (take s.declared s.cubes) round bytes → AreFilesOf s kept f g
     → after.place ≡ whole_place (not s.place.second) (s.place.generation + 1) bytes → after.shut ≡ false → new ≡ Some (open_gate ∷ bytes)
     → IfSome new (λ c. AreFilesOf after (kept_with (kept_of_cubes (header_cubes kept)) round) c f)
 replaced_now new s after kept f g round bytes is wants follows whole files place shut told =
@@ -100,7 +100,7 @@ replaced_now new s after kept f g round bytes is wants follows whole files place
     })
 
 pub replace_added : (told new : Option (List ℕ)) (s after : StoreState) (kept : Kept) (f : List ℕ) (round : Round) (bytes : List ℕ) → IsStoreOf s kept → wants_whole s ≡ true
-    → Follows (kept_of_cubes (header_cubes kept)) round → IsWhole (s.place.generation + 1) (take s.declared s.cubes) round bytes
+    → MayFollowKept (kept_of_cubes (header_cubes kept)) round → IsWholeFile (s.place.generation + 1) (take s.declared s.cubes) round bytes
     → after.place ≡ whole_place (not s.place.second) (s.place.generation + 1) bytes → after.shut ≡ false → IfSome told (λ g. new ≡ Some (open_gate ∷ bytes))
     → IfSome told (λ g. AreFilesOf s kept f g → IfSome new (λ c. AreFilesOf after (kept_with (kept_of_cubes (header_cubes kept)) round) c f))
 replace_added None new s after kept f round bytes is wants follows whole place shut written = tt

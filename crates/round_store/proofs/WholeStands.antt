@@ -15,8 +15,8 @@ use Rattle.sha2.specs.Sha256.{sha256}
 use Rattle.store_reading.specs.declared.pair.StorePlace.{StorePlace}
 use Rattle.store_reading.specs.Pairs.{pair_content, StandsAt}
 use Rattle.store_reading.proofs.PairsRead.{stands_begin}
-use Rattle.round_store.specs.States.{whole_place, Follows}
-use Rattle.round_store.specs.Wholes.{IsWhole, IsBegun}
+use Rattle.round_store.specs.States.{whole_place, MayFollowKept}
+use Rattle.round_store.specs.Wholes.{IsWholeFile, IsBegun}
 
 -- A file that is behind another one is so for each later generation.
 pub older_file : (kept : Kept) (place : StorePlace) (file other : List ℕ) → StandsAt sha256 (pair_content kept place) file other → IsOlder sha256 (place.generation + 1) file
@@ -40,7 +40,7 @@ beside_same kept place file other s c same = record {
 }
 
 pub whole_stands : (second : Bool) (generation : ℕ) (cubes : List Decl) (round : Round) (bytes other : List ℕ) → Declares (cubes_text cubes) cubes → FitsHeader generation (cubes_text cubes)
-    → generation ≤ 2 ^ 61 → Follows (kept_of_cubes cubes) round → IsWhole generation cubes round bytes → (IsClosed other ⊎ IsOlder sha256 generation other)
+    → generation ≤ 2 ^ 61 → MayFollowKept (kept_of_cubes cubes) round → IsWholeFile generation cubes round bytes → (IsClosed other ⊎ IsOlder sha256 generation other)
     → StandsAt sha256 (pair_content (kept_with (kept_of_cubes cubes) round) (whole_place second generation bytes)) (open_gate ∷ bytes) other
 whole_stands second generation cubes round bytes other declares fits most follows whole behind =
     let head = header_bytes sha256 generation (cubes_text cubes) in
@@ -106,7 +106,7 @@ header_long generation text out is =
 -- The parts of a whole file, put one after the other.
 pub whole_put : (generation : ℕ) (cubes : List Decl) (round : Round) (text out written middle b0 b1 b2 b3 : List ℕ) → out ≡ header_bytes sha256 generation text ++ shut_gate ∷ [] → text ≡ cubes_text cubes
     → written ≡ round_bytes sha256 cubes round ++ shut_gate ∷ [] → middle ≡ take (length out - 2) (drop 1 out) → b0 ≡ [] → b1 ≡ b0 ++ middle → b2 ≡ b1 ++ open_gate ∷ [] → b3 ≡ b2 ++ written
-    → IsWhole generation cubes round b3
+    → IsWholeFile generation cubes round b3
 whole_put generation cubes round text out written middle b0 b1 b2 b3 is text-is round-is middle-is e0 e1 e2 e3 =
     let front : open_gate ∷ middle ≡ header_bytes sha256 generation (cubes_text cubes) =
     ap (λ (b : List ℕ). open_gate ∷ b) middle-is ∙ header_middle generation text out is ∙ ap (header_bytes sha256 generation) text-is in

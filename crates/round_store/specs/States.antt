@@ -75,7 +75,7 @@ abbrev pub StandForEither : Kept → Kept → List ℕ → List ℕ → Type 0
 StandForEither before after first second = Stands sha256 before first second ⊎ Stands sha256 after first second
 
 -- A round that may stand behind what is kept.
-pub record Follows (kept : Kept) (round : Round) : Type 0 where
+pub record MayFollowKept (kept : Kept) (round : Round) : Type 0 where
   pub from : round.from ≡ kept.epoch
   pub fits : FitsRound kept.cubes kept.names round
 

@@ -9,7 +9,7 @@ use Rattle.cube_rounds.specs.Headers.{open_gate, shut_gate, header_bytes}
 use Rattle.sha2.specs.Sha256.{sha256}
 
 -- What a whole file has behind its first gate: a header, an open gate, a round and a gate that is shut.
-pub record IsWhole (generation : ℕ) (cubes : List Decl) (round : Round) (bytes : List ℕ) : Type 0 where
+pub record IsWholeFile (generation : ℕ) (cubes : List Decl) (round : Round) (bytes : List ℕ) : Type 0 where
   pub are : open_gate ∷ bytes
       ≡ header_bytes sha256 generation (cubes_text cubes)
       ++ open_gate ∷ (round_bytes sha256 cubes round ++ shut_gate ∷ [])

@@ -7,7 +7,7 @@ ghost use Rattle.cube_values.specs.Faults.{IfFault};
 ghost use Rattle.outside.specs.Counts.{Rose};
 ghost use Rattle.outside_disk.specs.Views.{IsSynced, LeavesOnly};
 ghost use Rattle.sha2.specs.Sha256.{sha256};
-ghost use Rattle.round_store.specs.States.{IsStoreOf, AreFilesOf, Follows, IsEither};
+ghost use Rattle.round_store.specs.States.{IsStoreOf, AreFilesOf, MayFollowKept, IsEither};
 
 use crate::store::Store;
 use cube_rounds::Round;
@@ -23,19 +23,19 @@ impl Store {
         round: &Round,
     ) -> Result<(), CallError<Failed>>
         requires synced { IsSynced (D.view current.old) }
-        requires follows { (kept : Kept) × IsStoreOf self.old kept × Follows kept round.now
+        requires follows { (kept : Kept) × IsStoreOf self.old kept × MayFollowKept kept round.now
             × IfSome (D.view current.old).told (λ f. (g : List ℕ) × AreFilesOf self.old kept f g) }
         ensures any_moment { (kept : Kept) (g : List ℕ) → IsStoreOf self.old kept
-            → Follows kept round.now
+            → MayFollowKept kept round.now
             → IfSome (D.view current.old).told (λ f. AreFilesOf self.old kept f g
             → LeavesOnly (D.view current.old) (D.view current.new)
             (IsEither kept (kept_with kept round.now) g)) }
         ensures added { (kept : Kept) (g : List ℕ) → IsStoreOf self.old kept
-            → Follows kept round.now
+            → MayFollowKept kept round.now
             → IfSome (D.view current.old).told (λ f. AreFilesOf self.old kept f g
             → OnOk result (IfSome (D.view current.new).told (λ c.
             AreFilesOf self.new (kept_with kept round.now) c g))) }
-        ensures store { (kept : Kept) → IsStoreOf self.old kept → Follows kept round.now
+        ensures store { (kept : Kept) → IsStoreOf self.old kept → MayFollowKept kept round.now
             → OnOk result (IsStoreOf self.new (kept_with kept round.now)) }
         ensures place { self.new.place.second ≡ self.old.place.second }
         ensures synced { OnOk result (IsSynced (D.view current.new)) }

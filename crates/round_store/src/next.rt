@@ -7,8 +7,8 @@ ghost use Rattle.cube_rounds.specs.Bytes.{round_bytes};
 ghost use Rattle.cube_rounds.specs.Headers.{shut_gate};
 ghost use Rattle.cube_rounds.specs.Stands.{Kept, kept_of_cubes};
 ghost use Rattle.round_store.specs.Counts.{data_with};
-ghost use Rattle.round_store.specs.States.{wants_whole, header_cubes, place_behind, whole_place, IsStoreOf, Follows};
-ghost use Rattle.round_store.specs.Wholes.{IsWhole};
+ghost use Rattle.round_store.specs.States.{wants_whole, header_cubes, place_behind, whole_place, IsStoreOf, MayFollowKept};
+ghost use Rattle.round_store.specs.Wholes.{IsWholeFile};
 ghost use Rattle.sha2.specs.Sha256.{sha256};
 
 use crate::data::StoreData;
@@ -50,8 +50,8 @@ fn whole_bytes(
     requires small { generation ≤ 2 ^ 62 }
     requires declared { Declares (cubes_text cubes.now) cubes.now }
     requires long { length (cubes_text cubes.now) < 2 ^ 32 }
-    requires follows { Follows (kept_of_cubes cubes.now) round.now }
-    ensures { IfOk result (λ bytes. IsWhole generation cubes.now round.now bytes.items) }
+    requires follows { MayFollowKept (kept_of_cubes cubes.now) round.now }
+    ensures { IfOk result (λ bytes. IsWholeFile generation cubes.now round.now bytes.items) }
 {
     let text = print_cubes(alloc, cubes)?;
     let header = write_header(alloc, generation, text.as_slice())?;
@@ -66,7 +66,7 @@ fn whole_bytes(
 impl Store {
     /// A round behind those of the current file.
     pub(crate) fn next_behind(&self, round: &Round) -> Result<NextRound, AllocError>
-        requires { (kept : Kept) × IsStoreOf self.now kept × Follows kept round.now }
+        requires { (kept : Kept) × IsStoreOf self.now kept × MayFollowKept kept round.now }
         ensures bytes { IfOk result (λ n. n.bytes.items
             ≡ round_bytes sha256 self.now.cubes round.now ++ shut_gate ∷ []) }
         ensures data { IfOk result (λ n.
@@ -101,8 +101,8 @@ impl Store {
     pub(crate) fn next_whole(&self, round: &Round) -> Result<NextRound, AllocError>
         requires wants { wants_whole self.now ≡ true }
         requires follows { (kept : Kept) × IsStoreOf self.now kept
-            × Follows (kept_of_cubes (header_cubes kept)) round.now }
-        ensures bytes { IfOk result (λ n. IsWhole (self.now.place.generation + 1)
+            × MayFollowKept (kept_of_cubes (header_cubes kept)) round.now }
+        ensures bytes { IfOk result (λ n. IsWholeFile (self.now.place.generation + 1)
             (take self.now.declared self.now.cubes) round.now n.bytes.items) }
         ensures data { IfOk result (λ n.
             n.data ≡ data_with (take self.now.declared self.now.cubes) [] round.now) }

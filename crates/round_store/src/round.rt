@@ -6,7 +6,7 @@ ghost use Rattle.cube_values.specs.Faults.{IfFault};
 ghost use Rattle.cube_rounds.specs.Stands.{Kept};
 ghost use Rattle.outside.specs.Counts.{Rose};
 ghost use Rattle.outside_disk.specs.Views.{LeavesOnly};
-ghost use Rattle.round_store.specs.States.{IsAt, WhereTold, Follows, kept_before, kept_after, StandForEither, goes_second};
+ghost use Rattle.round_store.specs.States.{IsAt, WhereTold, MayFollowKept, kept_before, kept_after, StandForEither, goes_second};
 
 use crate::store::Store;
 use cube_rounds::Round;
@@ -28,21 +28,23 @@ impl Store {
         round: &Round,
     ) -> Result<(), CallError<Failed>>
         requires { (kept : Kept) × IsAt self.old kept (D.view disk.old) (D.view other.old)
-            × Follows (kept_before self.old kept) round.now }
+            × MayFollowKept (kept_before self.old kept) round.now }
         ensures first_still { goes_second self.old ≡ true → disk.new ≡ disk.old }
         ensures second_still { goes_second self.old ≡ false → other.new ≡ other.old }
-        ensures first_moves { (kept : Kept) → IsAt self.old kept (D.view disk.old) (D.view other.old)
-            → Follows (kept_before self.old kept) round.now
+        ensures first_moves { (kept : Kept) → IsAt self.old kept (D.view disk.old)
+            (D.view other.old)
+            → MayFollowKept (kept_before self.old kept) round.now
             → WhereTold (D.view disk.old) (D.view other.old) (λ f g.
             LeavesOnly (D.view disk.old) (D.view disk.new) (λ c.
             StandForEither kept (kept_after self.old kept round.now) c g)) }
-        ensures second_moves { (kept : Kept) → IsAt self.old kept (D.view disk.old) (D.view other.old)
-            → Follows (kept_before self.old kept) round.now
+        ensures second_moves { (kept : Kept) → IsAt self.old kept (D.view disk.old)
+            (D.view other.old)
+            → MayFollowKept (kept_before self.old kept) round.now
             → WhereTold (D.view disk.old) (D.view other.old) (λ f g.
             LeavesOnly (D.view other.old) (D.view other.new) (λ d.
             StandForEither kept (kept_after self.old kept round.now) f d)) }
         ensures added { (kept : Kept) → IsAt self.old kept (D.view disk.old) (D.view other.old)
-            → Follows (kept_before self.old kept) round.now
+            → MayFollowKept (kept_before self.old kept) round.now
             → OnOk result (IsAt self.new (kept_after self.old kept round.now)
             (D.view disk.new) (D.view other.new)) }
         ensures memory { IsErrOf result NoMemory → (self.new ≡ self.old)

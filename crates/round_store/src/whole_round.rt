@@ -6,7 +6,7 @@ ghost use Rattle.cube_values.specs.declared.call_error.CallError.TheVariants.{No
 ghost use Rattle.cube_values.specs.Faults.{IfFault};
 ghost use Rattle.outside.specs.Counts.{Rose};
 ghost use Rattle.outside_disk.specs.Views.{IsSynced, LeavesOnly};
-ghost use Rattle.round_store.specs.States.{wants_whole, header_cubes, IsStoreOf, AreFilesOf, Follows, IsBesideEither};
+ghost use Rattle.round_store.specs.States.{wants_whole, header_cubes, IsStoreOf, AreFilesOf, MayFollowKept, IsBesideEither};
 
 use crate::store::Store;
 use cube_rounds::Round;
@@ -24,20 +24,20 @@ impl Store {
         requires synced { IsSynced (D.view target.old) }
         requires wants { wants_whole self.old ≡ true }
         requires follows { (kept : Kept) × IsStoreOf self.old kept
-            × Follows (kept_of_cubes (header_cubes kept)) round.now
+            × MayFollowKept (kept_of_cubes (header_cubes kept)) round.now
             × IfSome (D.view target.old).told (λ g. (f : List ℕ) × AreFilesOf self.old kept f g) }
         ensures any_moment { (kept : Kept) (f : List ℕ) → IsStoreOf self.old kept
-            → Follows (kept_of_cubes (header_cubes kept)) round.now
+            → MayFollowKept (kept_of_cubes (header_cubes kept)) round.now
             → IfSome (D.view target.old).told (λ g. AreFilesOf self.old kept f g
             → LeavesOnly (D.view target.old) (D.view target.new) (IsBesideEither kept
             (kept_with (kept_of_cubes (header_cubes kept)) round.now) f)) }
         ensures added { (kept : Kept) (f : List ℕ) → IsStoreOf self.old kept
-            → Follows (kept_of_cubes (header_cubes kept)) round.now
+            → MayFollowKept (kept_of_cubes (header_cubes kept)) round.now
             → IfSome (D.view target.old).told (λ g. AreFilesOf self.old kept f g
             → OnOk result (IfSome (D.view target.new).told (λ c. AreFilesOf self.new
             (kept_with (kept_of_cubes (header_cubes kept)) round.now) c f))) }
         ensures store { (kept : Kept) → IsStoreOf self.old kept
-            → Follows (kept_of_cubes (header_cubes kept)) round.now
+            → MayFollowKept (kept_of_cubes (header_cubes kept)) round.now
             → OnOk result (IsStoreOf self.new
             (kept_with (kept_of_cubes (header_cubes kept)) round.now)) }
         ensures place { OnOk result (self.new.place.second ≡ not self.old.place.second) }

@@ -37,7 +37,7 @@ use Rattle.session_rows.specs.CubesAtDesk.{AreItsNames, ExecutesOnRows, IsAtCube
 use Rattle.session_rows.specs.RowsBehind.{world_of}
 use Rattle.session_rows.specs.RowsExecuted.{HasChange, IsChangedAndKept, IsNewChange, OfEachCube}
 use Rattle.session_rows.specs.declared.cubes.Cubes.{Cubes}
-use Rattle.row_entries.specs.EntryGroups.{LeavesCommit, LeavesNothing, commit_entries}
+use Rattle.row_entries.specs.EntryGroups.{LeavesCommit, LeavesNoEntry, commit_entries}
 use Rattle.row_entries.specs.LeftEntries.{step_on_rows}
 use Rattle.row_entries.proofs.Executing.{changes_alone_on_rows, changes_inside_on_rows}
 use Rattle.row_changes.specs.DropForms.{IsDropSpanAt}
@@ -167,7 +167,7 @@ pub delete_inside_executes : (s : Statement) (writer : Snapshot) (desk : DeskSta
     → IsAtCubes new_desk now cubes → IsDropSpanAt cubes s place span
     → NamesOnlyCome (names_of before.names) (names_of cubes.names)
     → OfEachCube (λ q. HasChange q (record { cube = place; change = Go span })) before.rows cubes.rows
-    → LeavesNothing writer (Says s) desk session new_desk now
+    → LeavesNoEntry writer (Says s) desk session new_desk now
     → ExecutesOnRows (Says s) desk session before new_desk now cubes (reply.Dropped writer.epoch)
 delete_inside_executes s writer desk session new_desk now before cubes place span form at e come held left =
     λ beginning past coded h.

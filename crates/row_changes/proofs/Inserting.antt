@@ -47,7 +47,7 @@ use Rattle.session_rows.specs.RowsBehind.{world_of}
 use Rattle.session_rows.specs.RowsExecuted.{HasChange, IsChangedAndKept, IsNewChange, OfEachCube, StaysHeld}
 use Rattle.session_rows.specs.declared.cubes.Cubes.{Cubes}
 use Rattle.session_rows.proofs.NamesCome.{suiting_numbers, suits_some}
-use Rattle.row_entries.specs.EntryGroups.{LeavesCommit, LeavesNothing, LeavesRefusal, commit_entries, refusal_entries}
+use Rattle.row_entries.specs.EntryGroups.{LeavesCommit, LeavesNoEntry, LeavesRefusal, commit_entries, refusal_entries}
 use Rattle.row_entries.specs.LeftEntries.{step_on_rows}
 use Rattle.row_entries.proofs.Executing.{changes_alone_on_rows, changes_inside_on_rows, refused_on_rows}
 use Rattle.row_changes.specs.AnswersGiven.{InsertsRows}
@@ -238,7 +238,7 @@ pub insert_inside_executes : (s : Statement) (writer : Snapshot) (desk : DeskSta
     → IsAtCubes new_desk now cubes → AreEncodedAt cubes s place (Rows batch)
     → NamesOnlyCome (names_of before.names) (names_of cubes.names)
     → OfEachCube (λ q. HasChange q (record { cube = place; change = Come batch.rows })) before.rows cubes.rows
-    → LeavesNothing writer (Says s) desk session new_desk now
+    → LeavesNoEntry writer (Says s) desk session new_desk now
     → ExecutesOnRows (Says s) desk session before new_desk now cubes
     (reply.Stored (length form.rows) writer.epoch)
 insert_inside_executes s writer desk session new_desk now before cubes place batch form at e come held left =

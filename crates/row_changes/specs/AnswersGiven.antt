@@ -40,6 +40,6 @@ abbrev pub SpeaksOfItsCube : Reply → Type 0
 SpeaksOfItsCube (reply.Refused (refusal.UnknownCube name)) = ⊥
 SpeaksOfItsCube said = Unit {0}
 
--- No name came to the dictionaries of cubes, or the reply says so of no cube.
+-- Dictionaries gain names only where the reply is not that there is no such cube.
 abbrev pub KnowsItsCube : Cubes → Cubes → Reply → Type 0
 KnowsItsCube old new said = (new.names ≡ old.names) ⊎ SpeaksOfItsCube said

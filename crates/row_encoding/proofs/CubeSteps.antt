@@ -16,7 +16,7 @@ use Rattle.cube_schema.specs.Schemas.{cube_of}
 use Rattle.names_dict.specs.declared.code.Code.{Code}
 use Rattle.names_dict.specs.Dictionaries.{Dictionary, IsCodeFor, IsEncoded, IsTextDimension, dictionaries_of, dictionary_at, dictionary_in, empty_dictionaries, encoded_dictionaries, made_dictionaries, with_code}
 use Rattle.condition_spans.specs.Codes.{lists_at, texts_at}
-use Rattle.row_encoding.specs.FinalCodes.{Grow, InTheEnd, IsFinalNumber, IsTextOf, code_number, dim_at}
+use Rattle.row_encoding.specs.FinalCodes.{Grow, InTheEnd, IsFinalNumber, IsDimText, code_number, dim_at}
 use Rattle.row_encoding.specs.DictsAsEncoder.{HasName, IsDictionaryOf, MayBecome, MayEndWith, Suit}
 use Rattle.row_encoding.proofs.DictSteps.{Outcome, apart_still, became_before, few_still, final_number, inside, one_more_name, outcome, short_still}
 
@@ -206,7 +206,7 @@ module _ (d : Decl) (place dim : ℕ) (name : List ℕ) (code : Code) (cubes new
   ]
 
   names_here : (k : ℕ) (text : List ℕ) → Contains (dictionary_at new place k).names text
-      → Contains (dictionary_at cubes place k).names text ⊎ ((place ≡ place) × IsTextOf dim name k text)
+      → Contains (dictionary_at cubes place k).names text ⊎ ((place ≡ place) × IsDimText dim name k text)
   names_here k text h = elim (cases_eq k dim) [
     | inl same ↦ elim (one_more_name (dictionary_in made dim) name code text (subst (λ (D : Dictionary). Contains D.names text) (ap (dictionary_at new place) same ∙ at_dim) h)) [
       | inl old ↦ inl (s.names k text (subst (λ (j : ℕ). Contains (dictionary_in made j).names text) (sym same) old))
@@ -215,9 +215,9 @@ module _ (d : Decl) (place dim : ℕ) (name : List ℕ) (code : Code) (cubes new
     | inr other ↦ inl (s.names k text (subst (λ (D : Dictionary). Contains D.names text) (at_other k other) h))
   ]
 
-  names_still : (p k : ℕ) (text : List ℕ) → HasName new p k text → HasName cubes p k text ⊎ ((p ≡ place) × IsTextOf dim name k text)
+  names_still : (p k : ℕ) (text : List ℕ) → HasName new p k text → HasName cubes p k text ⊎ ((p ≡ place) × IsDimText dim name k text)
   names_still p k text h = elim (cases_eq p place) [
-    | inl same ↦ subst (λ (q : ℕ). HasName new q k text → HasName cubes q k text ⊎ ((q ≡ place) × IsTextOf dim name k text)) (sym same) (names_here k text) h
+    | inl same ↦ subst (λ (q : ℕ). HasName new q k text → HasName cubes q k text ⊎ ((q ≡ place) × IsDimText dim name k text)) (sym same) (names_here k text) h
     | inr other ↦ inl (subst (λ (ds : List Dictionary). Contains (dictionary_in ds k).names text) (s.apart p other) h)
   ]
 
@@ -233,7 +233,7 @@ module _ (d : Decl) (place dim : ℕ) (name : List ℕ) (code : Code) (cubes new
         short = short_still (dictionary_in made dim) name code s.short its_dim.short;
       })))
 
-  grow : Grow MayEndWith Suit HasName place d (IsTextOf dim name) cubes new
+  grow : Grow MayEndWith Suit HasName place d (IsDimText dim name) cubes new
   grow = record {
     later = later;
     here = suits_still;
@@ -273,9 +273,9 @@ module _ (d : Decl) (shape : CubeShape) (place dim : ℕ) (name : List ℕ) (cub
   encoded_inside (Err e) code_is new_is = tt
 
   pub encoded_grow : {E : Type 0} (r : Result Code E) → IfOk r (IsCodeFor shape cubes place dim name) → IfOk r (IsEncoded shape place dim name cubes new)
-      → OnErr r (new ≡ cubes) → Grow MayEndWith Suit HasName place d (IsTextOf dim name) cubes new
+      → OnErr r (new ≡ cubes) → Grow MayEndWith Suit HasName place d (IsDimText dim name) cubes new
   encoded_grow (Ok code) code_is new_is err =
       grow d place dim name code cubes new (made_dictionaries (cube_of d) (dictionaries_of cubes place)) (stepped code code_is new_is)
   encoded_grow (Err e) code_is new_is err =
-      subst (λ (c : List (List Dictionary)). Grow MayEndWith Suit HasName place d (IsTextOf dim name) cubes c) (sym err)
+      subst (λ (c : List (List Dictionary)). Grow MayEndWith Suit HasName place d (IsDimText dim name) cubes c) (sym err)
       (record { later = λ names h. h; here = suits; elsewhere = λ p other n h. h; names = λ p k text h. inl h })

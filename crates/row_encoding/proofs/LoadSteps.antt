@@ -23,7 +23,7 @@ use Rattle.row_encoding.specs.FinalCodes.{Grow, InTheEnd}
 use Rattle.row_encoding.specs.CodedValues.{HaveNames, NumbersHaveNoNames}
 use Rattle.row_encoding.specs.CodedInserts.{HasCoords}
 use Rattle.row_encoding.specs.CodedRecords.{IsCodedRecord, ReadRow, RecordHasText}
-use Rattle.row_encoding.specs.CodedLoads.{GoesOn, HaveTextAmong, HaveTextLookedAt, HaveTextNext, IsFoundRecord, TakesBatch, Tell, final_record, final_records, record_result, records_between, rejections_from}
+use Rattle.row_encoding.specs.CodedLoads.{LoadGoesOn, HaveTextAmong, HaveTextLookedAt, HaveTextNext, IsFoundRecord, TakesBatch, Tell, final_record, final_records, record_result, records_between, rejections_from}
 use Rattle.row_encoding.proofs.Growing.{grow_none, grow_more, grow_wider}
 use Rattle.row_encoding.proofs.LookedTexts.{among_looked_at, next_looked_at}
 
@@ -32,10 +32,10 @@ use Rattle.row_encoding.proofs.LookedTexts.{among_looked_at, next_looked_at}
 pub none_between : (load : LoadState) → records_between load load ≡ []
 none_between load = let none : load.number - load.number ≡ 0 = omega arith in ap (λ n. take n load.left) none
 
-pub goes_nowhere : (load : LoadState) → GoesOn load load
+pub goes_nowhere : (load : LoadState) → LoadGoesOn load load
 goes_nowhere load = record { cube = refl; count = let l = ap length (none_between load) in omega (arith, l); left = ap (λ (xs : List RecordFields). xs ++ load.left) (sym (none_between load)) }
 
-pub one_between : (start mid new : LoadState) → GoesOn start mid → TakesRecord mid new → records_between start new ≡ records_between start mid ++ new.fields ∷ []
+pub one_between : (start mid new : LoadState) → LoadGoesOn start mid → TakesRecord mid new → records_between start new ≡ records_between start mid ++ new.fields ∷ []
 one_between start mid new goes takes =
     let front = records_between start mid in
     let whole : start.left ≡ (front ++ new.fields ∷ []) ++ new.left =
@@ -44,7 +44,7 @@ one_between start mid new goes takes =
     ap (take (new.number - start.number)) whole
     ∙ take_at (front ++ new.fields ∷ []) new.left (new.number - start.number) (let c = goes.count in let m = takes.count in omega (arith, l, c, m))
 
-pub goes_one_more : (start mid new : LoadState) → GoesOn start mid → TakesRecord mid new → GoesOn start new
+pub goes_one_more : (start mid new : LoadState) → LoadGoesOn start mid → TakesRecord mid new → LoadGoesOn start new
 goes_one_more start mid new goes takes =
     let front = records_between start mid in
     let more = one_between start mid new goes takes in
@@ -58,7 +58,7 @@ goes_one_more start mid new goes takes =
 pub same_between : (start mid new : LoadState) → IsOver mid new → records_between start new ≡ records_between start mid
 same_between start mid new over = ap (λ n. take (n - start.number) start.left) over.count
 
-pub goes_over : (start mid new : LoadState) → GoesOn start mid → IsOver mid new → GoesOn start new
+pub goes_over : (start mid new : LoadState) → LoadGoesOn start mid → IsOver mid new → LoadGoesOn start new
 goes_over start mid new goes over =
     let same = same_between start mid new over in
     record {
@@ -126,7 +126,7 @@ text_among d old new takes read k text h =
     let is : records_between old new ≡ new.fields ∷ [] = one_between old old new (goes_nowhere old) takes ∙ ap (λ (xs : List RecordFields). xs ++ new.fields ∷ []) (none_between old) in
     record { fields = new.fields; one = subst (λ (xs : List RecordFields). Contains xs new.fields) (sym is) (Contains-push [] new.fields); row = read.row.fits; here = h }
 
-pub among_before : (d : Decl) (start mid new : LoadState) → GoesOn start mid → TakesRecord mid new → (k : ℕ) (text : List ℕ) → HaveTextAmong d start mid k text → HaveTextAmong d start new k text
+pub among_before : (d : Decl) (start mid new : LoadState) → LoadGoesOn start mid → TakesRecord mid new → (k : ℕ) (text : List ℕ) → HaveTextAmong d start mid k text → HaveTextAmong d start new k text
 among_before d start mid new goes takes k text h = record {
   fields = h.fields;
   one = subst (λ (xs : List RecordFields). Contains xs h.fields) (sym (one_between start mid new goes takes)) (Contains-append_left (records_between start mid) (new.fields ∷ []) h.fields h.one);
@@ -134,7 +134,7 @@ among_before d start mid new goes takes k text h = record {
   here = h.here;
 }
 
-pub among_last : (d : Decl) (start mid new : LoadState) → GoesOn start mid → TakesRecord mid new → (k : ℕ) (text : List ℕ) → HaveTextAmong d mid new k text → HaveTextAmong d start new k text
+pub among_last : (d : Decl) (start mid new : LoadState) → LoadGoesOn start mid → TakesRecord mid new → (k : ℕ) (text : List ℕ) → HaveTextAmong d mid new k text → HaveTextAmong d start new k text
 among_last d start mid new goes takes k text h =
     let is : records_between mid new ≡ new.fields ∷ [] = one_between mid mid new (goes_nowhere mid) takes ∙ ap (λ (xs : List RecordFields). xs ++ new.fields ∷ []) (none_between mid) in
     record {
@@ -167,7 +167,7 @@ looked_last : (m : ℕ) (all front rest : List (Result Row BadRow)) (r : Result 
 looked_last m all front rest r why is none h =
     h ∙ (λ i. front ++ records_looked_at (none i) (is i ∷ rest)) ∙ ap (λ (x : Result Row BadRow). front ++ x ∷ []) (sym is) ∙ sym (append-nil (front ++ r ∷ []))
 
-module _ (d : Decl) (lists : List (List (List ℕ))) (allowed : ℕ) (start mid new : LoadState) (before : BadRecords) (goes : GoesOn start mid) (takes : TakesRecord mid new) where
+module _ (d : Decl) (lists : List (List (List ℕ))) (allowed : ℕ) (start mid new : LoadState) (before : BadRecords) (goes : LoadGoesOn start mid) (takes : TakesRecord mid new) where
   front : List (Result Row BadRow)
   front = final_records d lists (records_between start mid)
 
@@ -281,7 +281,7 @@ batch_none d lists allowed start bad = record {
 -- a load that began at `start` goes on in a batch that was `empty`
 pub record IsLoadedFront {S : Type 0} (may_end : S → List (List (List (List ℕ))) → Type 0) (suits : S → ℕ → Decl → Type 0) (has_name : S → ℕ → ℕ → List ℕ → Type 0)
     (place : ℕ) (d : Decl) (allowed : ℕ) (start : LoadState) (before : BadRecords) (empty : Batch) (old now : S) (load : LoadState) (bad : BadRecords) (batch : Batch) : Type 0 where
-  pub goes : GoesOn start load
+  pub goes : LoadGoesOn start load
   pub only : batch ≡ record empty { rows = batch.rows }
   pub most : length batch.rows ≤ BATCH_ROWS
   pub inside : All (HasCoords d) batch.rows
@@ -308,7 +308,7 @@ module _ {S : Type 0} (may_end : S → List (List (List (List ℕ))) → Type 0)
         grow = grow_none suit;
       }
 
-  pub grown_by_record : (old mid now : S) (load next : LoadState) → GoesOn start load → TakesRecord load next
+  pub grown_by_record : (old mid now : S) (load next : LoadState) → LoadGoesOn start load → TakesRecord load next
       → Grow may_end suits has_name place d (HaveTextAmong d start load) old mid → Grow may_end suits has_name place d (HaveTextAmong d load next) mid now
       → Grow may_end suits has_name place d (HaveTextAmong d start next) old now
   grown_by_record old mid now load next goes takes first grow =

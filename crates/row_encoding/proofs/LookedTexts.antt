@@ -13,7 +13,7 @@ use Rattle.row_encoding.specs.declared.load.BadRecords.{BadRecords}
 use Rattle.row_encoding.specs.declared.load.BatchEnd.{BatchEnd}
 use Rattle.row_encoding.specs.declared.load.BatchEnd.TheVariants as batch_is
 use Rattle.row_encoding.specs.FinalCodes.{InTheEnd}
-use Rattle.row_encoding.specs.CodedLoads.{GoesOn, HaveTextAmong, HaveTextLookedAt, HaveTextNext, TakesBatch, final_record, final_records, looked_at_later, records_between}
+use Rattle.row_encoding.specs.CodedLoads.{LoadGoesOn, HaveTextAmong, HaveTextLookedAt, HaveTextNext, TakesBatch, final_record, final_records, looked_at_later, records_between}
 
 -- ---- where an element stands
 
@@ -72,7 +72,7 @@ module _ (may_end : List (List (List (List ℕ))) → Type 0) (place : ℕ) (d :
       let both = length-append front (fields ∷ rest) in
       omega (arith, whole, parts, count, split, both)
 
-  pub among_looked_at : (ended : BatchEnd) → GoesOn start mid
+  pub among_looked_at : (ended : BatchEnd) → LoadGoesOn start mid
       → InTheEnd may_end place (λ lists. TakesBatch d lists allowed start mid before bad coded ended)
       → (k : ℕ) (text : List ℕ) → HaveTextAmong d start mid k text
       → HaveTextLookedAt may_end place d (allowed - before.count) start k text
@@ -100,7 +100,7 @@ module _ (may_end : List (List (List (List ℕ))) → Type 0) (place : ℕ) (d :
       omega (arith, whole, parts, count, l)
 
   -- What is looked at behind a batch is looked at from its beginning on.
-  pub looked_at_behind : GoesOn start mid
+  pub looked_at_behind : LoadGoesOn start mid
       → InTheEnd may_end place (λ lists. TakesBatch d lists allowed start mid before bad coded batch_is.Full)
       → (k : ℕ) (text : List ℕ) → HaveTextLookedAt may_end place d (allowed - bad.count) mid k text
       → HaveTextLookedAt may_end place d (allowed - before.count) start k text
@@ -120,7 +120,7 @@ module _ (may_end : List (List (List (List ℕ))) → Type 0) (place : ℕ) (d :
             omega (arith, l, both);
       }
 
-  pub next_looked_at : GoesOn start mid
+  pub next_looked_at : LoadGoesOn start mid
       → InTheEnd may_end place (λ lists. TakesBatch d lists allowed start mid before bad coded batch_is.Full)
       → (k : ℕ) (text : List ℕ) → HaveTextNext d mid k text
       → HaveTextLookedAt may_end place d (allowed - before.count) start k text

@@ -68,7 +68,7 @@ abbrev pub records_between : LoadState → LoadState → List RecordFields
 records_between old new = take (new.number - old.number) old.left
 
 -- From one state to another a load took the records before those that it has left, and counted them.
-pub record GoesOn (old new : LoadState) : Type 0 where
+pub record LoadGoesOn (old new : LoadState) : Type 0 where
   pub cube : new.decl ≡ old.decl
   pub count : new.number ≡ old.number + length (records_between old new)
   pub left : old.left ≡ records_between old new ++ new.left
@@ -98,10 +98,10 @@ pub record TakesBatch (d : Decl) (lists : List (List (List ℕ))) (allowed : ℕ
 
 -- A batch ended so: it has all rows that it may have, or no record is left, or one bad record more than are allowed
 -- was found.
-abbrev pub HasEnded : ℕ → LoadState → BadRecords → List CodedRow → BatchEnd → Type 0
-HasEnded allowed load bad rows batch_is.Full = (length rows ≡ BATCH_ROWS) × (bad.count ≤ allowed)
-HasEnded allowed load bad rows batch_is.End = (load.left ≡ []) × (bad.count ≤ allowed)
-HasEnded allowed load bad rows batch_is.TooMany = bad.count ≡ allowed + 1
+abbrev pub BatchHasEnded : ℕ → LoadState → BadRecords → List CodedRow → BatchEnd → Type 0
+BatchHasEnded allowed load bad rows batch_is.Full = (length rows ≡ BATCH_ROWS) × (bad.count ≤ allowed)
+BatchHasEnded allowed load bad rows batch_is.End = (load.left ≡ []) × (bad.count ≤ allowed)
+BatchHasEnded allowed load bad rows batch_is.TooMany = bad.count ≡ allowed + 1
 
 -- The next record of a load is a row that has this text in this dimension.
 pub record HaveTextNext (d : Decl) (load : LoadState) (dim : ℕ) (text : List ℕ) : Type 0 where

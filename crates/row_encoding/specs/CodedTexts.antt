@@ -10,7 +10,7 @@ use Rattle.cube_language.specs.declared.bad_row.TheConstants.{TEXT_BYTES}
 use Rattle.cube_language.specs.declared.decl.DimDecl.{DimDecl}
 use Rattle.condition_spans.specs.CodedConditions.{values_of_test}
 use Rattle.condition_spans.specs.Codes.{texts_at}
-use Rattle.row_encoding.specs.FinalCodes.{dim_at, IsTextOf}
+use Rattle.row_encoding.specs.FinalCodes.{dim_at, IsDimText}
 use Rattle.row_encoding.specs.CodedValues.{IsTextValue}
 
 -- Texts are among values only where the dimension has texts.
@@ -54,7 +54,7 @@ HasPlaceIfShort dim names text = length text ≤ TEXT_BYTES → HasPlace dim nam
 
 -- It is this text of a dimension, and not too long.
 abbrev pub ShortTextOf : ℕ → List ℕ → ℕ → List ℕ → Type 0
-ShortTextOf dim text place other = IsTextOf dim text place other × (length text ≤ TEXT_BYTES)
+ShortTextOf dim text place other = IsDimText dim text place other × (length text ≤ TEXT_BYTES)
 
 -- It stands among values, for this dimension, and is not too long.
 pub record ShortTextAmong (dim : ℕ) (values : List Value) (place : ℕ) (text : List ℕ) : Type 0 where

@@ -30,8 +30,8 @@ abbrev pub InTheEnd : (List (List (List (List ℕ))) → Type 0) → ℕ → (Li
 InTheEnd may_end place Holds = (names : List (List (List (List ℕ)))) → may_end names → Holds (lists_at names place)
 
 -- A text of a dimension is this one.
-abbrev pub IsTextOf : ℕ → List ℕ → ℕ → List ℕ → Type 0
-IsTextOf dim text k other = (k ≡ dim) × (other ≡ text)
+abbrev pub IsDimText : ℕ → List ℕ → ℕ → List ℕ → Type 0
+IsDimText dim text k other = (k ≡ dim) × (other ≡ text)
 
 -- Dictionaries grow from one state to another, while texts of the cube at a place are given to them, of which the last
 -- relation tells the dimensions.

@@ -4,7 +4,7 @@ ghost use Rattle.std.specs.Prelude.{◌≡◌, ℕ, ◌<◌, ◌≤◌, true, Li
 ghost use Rattle.cube_language.specs.declared.bad_row.TheConstants.{TEXT_BYTES};
 ghost use Rattle.cube_language.specs.declared.decl.Decl.{Decl};
 ghost use Rattle.condition_spans.specs.Codes.{texts_at};
-ghost use Rattle.row_encoding.specs.FinalCodes.{dim_at, code_number, IsFinalNumber, InTheEnd, IsTextOf, Grow};
+ghost use Rattle.row_encoding.specs.FinalCodes.{dim_at, code_number, IsFinalNumber, InTheEnd, IsDimText, Grow};
 
 use cube_schema::Schema;
 use names_dict::Code;
@@ -39,6 +39,6 @@ pub trait Encoder {
             (code_number code))) }
         ensures inside { IfOk result (λ code.
             IfSome (code_number code) (λ n. n < (dim_at cube.now.dims dim).cardinality)) }
-        ensures grow { Grow may_end suits has_name place cube.now (IsTextOf dim text.now)
+        ensures grow { Grow may_end suits has_name place cube.now (IsDimText dim text.now)
             self.old self.new };
 }

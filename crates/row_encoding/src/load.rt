@@ -5,7 +5,7 @@ ghost use Rattle.cube_journal.specs.declared.reply.Rejection.{Rejection};
 ghost use Rattle.agg_fold.specs.Coded.{coded_row};
 ghost use Rattle.row_encoding.specs.FinalCodes.{InTheEnd, Grow};
 ghost use Rattle.row_encoding.specs.CodedInserts.{HasCoords};
-ghost use Rattle.row_encoding.specs.CodedLoads.{IsTaken, IsFoundRecord, rows_then, GoesOn, Tell, TakesBatch, HasEnded, HaveTextAmong, HaveTextLookedAt, HaveTextNext};
+ghost use Rattle.row_encoding.specs.CodedLoads.{IsTaken, IsFoundRecord, rows_then, LoadGoesOn, Tell, TakesBatch, BatchHasEnded, HaveTextAmong, HaveTextLookedAt, HaveTextNext};
 
 use crate::encoder::Encoder;
 use crate::records::encode_record;
@@ -135,10 +135,10 @@ pub fn load_rows<E: Encoder>(
     requires counted { bad.old.count ≤ load.old.number }
     requires dims { batch.old.dims ≡ length cube.now.dims }
     requires width { batch.old.width ≡ length cube.now.metrics }
-    ensures goes_on { OnOk result (GoesOn load.old load.new) }
+    ensures goes_on { OnOk result (LoadGoesOn load.old load.new) }
     ensures batch { IfOk result (λ ended. InTheEnd (E.may_end encoder.new) place (λ lists.
         TakesBatch cube.now lists allowed load.old load.new bad.old bad.new batch.new.rows ended)) }
-    ensures ended { IfOk result (HasEnded allowed load.new bad.new batch.new.rows) }
+    ensures ended { IfOk result (BatchHasEnded allowed load.new bad.new batch.new.rows) }
     ensures inside { OnOk result (All (HasCoords cube.now) batch.new.rows) }
     ensures grow { Grow E.may_end E.suits E.has_name place cube.now
         (HaveTextLookedAt (E.may_end encoder.new) place cube.now (allowed - bad.old.count) load.old)

@@ -3,7 +3,7 @@
 ghost use Rattle.std.specs.Prelude.{◌≡◌, ◌≤◌, ◌++◌, [], ◌∷◌, true, length, IfOk, OnOk};
 ghost use Rattle.condition_spans.specs.CodedConditions.{values_of_test};
 ghost use Rattle.condition_spans.specs.Codes.{texts_at, code_in, codes_among, codes_in};
-ghost use Rattle.row_encoding.specs.FinalCodes.{dim_at, InTheEnd, IsTextOf, Grow};
+ghost use Rattle.row_encoding.specs.FinalCodes.{dim_at, InTheEnd, IsDimText, Grow};
 ghost use Rattle.row_encoding.specs.CodedValues.{IsTextValue, HaveText};
 ghost use Rattle.row_encoding.specs.CodedTexts.{AreOfKind, AskTheirKinds, AreNames, ShortTextOf, ShortTextAmong, ComparesWith, HasPlaceIfShort, HavePlaces, HavePlacesAmong};
 

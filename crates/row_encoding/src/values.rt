@@ -6,7 +6,7 @@ ghost use Rattle.cube_language.specs.RowFaults.{coord_reason, dim_reason};
 ghost use Rattle.cube_language.specs.declared.bad_row.TheConstants.{TEXT_BYTES};
 ghost use Rattle.brick_address.specs.Addresses.{AreCoords};
 ghost use Rattle.condition_spans.specs.Codes.{texts_at};
-ghost use Rattle.row_encoding.specs.FinalCodes.{dim_at, code_number, IsFinalNumber, InTheEnd, IsTextOf, Grow};
+ghost use Rattle.row_encoding.specs.FinalCodes.{dim_at, code_number, IsFinalNumber, InTheEnd, IsDimText, Grow};
 ghost use Rattle.row_encoding.specs.CodedValues.{FitDims, HaveText, IsTextValue, IsItsText, HasTextAt, IsFinalCoord, AreCodedAs};
 
 use crate::encoder::Encoder;
@@ -40,7 +40,7 @@ pub(crate) fn encode_text<E: Encoder>(
         IsFinalNumber (dim_at cube.now.dims dim) (texts_at lists dim) text.now number)) }
     ensures inside { IfOk result (λ number.
         IfSome number (λ n. n < (dim_at cube.now.dims dim).cardinality)) }
-    ensures grow { Grow E.may_end E.suits E.has_name place cube.now (IsTextOf dim text.now)
+    ensures grow { Grow E.may_end E.suits E.has_name place cube.now (IsDimText dim text.now)
         encoder.old encoder.new }
 {
     Ok(code_number(encoder.encode(place, cube, dim, text)?))

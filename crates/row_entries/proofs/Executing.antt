@@ -34,7 +34,7 @@ use Rattle.session_rows.specs.RowsExecuted.{HasExecutedOnRows, HasChange, IsChan
 use Rattle.session_rows.proofs.RowsJoin.{alone_executed, changes_alone, changes_inside, inside_executed}
 use Rattle.session_rows.proofs.RowsStay.{rolls_back_executed, rolls_back_on_rows, stays_executed, stays_on_rows}
 use Rattle.row_entries.specs.LeftEntries.{HasLeft, step_on_rows}
-use Rattle.row_entries.specs.EntryGroups.{LeavesAbort, LeavesCommit, LeavesNothing, LeavesOpenAbort, LeavesReading, LeavesRefusal, abort_entries, commit_entries, end_entries, reading_entries, refusal_entries}
+use Rattle.row_entries.specs.EntryGroups.{LeavesAbort, LeavesCommit, LeavesNoEntry, LeavesOpenAbort, LeavesReading, LeavesRefusal, abort_entries, commit_entries, end_entries, reading_entries, refusal_entries}
 use Rattle.row_entries.specs.ExecutedHere.{ChangesRows, DoesInRuns, ExecutesUnchanged, GivesRowsBack, HasExecutedWithFile, IsAnsweredInRuns, KeepsRows}
 
 -- ---- at the desk
@@ -73,7 +73,7 @@ read_unchanged s desk session new_desk now h is_one =
     (λ run step is. select_does_nothing run step s is.sentence_is is_one)
 
 pub read_inside_unchanged : (writer : Snapshot) (s : Statement) (desk : DeskState) (session : Session)
-    (new_desk : DeskState) (now : Session) → LeavesNothing writer (Says s) desk session new_desk now
+    (new_desk : DeskState) (now : Session) → LeavesNoEntry writer (Says s) desk session new_desk now
     → is_select s ≡ true → ExecutesUnchanged (Says s) [] desk session new_desk now
 read_inside_unchanged writer s desk session new_desk now h is_one =
     unchanged _ (Says s) [] _ None desk session new_desk now h.left
@@ -188,7 +188,7 @@ changes_alone_on_rows sentence beginning past file c old now said rows h k runs 
 -- It changes rows inside the transaction that is open.
 pub changes_inside_on_rows : (writer : Snapshot) (sentence : Sentence) (beginning : Beginning) (past : SessionPast)
     (file : LoadedFile) (c : CodedOperation) (old now : RowWorld) (said : Reply) → HasRows beginning past old
-    → LeavesNothing writer sentence old.desk old.session now.desk now.session
+    → LeavesNoEntry writer sentence old.desk old.session now.desk now.session
     → ChangesRows beginning writer.epoch c (λ place. HasChange place c.change) old now
     → DoesInRuns beginning past sentence file [] c.done old now said
     → HasExecutedOnRows beginning past sentence old now said
@@ -247,7 +247,7 @@ reads_on_rows s beginning past file old now said rows is_one h k answers =
 
 pub reads_inside_on_rows : (writer : Snapshot) (s : Statement) (beginning : Beginning) (past : SessionPast)
     (file : LoadedFile) (old now : RowWorld) (said : Reply) → HasRows beginning past old → is_select s ≡ true
-    → LeavesNothing writer (Says s) old.desk old.session now.desk now.session → KeepsRows old now
+    → LeavesNoEntry writer (Says s) old.desk old.session now.desk now.session → KeepsRows old now
     → IsAnsweredInRuns beginning past old.session (Says s) file [] (names_of now.dictionaries) said
     → HasExecutedOnRows beginning past (Says s) old now said
 reads_inside_on_rows writer s beginning past file old now said rows is_one h k answers =
@@ -470,7 +470,7 @@ changes_alone_with_file sentence beginning past file c old now said rows h k run
 
 pub changes_inside_with_file : (writer : Snapshot) (sentence : Sentence) (beginning : Beginning) (past : SessionPast)
     (file : LoadedFile) (c : CodedOperation) (old now : RowWorld) (said : Reply) → HasRows beginning past old
-    → LeavesNothing writer sentence old.desk old.session now.desk now.session
+    → LeavesNoEntry writer sentence old.desk old.session now.desk now.session
     → ChangesRows beginning writer.epoch c (λ place. HasChange place c.change) old now
     → DoesInRuns beginning past sentence file [] c.done old now said
     → HasExecutedWithFile beginning past sentence file old now said

@@ -27,7 +27,7 @@ use Rattle.session_desk.proofs.Moving.{moves_by, moves_same}
 use Rattle.session_desk.proofs.OpenBegun.{open_was_begun}
 use Rattle.session_desk.proofs.Growing.{world_of}
 use Rattle.row_entries.specs.RowCalls.{AbortsOpen, NotesNothing}
-use Rattle.row_entries.specs.EntryGroups.{LeavesNothing, LeavesOpenAbort}
+use Rattle.row_entries.specs.EntryGroups.{LeavesNoEntry, LeavesOpenAbort}
 use Rattle.row_entries.proofs.Leaving.{has_left, none_watched, number_of, same_mode_rises, served}
 use Rattle.row_entries.proofs.Lone.{few_commits, open_stays}
 use Rattle.row_entries.proofs.OwnEntries.{begun_before, is_itself}
@@ -49,7 +49,7 @@ no_more desk new_desk same =
 
 pub leaves_nothing : (writer : Snapshot) (sentence : Sentence) (desk : DeskState) (session : Session)
     (new_desk : DeskState) (now : Session) → IsAtDesk desk session → NotesNothing writer desk session new_desk now
-    → LeavesNothing writer sentence desk session new_desk now
+    → LeavesNoEntry writer sentence desk session new_desk now
 leaves_nothing writer sentence desk session new_desk now at h =
     let s = state_of desk.register in
     let desk_is = no_more desk new_desk h.same in

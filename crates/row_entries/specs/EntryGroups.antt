@@ -73,7 +73,7 @@ IsNextAt epoch added desk session new_desk now =
     (session_part 1 (past.journal ++ added))
 
 -- No entry, while this transaction is open: a change has its epoch.
-pub record LeavesNothing (writer : Snapshot) (sentence : Sentence) (desk : DeskState) (session : Session)
+pub record LeavesNoEntry (writer : Snapshot) (sentence : Sentence) (desk : DeskState) (session : Session)
     (new_desk : DeskState) (now : Session) : Type 0 where
   pub left : HasLeft (Open writer) sentence [] (λ step. []) None desk session new_desk now
   pub turns : OpenStays desk session now

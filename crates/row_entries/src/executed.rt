@@ -18,7 +18,7 @@ ghost use Rattle.session_desk.specs.declared.session.Session.{Session};
 ghost use Rattle.session_rows.specs.Coded.{CodedOperation};
 ghost use Rattle.session_rows.specs.RowsBehind.{HasRows, RowWorld};
 ghost use Rattle.session_rows.specs.RowsExecuted.{HasExecutedOnRows, HasChange, IsChangedAndKept};
-ghost use Rattle.row_entries.specs.EntryGroups.{LeavesAbort, LeavesCommit, LeavesNothing, LeavesOpenAbort, LeavesReading, LeavesRefusal, abort_entries, commit_entries, end_entries, reading_entries, refusal_entries};
+ghost use Rattle.row_entries.specs.EntryGroups.{LeavesAbort, LeavesCommit, LeavesNoEntry, LeavesOpenAbort, LeavesReading, LeavesRefusal, abort_entries, commit_entries, end_entries, reading_entries, refusal_entries};
 ghost use Rattle.row_entries.specs.ExecutedHere.{ChangesRows, DoesInRuns, ExecutesUnchanged, GivesRowsBack, IsAnsweredInRuns, KeepsRows};
 
 /// A statement that is refused, that reads, or whose transaction is aborted is executed at the desk and changes no
@@ -34,7 +34,7 @@ pub fn statements_that_change_no_rows_are_executed()
         → ExecutesUnchanged (Says s) (reading_entries desk now) desk session new_desk now }
     ensures read_inside { (writer : Snapshot) (s : Statement) (desk : DeskState) (session : Session)
         (new_desk : DeskState) (now : Session)
-        → LeavesNothing writer (Says s) desk session new_desk now → is_select s ≡ true
+        → LeavesNoEntry writer (Says s) desk session new_desk now → is_select s ≡ true
         → ExecutesUnchanged (Says s) [] desk session new_desk now }
     ensures aborted { (cause : AbortCause) (sentence : Sentence) (desk : DeskState)
         (session : Session) (new_desk : DeskState) (now : Session)
@@ -53,7 +53,8 @@ pub fn refusals_are_executed_on_rows()
         (file : LoadedFile) (old now : RowWorld) (said : Reply)
         → HasRows beginning past old
         → LeavesRefusal code sentence old.desk old.session now.desk now.session → KeepsRows old now
-        → IsAnsweredInRuns beginning past old.session sentence file (refusal_entries code now.session)
+        → IsAnsweredInRuns beginning past old.session sentence file
+        (refusal_entries code now.session)
         (names_of now.dictionaries) said
         → HasExecutedOnRows beginning past sentence old now said }
     ensures no_memory { (sentence : Sentence) (beginning : Beginning) (past : SessionPast)
@@ -75,9 +76,10 @@ pub fn selects_are_executed_on_rows()
     ensures inside { (writer : Snapshot) (s : Statement) (beginning : Beginning)
         (past : SessionPast) (file : LoadedFile) (old now : RowWorld) (said : Reply)
         → HasRows beginning past old → is_select s ≡ true
-        → LeavesNothing writer (Says s) old.desk old.session now.desk now.session
+        → LeavesNoEntry writer (Says s) old.desk old.session now.desk now.session
         → KeepsRows old now
-        → IsAnsweredInRuns beginning past old.session (Says s) file [] (names_of now.dictionaries) said
+        → IsAnsweredInRuns beginning past old.session (Says s) file []
+        (names_of now.dictionaries) said
         → HasExecutedOnRows beginning past (Says s) old now said }
 {}
 
@@ -126,7 +128,7 @@ pub fn changes_are_executed_on_rows()
         (past : SessionPast) (file : LoadedFile) (c : CodedOperation) (old now : RowWorld)
         (said : Reply)
         → HasRows beginning past old
-        → LeavesNothing writer sentence old.desk old.session now.desk now.session
+        → LeavesNoEntry writer sentence old.desk old.session now.desk now.session
         → ChangesRows beginning writer.epoch c (λ place. HasChange place c.change) old now
         → DoesInRuns beginning past sentence file [] c.done old now said
         → HasExecutedOnRows beginning past sentence old now said }

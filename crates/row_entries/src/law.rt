@@ -9,7 +9,7 @@ ghost use Rattle.aosi_desk.specs.Desks.{DeskState, is_cube_code};
 ghost use Rattle.session_desk.specs.declared.session.Session.{Session};
 ghost use Rattle.session_desk.specs.AtDesk.{IsAtDesk};
 ghost use Rattle.row_entries.specs.RowCalls.{AbortsAlone, AbortsOpen, CommitsAlone, IsFollowed, NotesNothing, NotesRefusal, ReadsAlone};
-ghost use Rattle.row_entries.specs.EntryGroups.{HasCommitted, LeavesAbort, LeavesCommit, LeavesNothing, LeavesOpenAbort, LeavesReading, LeavesRefusal};
+ghost use Rattle.row_entries.specs.EntryGroups.{HasCommitted, LeavesAbort, LeavesCommit, LeavesNoEntry, LeavesOpenAbort, LeavesReading, LeavesRefusal};
 
 /// A refusal alone, of an INSERT, a LOAD, a DELETE or a SELECT, in whatever mode, which does not speak of the list of
 /// cubes.
@@ -34,7 +34,7 @@ pub fn an_open_transaction_stays()
     ensures { (writer : Snapshot) (sentence : Sentence) (desk : DeskState) (session : Session)
         (new_desk : DeskState) (now : Session)
         → IsAtDesk desk session → NotesNothing writer desk session new_desk now
-        → LeavesNothing writer sentence desk session new_desk now }
+        → LeavesNoEntry writer sentence desk session new_desk now }
 {}
 
 /// A transaction of its own that is committed, of an INSERT, a LOAD or a DELETE of an idle session: with the round that

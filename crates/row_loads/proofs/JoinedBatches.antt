@@ -16,11 +16,11 @@ use Rattle.row_encoding.specs.declared.load.BadRecords.{BadRecords}
 use Rattle.row_encoding.specs.declared.load.BatchEnd.{BatchEnd}
 use Rattle.row_encoding.specs.declared.load.BatchEnd.TheVariants as batch_is
 use Rattle.row_encoding.specs.CodedValues.{HaveNames}
-use Rattle.row_encoding.specs.CodedLoads.{GoesOn, TakesBatch, Tell, final_record, final_records, looked_at_later, records_between, rejections_from}
+use Rattle.row_encoding.specs.CodedLoads.{LoadGoesOn, TakesBatch, Tell, final_record, final_records, looked_at_later, records_between, rejections_from}
 
 -- ---- records
 
-pub both_between : (start mid new : LoadState) → GoesOn start mid → GoesOn mid new
+pub both_between : (start mid new : LoadState) → LoadGoesOn start mid → LoadGoesOn mid new
     → records_between start new ≡ records_between start mid ++ records_between mid new
 both_between start mid new first second =
     let front = records_between start mid in
@@ -34,7 +34,7 @@ both_between start mid new first second =
     ap (take (new.number - start.number)) whole
     ∙ take_at (front ++ back) new.left (new.number - start.number) (omega (arith, l, a, b))
 
-pub goes_both : (start mid new : LoadState) → GoesOn start mid → GoesOn mid new → GoesOn start new
+pub goes_both : (start mid new : LoadState) → LoadGoesOn start mid → LoadGoesOn mid new → LoadGoesOn start new
 goes_both start mid new first second =
     let front = records_between start mid in
     let back = records_between mid new in
@@ -71,8 +71,8 @@ rejections_both number (r ∷ front) back =
 
 -- ---- one batch after the other
 
-module _ (d : Decl) (lists : List (List (List ℕ))) (allowed : ℕ) (start mid new : LoadState) (first : GoesOn start mid)
-    (second : GoesOn mid new) where
+module _ (d : Decl) (lists : List (List (List ℕ))) (allowed : ℕ) (start mid new : LoadState) (first : LoadGoesOn start mid)
+    (second : LoadGoesOn mid new) where
   whole_is : final_records d lists (records_between start new)
       ≡ final_records d lists (records_between start mid) ++ final_records d lists (records_between mid new)
   whole_is =

@@ -37,7 +37,7 @@ use Rattle.session_rows.specs.Coded.{done_operations}
 use Rattle.session_rows.specs.CubesAtDesk.{row_world}
 use Rattle.session_rows.specs.RowsExecuted.{GoesBack, HasChange, IsChangedAndKept, IsKept, OfEachCube}
 use Rattle.session_rows.specs.declared.cubes.Cubes.{Cubes}
-use Rattle.row_entries.specs.EntryGroups.{LeavesAbort, LeavesCommit, LeavesNothing, LeavesOpenAbort, abort_entries, commit_entries, end_entries}
+use Rattle.row_entries.specs.EntryGroups.{LeavesAbort, LeavesCommit, LeavesNoEntry, LeavesOpenAbort, abort_entries, commit_entries, end_entries}
 use Rattle.row_entries.specs.LeftEntries.{step_on_rows}
 use Rattle.row_entries.proofs.Executing.{aborts_with_file, changes_alone_with_file, changes_inside_with_file, ends_with_file}
 use Rattle.row_loads.specs.LoadEnds.{stored_load_reply}
@@ -176,7 +176,7 @@ module _ (s : Statement) (allowed place : ℕ) (bytes : List ℕ) (desk : DeskSt
 
   -- ---- inside the transaction that is open
 
-  pub stores_inside : (writer : Snapshot) (n : ℕ) → LeavesNothing writer (Says s) desk session new_desk now
+  pub stores_inside : (writer : Snapshot) (n : ℕ) → LeavesNoEntry writer (Says s) desk session new_desk now
       → n ≡ length b.loaded.rows → bad.count ≤ allowed
       → LoadsOnRows (loaded_file (whole bytes)) (Says s) desk session old new_desk now
       (record { schemas = after.schemas; names = new.names; rows = new.rows })

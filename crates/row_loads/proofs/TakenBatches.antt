@@ -8,7 +8,7 @@ use Rattle.names_dict.specs.Dictionaries.{Dictionary}
 use Rattle.csv_load.specs.FileRecords.{RecordFields}
 use Rattle.csv_load.specs.Loads.{LoadState}
 use Rattle.row_encoding.specs.CodedInserts.{HasCoords}
-use Rattle.row_encoding.specs.CodedLoads.{GoesOn, HasEnded, HaveTextLookedAt, TakesBatch, records_between}
+use Rattle.row_encoding.specs.CodedLoads.{LoadGoesOn, BatchHasEnded, HaveTextLookedAt, TakesBatch, records_between}
 use Rattle.row_encoding.specs.DictsAsEncoder.{HasName, MayEndWith, Suit}
 use Rattle.row_encoding.specs.FinalCodes.{Grow, InTheEnd}
 use Rattle.row_encoding.specs.declared.load.BadRecords.{BadRecords}
@@ -40,7 +40,7 @@ names_gained cubes place d e IsGiven new h is same grow =
     (record { later = grow.later; here = grow.here; elsewhere = grow.elsewhere }) h.named)
 
 pub taken_from : (place allowed : ℕ) (d : Decl) (dictionaries : List (List Dictionary)) (start load : LoadState)
-    (before bad : BadRecords) (rows : List CodedRow) (ended : BatchEnd) → d ≡ start.decl → GoesOn start load
+    (before bad : BadRecords) (rows : List CodedRow) (ended : BatchEnd) → d ≡ start.decl → LoadGoesOn start load
     → All (HasCoords d) rows
     → InTheEnd (MayEndWith dictionaries) place
     (λ lists. TakesBatch d lists allowed start load before bad rows ended)
@@ -67,7 +67,7 @@ may_come cubes place allowed start load before bad old batch ended are is for di
 
 pub fewer_left : (cubes : List Decl) (dictionaries : List (List Dictionary)) (place allowed : ℕ) (start load : LoadState)
     (before bad : BadRecords) (rows : List CodedRow) (ended : BatchEnd) → AreItsNames cubes dictionaries
-    → slice_get cubes place ≡ Some start.decl → HasEnded allowed load bad rows ended
+    → slice_get cubes place ≡ Some start.decl → BatchHasEnded allowed load bad rows ended
     → HasTaken place allowed dictionaries start load before bad rows ended → HasFewerLeft start load ended
 fewer_left cubes dictionaries place allowed start load before bad rows batch_is.Full are is full taken =
     let many = full.0 in

@@ -35,7 +35,7 @@ use Rattle.session_desk.specs.AtDesk.{IsAtDesk, IsServing}
 use Rattle.session_desk.specs.RowsDone.{AddsEntries, past_with}
 use Rattle.session_desk.proofs.Changing.{one_more_with}
 use Rattle.session_desk.proofs.FindingCubes.{finds_its_cube}
-use Rattle.row_entries.specs.EntryGroups.{LeavesNothing, LeavesReading, reading_entries}
+use Rattle.row_entries.specs.EntryGroups.{LeavesNoEntry, LeavesReading, reading_entries}
 use Rattle.row_entries.specs.ExecutedHere.{KeepsRows}
 use Rattle.row_entries.specs.LeftEntries.{step_on_rows}
 use Rattle.row_entries.specs.RowCalls.{ReadsAlone}
@@ -156,7 +156,7 @@ alone_answers desk session cubes new_desk now s table at select (bound, (b, line
 pub inside_answers : (writer : Snapshot) (desk : DeskState) (session : Session) (cubes : Cubes) (now : Session)
     (s : Statement) (table : List (List Field)) → IsAtCubes desk session cubes
     → is_select s ≡ true → AreItsLines cubes s table
-    → LeavesNothing writer (Says s) desk session desk now
+    → LeavesNoEntry writer (Says s) desk session desk now
     → ExecutesOnRows (Says s) desk session cubes desk now cubes (reply.Rows writer.epoch table)
 inside_answers writer desk session cubes now s table at select (bound, (b, lines)) left =
     λ beginning past coded h.

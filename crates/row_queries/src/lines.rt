@@ -48,7 +48,8 @@ fn names_needed(
     requires few { length schemas.now ≤ cubes_limit }
     ensures { IfOk result (λ lists. (place : ℕ)
         → option_and_then (cube_place schemas.now) (cube_needed statement.now) ≡ Some place
-        → (lists_at lists place ≡ lists_at (names_of names.now) place) × AreDistinct (lists_at lists place)) }
+        → (lists_at lists place ≡ lists_at (names_of names.now) place)
+        × AreDistinct (lists_at lists place)) }
 {
     let Some(name) = cube_needed(statement) else {
         return Ok(NameLists::new(alloc));
@@ -83,7 +84,8 @@ fn fold_rows(alloc: Global, cubes: &Cubes, query: &BoundQuery) -> Result<Partial
     requires sound { IsSoundQuery query.now
         (rows_at cubes.now.rows query.now.cube).dims (rows_at cubes.now.rows query.now.cube).width }
     ensures { IfOk result (λ p. StandsFor query.now
-        (filter (span_has_row query.now.span) (rows_at cubes.now.rows query.now.cube).now) p.groups) }
+        (filter (span_has_row query.now.span)
+        (rows_at cubes.now.rows query.now.cube).now) p.groups) }
 {
     let mut partial = Partial::new(alloc);
     let _few = cubes.rows.len(query.cube);

@@ -9,7 +9,7 @@ use Rattle.cube_language.specs.Pieces.{IsScript, HasScriptFault}
 use Rattle.outside.specs.Given.{Given, missing, too_long, whole}
 use Rattle.run_files.specs.declared.bad_file.BadFile.{BadFile}
 use Rattle.run_files.specs.declared.bad_file.BadFile.TheVariants.{Absent, ReadFailed, CubesTooLong, Cubes, ScriptTooLong, Script}
-use Rattle.run_files.specs.RunFiles.{RunFile, CubesFile, ScriptFile, FileReading, Gives, Fails, file_name, IsTextOf, IsRefusedText, IsRefusedSize, IsAbsent, IsUnread, IsInOrder, IsBad, AreInOrder, FirstBad, FilesEnd}
+use Rattle.run_files.specs.RunFiles.{RunFile, CubesFile, ScriptFile, FileReading, Gives, Fails, file_name, IsTextOf, IsRefusedText, IsRefusedSize, IsAbsent, IsUnread, ReadsInOrder, IsBad, AreInOrder, FirstBad, FilesEnd}
 
 -- What is known of texts: each is in order or refused, in one way.
 pub record TextsAreKnown : Type 0 where
@@ -81,7 +81,7 @@ module _ (known : TextsAreKnown) where
   size_state (CubesFile name) size = refl
   size_state (ScriptFile session name) size = (refl, refl)
 
-  file_state : (file : RunFile) (reading : FileReading) → IsInOrder file reading ⊎ ((bad : BadFile) × IsBad file reading bad)
+  file_state : (file : RunFile) (reading : FileReading) → ReadsInOrder file reading ⊎ ((bad : BadFile) × IsBad file reading bad)
   file_state file Fails = inr (ReadFailed (file_name file), refl)
   file_state file (Gives missing) = inr (Absent (file_name file), refl)
   file_state file (Gives (too_long size)) = inr (too_large file size, size_state file size)
@@ -102,7 +102,7 @@ module _ (known : TextsAreKnown) where
       let g = script_text_is session name text b k in
       f.1 ∙ ap (Script session) (known.script_one text f.0 g.0 f.2 g.2) ∙ sym g.1
 
-  file_good : (file : RunFile) (reading : FileReading) (bad : BadFile) → IsInOrder file reading → IsBad file reading bad → ⊥
+  file_good : (file : RunFile) (reading : FileReading) (bad : BadFile) → ReadsInOrder file reading → IsBad file reading bad → ⊥
   file_good file Fails bad good h = good
   file_good file (Gives missing) bad good h = good
   file_good file (Gives (too_long size)) bad good h = good
@@ -115,7 +115,7 @@ module _ (known : TextsAreKnown) where
   file_one file (Gives (whole text)) a b h k = text_one file text a b h k
 
   -- there is an end
-  end_behind : (reading : RunFile → FileReading) (file : RunFile) (files : List RunFile) → IsInOrder file (reading file) → (end : Option BadFile) × FilesEnd reading files end → (end : Option BadFile) × FilesEnd reading (file ∷ files) end
+  end_behind : (reading : RunFile → FileReading) (file : RunFile) (files : List RunFile) → ReadsInOrder file (reading file) → (end : Option BadFile) × FilesEnd reading files end → (end : Option BadFile) × FilesEnd reading (file ∷ files) end
   end_behind reading file files good (None, rest) = (None, (good, rest))
   end_behind reading file files good (Some bad, first) =
       (Some bad, record { before = file ∷ first.before; file = first.file; after = first.after; are = ap (λ fs. file ∷ fs) first.are; good = (good, first.good); is = first.is })
@@ -133,7 +133,7 @@ module _ (known : TextsAreKnown) where
   all_or_first reading [] [] file after bad e good h = absurd cc
   all_or_first reading [] (b ∷ before) file after bad e good h = absurd cc
   all_or_first reading (f ∷ files) [] file after bad e good h =
-      let same : f ≡ file = cc in file_good file (reading file) bad (subst (λ g. IsInOrder g (reading g)) same good.0) h
+      let same : f ≡ file = cc in file_good file (reading file) bad (subst (λ g. ReadsInOrder g (reading g)) same good.0) h
   all_or_first reading (f ∷ files) (b ∷ before) file after bad e good h =
       let rest : files ≡ before ++ file ∷ after = cc in all_or_first reading files before file after bad rest good.1 h
 
@@ -142,7 +142,7 @@ module _ (known : TextsAreKnown) where
   first_one reading [] file after [] other rest a b e h k p q =
       let same : file ≡ other = cc in file_one file (reading file) a b p (subst (λ f. IsBad f (reading f) b) (sym same) q)
   first_one reading [] file after (o ∷ others) other rest a b e h k p q =
-      let same : file ≡ o = cc in absurd (file_good file (reading file) a (subst (λ f. IsInOrder f (reading f)) (sym same) k.0) p)
+      let same : file ≡ o = cc in absurd (file_good file (reading file) a (subst (λ f. ReadsInOrder f (reading f)) (sym same) k.0) p)
   first_one reading (f ∷ before) file after [] other rest a b e h k p q =
       let same : f ≡ other = cc in absurd (file_good f (reading f) b h.0 (subst (λ g. IsBad g (reading g) b) (sym same) q))
   first_one reading (f ∷ before) file after (o ∷ others) other rest a b e h k p q =

@@ -57,9 +57,9 @@ IsUnread file (ReadFailed name) = name ≡ file_name file
 IsUnread file bad = ⊥
 
 -- A file is in order by what reading it comes to.
-abbrev pub IsInOrder : RunFile → FileReading → Type 0
-IsInOrder file (Gives (whole text)) = IsTextOf file text
-IsInOrder file reading = ⊥
+abbrev pub ReadsInOrder : RunFile → FileReading → Type 0
+ReadsInOrder file (Gives (whole text)) = IsTextOf file text
+ReadsInOrder file reading = ⊥
 
 -- What is wrong with a file by what reading it comes to.
 abbrev pub IsBad : RunFile → FileReading → BadFile → Type 0
@@ -70,7 +70,7 @@ IsBad file (Gives (whole text)) bad = IsRefusedText file text bad
 
 -- Each of these files is in order.
 abbrev pub AreInOrder : (RunFile → FileReading) → List RunFile → Type 0
-AreInOrder reading files = AllByRecursion (λ file. IsInOrder file (reading file)) files
+AreInOrder reading files = AllByRecursion (λ file. ReadsInOrder file (reading file)) files
 
 -- The first of these files that is not in order is bad so.
 pub record FirstBad (reading : RunFile → FileReading) (files : List RunFile) (bad : BadFile) : Type 0 where

@@ -93,7 +93,8 @@ pub fn read_cubes<H: Shelf>(
     ensures same { H.told shelf.new ≡ H.told shelf.old }
     ensures absences { AbsenceRises (bad_in result)
         (H.absence_count shelf.old) (H.absence_count shelf.new) }
-    ensures faults { FaultRises (bad_in result) (H.fault_count shelf.old) (H.fault_count shelf.new) }
+    ensures faults { FaultRises (bad_in result)
+        (H.fault_count shelf.old) (H.fault_count shelf.new) }
     ensures read { IsRead DeclaresGiven (H.told shelf.old)
         (H.call_list shelf.old) (H.call_list shelf.new) (CubesFile name.now) result }
 {
@@ -116,7 +117,8 @@ pub fn read_script<H: Shelf>(
     ensures same { H.told shelf.new ≡ H.told shelf.old }
     ensures absences { AbsenceRises (bad_in result)
         (H.absence_count shelf.old) (H.absence_count shelf.new) }
-    ensures faults { FaultRises (bad_in result) (H.fault_count shelf.old) (H.fault_count shelf.new) }
+    ensures faults { FaultRises (bad_in result)
+        (H.fault_count shelf.old) (H.fault_count shelf.new) }
     ensures read { IsRead HoldsScript (H.told shelf.old)
         (H.call_list shelf.old) (H.call_list shelf.new) (ScriptFile script name.now) result }
 {

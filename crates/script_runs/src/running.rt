@@ -100,7 +100,8 @@ pub fn run_script<S: Shelf>(
         OnTrue ran.whole (length ran.replies.items ≤ MOST_STATEMENTS)) }
     ensures counters { IfOk result (λ ran.
         OnTrue ran.whole (ran.counters ≡ counters 0 ran.journal.items)) }
-    ensures whole { IfOk result (λ ran. OnTrue ran.whole (RunsWhole (S.told shelf.old) declared.items
+    ensures whole { IfOk result (λ ran. OnTrue ran.whole (RunsWhole
+        (S.told shelf.old) declared.items
         (map sentence_of script.items) ran.replies.items (names_of ran.names) ran.journal.items)) }
     ensures counted { IfOk result (λ ran. OnTrue ran.whole (GainsReplies [] ran.replies.items
         (S.fault_count shelf.old) (S.fault_count shelf.new)

@@ -68,7 +68,8 @@ fn pieces_said(
 /// to run. The time taken is linear in the bytes of the script, and so is the memory.
 pub fn read_sentences(alloc: Global, script: &Script) -> Result<Vec<Said>, CallError<NotBuilt>>
     requires { AreTextsAt script.now.bytes.items script.now.pieces }
-    ensures said { IfOk result (λ said. SaysInTurn script.now.bytes.items script.now.pieces said.items) }
+    ensures said { IfOk result (λ said. SaysInTurn
+        script.now.bytes.items script.now.pieces said.items) }
     ensures runnable { IfOk result (λ said. AllByRecursion IsRunnable said.items) }
     ensures count { IfOk result (λ said. length said.items ≡ length script.now.pieces) }
     ensures watch { IfFault result (λ _. AsksForWatch script.now.bytes.items script.now.pieces) }

@@ -14,7 +14,7 @@ use Rattle.cube_run.specs.SessionStates.{SessionState, session_after}
 use Rattle.cube_run.specs.SessionSteps.{session_part}
 use Rattle.played_scripts.specs.PlayedRuns.{AreNumbered}
 use Rattle.one_session.specs.Behind.{HasDone, HaveDone, last_step, run_so_far}
-use Rattle.one_session.specs.Changes.{StandInOrder}
+use Rattle.one_session.specs.Changes.{AreInEpochOrder}
 use Rattle.one_session.specs.Pasts.{Beginning, GoesOn, IsOneMore, NamesOnlyCome, SessionPast, last_number}
 use Rattle.one_session.proofs.Backwards.{goes_on_before}
 use Rattle.one_session.proofs.CubesBehind.{cubes_behind_more}
@@ -54,8 +54,8 @@ one_more_with past sentence file added names session now number statements own c
 
 order_after : (before after : SessionPast) (sentence : Sentence) (added : List JournalEntry) (done : List DoneOperation)
     (operation : Option DoneOperation) (low high : ℕ) → IsOneMore before after sentence added
-    → StandInOrder before done low → EpochsRise operation low high (session_part 1 after.journal)
-    → StandInOrder after (done_with done operation) high
+    → AreInEpochOrder before done low → EpochsRise operation low high (session_part 1 after.journal)
+    → AreInEpochOrder after (done_with done operation) high
 order_after before after sentence added done None low high m h rise =
     let kept = order_kept before after sentence added done low m h in
     record { epochs = never_fall_more 0 low high done rise kept.epochs; begun = kept.begun }

@@ -5,7 +5,7 @@ use Rattle.cube_run.specs.RunRecords.{RunRecord, cubes_at}
 use Rattle.cube_run.specs.RunTransactions.{DoneOperation}
 use Rattle.cube_run.specs.SessionStates.{SessionState}
 use Rattle.one_session.specs.Behind.{HaveDone, cubes_behind}
-use Rattle.one_session.specs.Changes.{StandInOrder}
+use Rattle.one_session.specs.Changes.{AreInEpochOrder}
 use Rattle.one_session.specs.Pasts.{Beginning, GoesOn, IsOwned, SessionPast, last_number}
 use Rattle.aosi_register.specs.State.{state_of}
 use Rattle.aosi_desk.specs.Desks.{DeskState}
@@ -42,5 +42,5 @@ pub record StandsBehind (beginning : Beginning) (past : SessionPast) (now : Worl
   pub every : beginning.round_every ≡ unwrap_or now.session.round_every 0
   pub owned : IsOwned past
   pub done : HaveDone beginning past now.done (session_state now.session)
-  pub order : StandInOrder past now.done
+  pub order : AreInEpochOrder past now.done
       (change_epoch (state_of now.desk.register) (mode_of now.session.mode))

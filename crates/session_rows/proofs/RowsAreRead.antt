@@ -20,7 +20,7 @@ use Rattle.cube_values.specs.declared.table.Field.{Field}
 use Rattle.query_plan.specs.Bindings.{IsQueryOn}
 use Rattle.query_plan.specs.Ties.{AreDistinct, rows_taken}
 use Rattle.one_session.specs.Behind.{IsSettled, cubes_behind}
-use Rattle.one_session.specs.Changes.{AllStandForValues, AreNamedApart, ChangeAt, IsReadBy, StandsForDone, counts_for, rows_in_cube, rows_with_changes}
+use Rattle.one_session.specs.Changes.{AllStandForValues, AreNamedApart, ChangeAt, IsReadBy, StandsForDone, operation_counts, rows_in_cube, rows_with_changes}
 use Rattle.one_session.specs.Pasts.{Beginning, GoesOn, SessionPast}
 use Rattle.one_session.proofs.Answering.{reader_answers, writer_answers}
 use Rattle.one_session.proofs.Befores.{le_yes}
@@ -43,7 +43,7 @@ use Rattle.session_rows.proofs.CountedChanges.{all_turn, or_none, same_changes}
 -- Those that are committed, where the reader's epoch is the last.
 reader_counts : (past : SessionPast) (desk : DeskState) (ec : ℕ) (c : CodedOperation)
     → desk.register.journal ≡ past.journal → c.done.epoch < ec
-    → counts_for past (reader_of (ec - 1)) c.done ≡ counts_now desk Idle c.done.epoch
+    → operation_counts past (reader_of (ec - 1)) c.done ≡ counts_now desk Idle c.done.epoch
 reader_counts past desk ec c same l =
     ap (λ (b : Bool). (b && true) && list_any (is_commit_of c.done.epoch) (session_part 1 past.journal))
     (le_yes c.done.epoch (ec - 1) (omega (arith, l)))
@@ -59,7 +59,7 @@ or_swapped false false = refl
 -- And those of the writer that took the last epoch.
 writer_counts : (past : SessionPast) (desk : DeskState) (ec : ℕ) (writer : Snapshot) (c : CodedOperation)
     → desk.register.journal ≡ past.journal → IsLastWriter ec writer → c.done.epoch < ec
-    → counts_for past writer c.done ≡ counts_now desk (Open writer) c.done.epoch
+    → operation_counts past writer c.done ≡ counts_now desk (Open writer) c.done.epoch
 writer_counts past desk ec writer c same w l =
     let e = c.done.epoch in
     let last = w.last in
@@ -106,12 +106,12 @@ done_where q (c ∷ coded) = at (q c.done) (done_where q coded)
 
 abbrev changes_seen : SessionPast → Snapshot → List CodedOperation → List ChangeAt
 changes_seen past s coded = map (λ (x : CodedOperation). x.change)
-    (filter (λ (x : CodedOperation). counts_for past s x.done) coded)
+    (filter (λ (x : CodedOperation). operation_counts past s x.done) coded)
 
 -- The rows of a cube as it is now are those that the changes leave which a snapshot sees.
 held_are : (past : SessionPast) (now : RowWorld) (s : Snapshot) (cube : ℕ) (mode : Mode)
     → mode_of now.session.mode ≡ mode
-    → AllByRecursion (λ c. counts_for past s c.done ≡ counts_now now.desk mode c.done.epoch) now.coded
+    → AllByRecursion (λ c. operation_counts past s c.done ≡ counts_now now.desk mode c.done.epoch) now.coded
     → (rows_at now.held cube).now
     ≡ rows_with_changes cube []
     (map (λ (x : CodedOperation). x.change)
@@ -119,7 +119,7 @@ held_are : (past : SessionPast) (now : RowWorld) (s : Snapshot) (cube : ℕ) (mo
     → rows_with_changes cube [] (changes_seen past s now.coded) ≡ (rows_at now.held cube).now
 held_are past now s cube mode is counts held =
     ap (λ (changes : List ChangeAt). rows_with_changes cube [] changes)
-    (same_changes (λ c. counts_for past s c.done) (λ c. counts_now now.desk mode c.done.epoch) now.coded counts)
+    (same_changes (λ c. operation_counts past s c.done) (λ c. counts_now now.desk mode c.done.epoch) now.coded counts)
     ∙ sym (coe 0 1 (i. (rows_at now.held cube).now
     ≡ rows_with_changes cube []
     (map (λ (x : CodedOperation). x.change)
@@ -130,7 +130,7 @@ is_read : (beginning : Beginning) (past : SessionPast) (now : RowWorld) (run : R
     → AsksRowsOf now d s query
     → rows_with_changes query.cube [] (changes_seen past snapshot now.coded) ≡ (rows_at now.held query.cube).now
     → IsReadBy beginning past run d s query [] (changes_seen past snapshot now.coded)
-    (filter (counts_for past snapshot) (done_operations now.coded))
+    (filter (operation_counts past snapshot) (done_operations now.coded))
 is_read beginning past now run d s query snapshot h g a same =
     let cubes : cubes_behind beginning past ≡ now.desk.cubes =
     sym (cubes_stay beginning past run g h.stands.done.turn h.stands.owned) ∙ h.stands.cubes run g
@@ -144,12 +144,12 @@ is_read beginning past now run d s query snapshot h g a same =
       kept = record { are = ap (rows_in_cube d.name) h.none_kept; each = tt };
       changes =
           coe 1 0 (i. AllZip (StandsForDone (record { cubes = cubes i; names = run.names }))
-          (changes_seen past snapshot now.coded) (done_where (counts_for past snapshot) now.coded i))
+          (changes_seen past snapshot now.coded) (done_where (operation_counts past snapshot) now.coded i))
           (zipped (StandsForDone (record { cubes = now.desk.cubes; names = run.names }))
-          (filter (λ (x : CodedOperation). counts_for past snapshot x.done) now.coded)
+          (filter (λ (x : CodedOperation). operation_counts past snapshot x.done) now.coded)
           (all_where
           (λ c. StandsForDone (record { cubes = now.desk.cubes; names = run.names }) c.change c.done)
-          (λ x. counts_for past snapshot x.done) now.coded
+          (λ x. operation_counts past snapshot x.done) now.coded
           (all_turn (StandsForOperation (record { cubes = now.desk.cubes; names = run.names }))
           (λ c. StandsForDone (record { cubes = now.desk.cubes; names = run.names }) c.change c.done)
           (λ c s. s.stands) now.coded (h.changes run g))));
@@ -174,12 +174,12 @@ held_now : (beginning : Beginning) (past : SessionPast) (now : RowWorld) (d : De
     (query : BoundQuery) (snapshot : Snapshot) (mode : Mode) (h : HasRows beginning past now)
     → AsksRowsOf now d s query → mode_of now.session.mode ≡ mode
     → ((c : CodedOperation) → c.done.epoch < (state_of now.desk.register).ec
-    → counts_for past snapshot c.done ≡ counts_now now.desk mode c.done.epoch)
+    → operation_counts past snapshot c.done ≡ counts_now now.desk mode c.done.epoch)
     → rows_with_changes query.cube [] (changes_seen past snapshot now.coded) ≡ (rows_at now.held query.cube).now
 held_now beginning past now d s query snapshot mode h a is counts =
     held_are past now snapshot query.cube mode is
     (all_turn (λ c. c.done.epoch < (state_of now.desk.register).ec)
-    (λ c. counts_for past snapshot c.done ≡ counts_now now.desk mode c.done.epoch) counts now.coded h.epochs.done)
+    (λ c. operation_counts past snapshot c.done ≡ counts_now now.desk mode c.done.epoch) counts now.coded h.epochs.done)
     (h.rows query.cube (slice_get_within now.desk.cubes query.cube d a.cube_is)).now
 
 idle_reads : (beginning : Beginning) (past : SessionPast) (now : RowWorld) (run : RunRecord) (d : Decl)

@@ -173,7 +173,8 @@ pub fn statements_at_the_desk_are_executed_on_rows()
         → ExecutesOnRows sentence desk session cubes new_desk now (cubes_back cubes) said }
     ensures committed { (sentence : Sentence) (desk : DeskState) (session : Session)
         (cubes : Cubes) (new_desk : DeskState) (now : Session) (said : Reply)
-        → IsDoneAtDesk sentence (epoch_open_in (mode_of session.mode)) desk session cubes new_desk now said
+        → IsDoneAtDesk sentence (epoch_open_in
+        (mode_of session.mode)) desk session cubes new_desk now said
         → new_desk.cubes ≡ desk.cubes → NothingIsOpen (mode_of now.mode)
         → ExecutesOnRows sentence desk session cubes new_desk now (cubes_kept cubes) said }
     ensures created { (sentence : Sentence) (d : Decl) (desk : DeskState) (session : Session)

@@ -13,7 +13,7 @@ use Rattle.cube_rounds.specs.Bricks.{BrickPart}
 use Rattle.agg_fold.specs.declared.groups.Groups.{Groups}
 use Rattle.agg_fold.specs.Standing.{Gains, StandsFor}
 use Rattle.brick_map.specs.declared.deletion.Deletion.{Deletion}
-use Rattle.brick_map.specs.Births.{BrickContent, CubeState, brick_in, content_with_mark, content_with_rows, has_brick, rows_count, rows_of_brick, sizes_of}
+use Rattle.brick_map.specs.Births.{BrickContent, CubeState, brick_in, content_with_mark, content_with_rows, has_brick, rows_count, rows_of_brick, cube_sizes}
 use Rattle.brick_map.specs.Cubes.{HasSameBricks}
 use Rattle.shard_cell.specs.Answers.{brick_rows_apart, brick_rows_shown}
 use Rattle.shard_cell.specs.Slots.{AreGroupsOf, HasSameSlot, IsSlotAfter, IsSlotCopy, slot_brick, untouched}
@@ -35,12 +35,12 @@ same_then old mid new same h recent = record {
 }
 
 -- rows are appended to a cube of this shape
-pub appended_in : (shape : CubeShape) (epoch : ℕ) (rows : List CodedRow) (old : Option CubeState) (mid new : CubeState) → HasSameSlot old (Some mid) → mid.shape ≡ shape → ((number : ℕ) → brick_in new number ≡ content_with_rows epoch (rows_of_brick (sizes_of mid) number rows) (brick_in mid number)) → (number : ℕ) → brick_in new number ≡ content_with_rows epoch (rows_of_brick shape.shape.sizes number rows) (slot_brick old number)
+pub appended_in : (shape : CubeShape) (epoch : ℕ) (rows : List CodedRow) (old : Option CubeState) (mid new : CubeState) → HasSameSlot old (Some mid) → mid.shape ≡ shape → ((number : ℕ) → brick_in new number ≡ content_with_rows epoch (rows_of_brick (cube_sizes mid) number rows) (brick_in mid number)) → (number : ℕ) → brick_in new number ≡ content_with_rows epoch (rows_of_brick shape.shape.sizes number rows) (slot_brick old number)
 appended_in shape epoch rows old mid new same is h number =
     h number ∙ (λ t. content_with_rows epoch (rows_of_brick (is t).shape.sizes number rows) (same.bricks number t))
 
 -- a box is deleted from a cube of this shape
-pub deleted_in : (shape : CubeShape) (epoch : ℕ) (box : Span) (old : Option CubeState) (mid new : CubeState) → HasSameSlot old (Some mid) → mid.shape ≡ shape → ((number : ℕ) → brick_in new number ≡ cond (has_brick (sizes_of mid) box number) (content_with_mark epoch (brick_in mid number)) (brick_in mid number)) → (number : ℕ) → brick_in new number ≡ cond (has_brick shape.shape.sizes box number) (content_with_mark epoch (slot_brick old number)) (slot_brick old number)
+pub deleted_in : (shape : CubeShape) (epoch : ℕ) (box : Span) (old : Option CubeState) (mid new : CubeState) → HasSameSlot old (Some mid) → mid.shape ≡ shape → ((number : ℕ) → brick_in new number ≡ cond (has_brick (cube_sizes mid) box number) (content_with_mark epoch (brick_in mid number)) (brick_in mid number)) → (number : ℕ) → brick_in new number ≡ cond (has_brick shape.shape.sizes box number) (content_with_mark epoch (slot_brick old number)) (slot_brick old number)
 deleted_in shape epoch box old mid new same is h number =
     h number ∙ (λ t. cond (has_brick (is t).shape.sizes box number) (content_with_mark epoch (same.bricks number t)) (same.bricks number t))
 

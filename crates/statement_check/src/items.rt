@@ -15,7 +15,8 @@ use cube_values::Text;
 
 fn not_grouped_in<'a>(items: &'a [Item], group: &[Text]) -> Option<&'a Text>
     ensures { option_copied result
-        ≡ find (λ name. not (list_any (bytes_eq name) group.now)) (filter_map plain_name items.now) }
+        ≡ find (λ name. not (list_any (bytes_eq name) group.now))
+        (filter_map plain_name items.now) }
 {
     let mut left = items;
     'items: while let [item, rest @ ..] = left {

@@ -25,8 +25,8 @@ use Rattle.round_reading.specs.RoundReading.{front_from, is_right_front, round_o
 use Rattle.round_reading.proofs.RoundLaws.{front_left, IsRound, found_by, round_again}
 use Rattle.store_reading.specs.declared.fault.PairFault.{PairFault}
 use Rattle.store_reading.specs.declared.fault.PairFault.TheVariants.{Damaged}
-use Rattle.store_reading.specs.Places.{place_of}
-use Rattle.store_reading.specs.Rounds.{is_read, begins_at, round_or_fault, following_from, next_from, IsReadable, IsNext}
+use Rattle.store_reading.specs.Places.{fault_place}
+use Rattle.store_reading.specs.Rounds.{is_read, begins_at, round_or_fault, following_from, next_from, IsReadable, IsNextRound}
 
 -- ---- the place of a fault
 
@@ -36,8 +36,8 @@ failed f = Err f
 err_is : (A : Type 0) {F : Type 0} (x y : F) → failed {A = A} x ≡ failed y → x ≡ y
 err_is A x y e = cc
 
-place_zero : (fault : FormatFault) → BadText 0 ≡ fault → (n : ℕ) → place_of fault ≤ n
-place_zero fault e n = omega (arith, ap place_of e)
+place_zero : (fault : FormatFault) → BadText 0 ≡ fault → (n : ℕ) → fault_place fault ≤ n
+place_zero fault e n = omega (arith, ap fault_place e)
 
 size_of_right : (from epoch size left : ℕ) → (nat_lt from epoch && (nat_lt epoch (2 ^ 63) && nat_le (size + 33) left)) ≡ true → size + 33 ≤ left
 size_of_right from epoch size left e =
@@ -45,21 +45,21 @@ size_of_right from epoch size left e =
     let b = both_true (nat_lt epoch (2 ^ 63)) (nat_le (size + 33) left) a.1 in
     leb-true _ _ b.1
 
-place_of_right : (right : Bool) (r : Result (Round × ℕ) FormatFault) (fault : FormatFault) (n : ℕ) → (right ≡ true → r ≡ Err fault → place_of fault ≤ n)
-    → cond right r (Err (BadText 0)) ≡ Err fault → place_of fault ≤ n
+place_of_right : (right : Bool) (r : Result (Round × ℕ) FormatFault) (fault : FormatFault) (n : ℕ) → (right ≡ true → r ≡ Err fault → fault_place fault ≤ n)
+    → cond right r (Err (BadText 0)) ≡ Err fault → fault_place fault ≤ n
 place_of_right true r fault n more e = more refl e
 place_of_right false r fault n more e = place_zero fault (err_is (Round × ℕ) (BadText 0) fault e) n
 
-place_of_digest : (same : Bool) (kept found : List ℕ) (r : Result (Round × ℕ) FormatFault) (fault : FormatFault) (n : ℕ) → (r ≡ Err fault → place_of fault ≤ n)
-    → cond same r (Err (BadDigest kept found)) ≡ Err fault → place_of fault ≤ n
+place_of_digest : (same : Bool) (kept found : List ℕ) (r : Result (Round × ℕ) FormatFault) (fault : FormatFault) (n : ℕ) → (r ≡ Err fault → fault_place fault ≤ n)
+    → cond same r (Err (BadDigest kept found)) ≡ Err fault → fault_place fault ≤ n
 place_of_digest true kept found r fault n more e = more e
-place_of_digest false kept found r fault n more e = omega (arith, ap place_of (err_is (Round × ℕ) (BadDigest kept found) fault e))
+place_of_digest false kept found r fault n more e = omega (arith, ap fault_place (err_is (Round × ℕ) (BadDigest kept found) fault e))
 
 pub place_within : (digest : List ℕ → List ℕ) (told : List ℕ → Option (List Decl)) (before : List Decl) (names : List DimNames) (bytes : List ℕ) (fault : FormatFault)
-    → round_from digest told before names bytes ≡ Err fault → place_of fault ≤ length bytes
+    → round_from digest told before names bytes ≡ Err fault → fault_place fault ≤ length bytes
 unfolding round_from
 place_within digest told before names bytes fault e =
-    elim (front_from bytes) as (λ r. front_from bytes ≡ r → round_behind digest told before names bytes r ≡ Err fault → place_of fault ≤ length bytes) [
+    elim (front_from bytes) as (λ r. front_from bytes ≡ r → round_behind digest told before names bytes r ≡ Err fault → fault_place fault ≤ length bytes) [
       | Err left ↦ λ is f. place_zero fault (err_is (Round × ℕ) (BadText 0) fault f) (length bytes)
       | Ok x ↦ λ is f.
           let p = x.0 in
@@ -68,9 +68,9 @@ place_within digest told before names bytes fault e =
           place_of_right (is_right_front p (length left)) _ fault (length bytes) (λ right inner.
           let fits : p.size + 24 ≤ length bytes = omega (arith, size_of_right p.from p.epoch p.size (length left) right, front_left bytes p left is) in
           place_of_digest (bytes_eq (take 32 (drop p.size left)) (digest (take (p.size + 24) bytes))) _ _ (round_of_content p payload) fault (length bytes)
-          (elim payload as (λ c. round_of_content p c ≡ Err fault → place_of fault ≤ length bytes) [
+          (elim payload as (λ c. round_of_content p c ≡ Err fault → fault_place fault ≤ length bytes) [
             | Ok content ↦ λ g. absurd cc
-            | Err behind ↦ λ g. omega (arith, fits, ap place_of (err_is (Round × ℕ) (BadText (p.size + 24 - behind)) fault g))
+            | Err behind ↦ λ g. omega (arith, fits, ap fault_place (err_is (Round × ℕ) (BadText (p.size + 24 - behind)) fault g))
           ]) inner) f
     ] refl e
 
@@ -113,7 +113,7 @@ following_was true start r x e = (refl, e)
 following_was false start r x e = absurd cc
 
 next_is : (digest : List ℕ → List ℕ) (kept : Kept) (bytes : List ℕ) (x : Round × ℕ) → IsRound digest kept.cubes kept.names bytes x → begins_at kept.epoch bytes ≡ true
-    → IsNext digest kept (open_gate ∷ bytes) x
+    → IsNextRound digest kept (open_gate ∷ bytes) x
 next_is digest kept bytes x round says =
     let begins = round.begins in
     let text = round_bytes digest kept.cubes x.0 in
@@ -130,11 +130,11 @@ next_is digest kept bytes x round says =
     }
 
 pub next_takes : (digest : List ℕ → List ℕ) → ((m : List ℕ) → length (digest m) ≡ 32) → (told : List ℕ → Option (List Decl)) → TellsCubes told → (size : ℕ) (kept : Kept) → IsReadable kept
-    → (bytes : List ℕ) → IsBytes bytes → (x : Round × ℕ) → next_from digest told size kept bytes ≡ Ok (Some x) → IsNext digest kept bytes x
+    → (bytes : List ℕ) → IsBytes bytes → (x : Round × ℕ) → next_from digest told size kept bytes ≡ Ok (Some x) → IsNextRound digest kept bytes x
 unfolding next_from
 next_takes digest wide told tells size kept readable [] fits x e = absurd cc
 next_takes digest wide told tells size kept readable (gate ∷ bytes) fits x e =
-    elim (gate == open_gate) as (λ b. (gate == open_gate) ≡ b → cond b (following_from digest told kept (size - length bytes) bytes) (Ok None) ≡ Ok (Some x) → IsNext digest kept (gate ∷ bytes) x) [
+    elim (gate == open_gate) as (λ b. (gate == open_gate) ≡ b → cond b (following_from digest told kept (size - length bytes) bytes) (Ok None) ≡ Ok (Some x) → IsNextRound digest kept (gate ∷ bytes) x) [
       | true ↦ λ is r.
           let f = following_was (begins_at kept.epoch bytes) (size - length bytes) (round_or_fault (length kept.rounds + 1) (size - length bytes) (round_from digest told kept.cubes kept.names bytes)) x r in
           let was = round_was (length kept.rounds + 1) (size - length bytes) (round_from digest told kept.cubes kept.names bytes) x f.1 in
@@ -203,7 +203,7 @@ next_again digest wide told tells one_list size kept readable round gate rest fi
 
 pub next_found : (digest : List ℕ → List ℕ) → ((m : List ℕ) → length (digest m) ≡ 32) → (told : List ℕ → Option (List Decl)) → TellsCubes told → (size : ℕ) (kept : Kept) → IsReadable kept
     → (bytes : List ℕ) → IsBytes bytes → (r : Result (Option (Round × ℕ)) (CallError PairFault)) → GivesRead (λ x. x) r (next_from digest told size kept bytes)
-    → IfOk r (λ o. IfSome o (IsNext digest kept bytes))
+    → IfOk r (λ o. IfSome o (IsNextRound digest kept bytes))
 next_found digest wide told tells size kept readable bytes fits (Ok (Some x)) given = next_takes digest wide told tells size kept readable bytes fits x given
 next_found digest wide told tells size kept readable bytes fits (Ok None) given = tt
 next_found digest wide told tells size kept readable bytes fits (Err e) given = tt

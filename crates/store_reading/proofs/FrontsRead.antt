@@ -18,7 +18,7 @@ use Rattle.round_text.specs.HeaderReading.{text_start, header_of, header_from}
 use Rattle.round_text.proofs.HeaderLaws.{header_again, length-header}
 use Rattle.store_reading.specs.declared.fault.PairFault.{PairFault}
 use Rattle.store_reading.specs.declared.fault.PairFault.TheVariants.{Version}
-use Rattle.store_reading.specs.Fronts.{is_closed, header_or_fault, header_of_version, opened_front, front_from}
+use Rattle.store_reading.specs.Fronts.{is_closed, header_or_fault, header_of_version, opened_front, header_or_closed}
 
 either_true : (a b : Bool) → (a || b) ≡ true → (a ≡ true) ⊎ (b ≡ true)
 either_true true b e = inl refl
@@ -134,7 +134,7 @@ known_version version rest header (inr two) = rw two refl
 
 pub front_again : (digest : List ℕ → List ℕ) → ((m : List ℕ) → length (digest m) ≡ 32) → (told : List ℕ → Option (List Decl)) → TellsCubes told
     → (generation : ℕ) (text file : List ℕ) → BeginsWithHeader digest generation text file
-    → front_from digest told file ≡ Ok (Some (header_of (text_start generation) generation text))
+    → header_or_closed digest told file ≡ Ok (Some (header_of (text_start generation) generation text))
 front_again digest wide told tells generation text file begins =
     let front = front_at digest generation text file begins in
     let opened = header_is_open front.0 file (front_long digest wide generation text file begins) front.1 in
@@ -146,7 +146,7 @@ front_again digest wide told tells generation text file begins =
     ∙ known_version front.0 front.1.rest (header_from digest told file) front.1.known
     ∙ ap header_or_fault header
 
-pub front_closed : (digest : List ℕ → List ℕ) (told : List ℕ → Option (List Decl)) (file : List ℕ) → IsClosed file → front_from digest told file ≡ Ok None
+pub front_closed : (digest : List ℕ → List ℕ) (told : List ℕ → Option (List Decl)) (file : List ℕ) → IsClosed file → header_or_closed digest told file ≡ Ok None
 front_closed digest told file closed = ap (λ b. cond b (Ok None) (opened_front digest told file)) (is_closed_by file closed)
 
 -- ---- what a front was
@@ -168,7 +168,7 @@ front_tested true r there e = refl
 front_tested false r there e = absurd (there e)
 
 -- A file without a header is closed.
-pub none_is_closed : (digest : List ℕ → List ℕ) (told : List ℕ → Option (List Decl)) (file : List ℕ) → front_from digest told file ≡ Ok None → IsClosed file
+pub none_is_closed : (digest : List ℕ → List ℕ) (told : List ℕ → Option (List Decl)) (file : List ℕ) → header_or_closed digest told file ≡ Ok None → IsClosed file
 none_is_closed digest told file e =
     closed_is file (front_tested (is_closed file) (opened_front digest told file) (version_there (four_from (drop 8 file)) (header_from digest told file)) e)
 
@@ -185,7 +185,7 @@ version_was (Ok version) header h e = tested (not (version.0 == 1) && not (versi
     tested false e = header_was header h e
 
 -- A header that was read was read from the file.
-pub front_was : (digest : List ℕ → List ℕ) (told : List ℕ → Option (List Decl)) (file : List ℕ) (h : Header) → front_from digest told file ≡ Ok (Some h) → header_from digest told file ≡ Ok h
+pub front_was : (digest : List ℕ → List ℕ) (told : List ℕ → Option (List Decl)) (file : List ℕ) (h : Header) → header_or_closed digest told file ≡ Ok (Some h) → header_from digest told file ≡ Ok h
 front_was digest told file h e = tested (is_closed file) e
   where
     tested : (b : Bool) → cond b (Ok None) (opened_front digest told file) ≡ Ok (Some h) → header_from digest told file ≡ Ok h

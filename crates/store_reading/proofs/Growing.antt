@@ -11,7 +11,7 @@ use Rattle.cube_rounds.specs.declared.round.Round.{Round}
 use Rattle.cube_rounds.specs.Demands.{DimNames, names_with, no_names, HaveDims, FitsRoundCube, FitsRound}
 use Rattle.cube_rounds.specs.Stands.{Kept, kept_with}
 use Rattle.round_reading.proofs.PayloadLaws.{no_names_dims}
-use Rattle.store_reading.specs.Parts.{NamesFit, all_names_with}
+use Rattle.store_reading.specs.Parts.{HaveNameLists, all_names_with}
 use Rattle.store_reading.specs.Rounds.{IsReadable}
 
 zip_all_length : {A B : Type 0} (R : A → B → Type 0) (xs : List A) (ys : List B) → AllZip R xs ys → length xs ≡ length ys
@@ -32,7 +32,7 @@ part_fits from epoch cube lists part same fits =
     omega (arith, length-zip cube.dims lists, zip_all_length _ (zip cube.dims lists) part.names fits.names)
 
 names_fit : (from epoch : ℕ) (cubes : List Decl) (names : List DimNames) (parts : List RoundCube) → HaveDims cubes names
-    → AllZip (λ c part. FitsRoundCube from epoch c.0 c.1 part) (zip cubes names) parts → NamesFit names parts
+    → AllZip (λ c part. FitsRoundCube from epoch c.0 c.1 part) (zip cubes names) parts → HaveNameLists names parts
 names_fit from epoch [] [] [] dims fits = tt
 names_fit from epoch [] [] (part ∷ parts) dims fits = absurd fits
 names_fit from epoch [] (lists ∷ names) parts dims fits = absurd dims
@@ -44,7 +44,7 @@ names_fit from epoch (cube ∷ cubes) (lists ∷ names) (part ∷ parts) dims fi
 with_long : (lists more : DimNames) → length lists ≡ length more → length (names_with lists more) ≡ length lists
 with_long lists more same = length-map (zip lists more) (λ d. d.0 ++ d.1) ∙ omega (arith, length-zip lists more)
 
-dims_more : (cubes : List Decl) (names : List DimNames) (parts : List RoundCube) → HaveDims cubes names → NamesFit names parts → HaveDims cubes (all_names_with names parts)
+dims_more : (cubes : List Decl) (names : List DimNames) (parts : List RoundCube) → HaveDims cubes names → HaveNameLists names parts → HaveDims cubes (all_names_with names parts)
 dims_more [] [] [] dims fit = tt
 dims_more [] [] (part ∷ parts) dims fit = absurd fit
 dims_more [] (lists ∷ names) parts dims fit = absurd dims
@@ -57,7 +57,7 @@ dims_with_made : (kept : Kept) (made : List Decl) → HaveDims kept.cubes kept.n
 dims_with_made kept made dims = zip_all_append (λ cube lists. length lists ≡ length cube.dims) kept.cubes made kept.names (map no_names made) dims (no_names_dims made)
 
 -- A round that may follow has a list of names for each list that there is.
-pub round_names_fit : (kept : Kept) (round : Round) → FitsRound kept.cubes kept.names round → NamesFit (kept.names ++ map no_names round.made) round.cubes
+pub round_names_fit : (kept : Kept) (round : Round) → FitsRound kept.cubes kept.names round → HaveNameLists (kept.names ++ map no_names round.made) round.cubes
 round_names_fit kept round fits =
     names_fit round.from round.epoch (kept.cubes ++ round.made) (kept.names ++ map no_names round.made) round.cubes (dims_with_made kept round.made fits.dims) fits.cubes
 
@@ -67,10 +67,10 @@ readable_more kept round readable fits = record {
   dims = dims_more (kept.cubes ++ round.made) (kept.names ++ map no_names round.made) round.cubes (dims_with_made kept round.made fits.dims) (round_names_fit kept round fits);
 }
 
-pub fit_length : (names : List DimNames) (parts : List RoundCube) → NamesFit names parts → length names ≡ length parts
+pub fit_length : (names : List DimNames) (parts : List RoundCube) → HaveNameLists names parts → length names ≡ length parts
 fit_length names parts fit = zip_all_length _ names parts fit
 
-pub fit_at : (names : List DimNames) (parts : List RoundCube) (i : ℕ) (d : DimNames) (e : RoundCube) → NamesFit names parts → i < length parts
+pub fit_at : (names : List DimNames) (parts : List RoundCube) (i : ℕ) (d : DimNames) (e : RoundCube) → HaveNameLists names parts → i < length parts
     → length (get_or names i d) ≡ length (get_or parts i e).names
 fit_at [] [] i d e fit lt = absurd (omega arith)
 fit_at [] (part ∷ parts) i d e fit lt = absurd fit

@@ -22,7 +22,7 @@ use Rattle.round_text.proofs.HeaderLaws.{IsHeader, found_by, length-header}
 use Rattle.store_reading.specs.declared.fault.PairFault.{PairFault}
 use Rattle.store_reading.specs.declared.pair.StorePlace.{StorePlace}
 use Rattle.store_reading.specs.declared.pair.OpenedPair.{OpenedPair}
-use Rattle.store_reading.specs.Fronts.{front_from, BeginsWith}
+use Rattle.store_reading.specs.Fronts.{header_or_closed, HasFrontHeader}
 use Rattle.store_reading.specs.Rounds.{RoundsEnd, rounds_end, rounds_from, IsReadable}
 use Rattle.store_reading.specs.Pairs.{CurrentHeader, current_of, PairContent, pair_content, place_at, content_at, cubes_told, content_from, file_of, pair_from, StandsAt}
 use Rattle.store_reading.proofs.Currents.{front_of, IsBehind, IsNewer, current_was, first_again, second_again}
@@ -35,7 +35,7 @@ pub readable_cubes : (text : List ℕ) (cubes : List Decl) → Declares text cub
 readable_cubes text cubes declares = record { storable = declares.storable; dims = no_names_dims cubes }
 
 file_front : (digest : List ℕ → List ℕ) (told : List ℕ → Option (List Decl)) (second : Bool) (first other : List ℕ) (a b : Option Header)
-    → front_from digest told first ≡ Ok a → front_from digest told other ≡ Ok b → front_from digest told (file_of second first other) ≡ Ok (front_of second a b)
+    → header_or_closed digest told first ≡ Ok a → header_or_closed digest told other ≡ Ok b → header_or_closed digest told (file_of second first other) ≡ Ok (front_of second a b)
 file_front digest told true first other a b x y = y
 file_front digest told false first other a b x y = x
 
@@ -44,10 +44,10 @@ file_fits true first other x y = y
 file_fits false first other x y = x
 
 -- The file of a header that was read.
-header_at : (digest : List ℕ → List ℕ) (told : List ℕ → Option (List Decl)) → TellsCubes told → (file : List ℕ) → IsBytes file → (h : Header) → front_from digest told file ≡ Ok (Some h) → IsHeader digest file h
+header_at : (digest : List ℕ → List ℕ) (told : List ℕ → Option (List Decl)) → TellsCubes told → (file : List ℕ) → IsBytes file → (h : Header) → header_or_closed digest told file ≡ Ok (Some h) → IsHeader digest file h
 header_at digest told tells file fits h e = found_by told tells digest file fits (Ok h) (front_was digest told file h e)
 
-behind_is : (digest : List ℕ → List ℕ) (told : List ℕ → Option (List Decl)) → TellsCubes told → (generation : ℕ) (file : List ℕ) → IsBytes file → (o : Option Header) → front_from digest told file ≡ Ok o
+behind_is : (digest : List ℕ → List ℕ) (told : List ℕ → Option (List Decl)) → TellsCubes told → (generation : ℕ) (file : List ℕ) → IsBytes file → (o : Option Header) → header_or_closed digest told file ≡ Ok o
     → IsBehind generation o → IsClosed file ⊎ IsOlder digest generation file
 behind_is digest told tells generation file fits None e behind = inl (none_is_closed digest told file e)
 behind_is digest told tells generation file fits (Some h) e behind =
@@ -59,7 +59,7 @@ header_size : (digest : List ℕ → List ℕ) → ((m : List ℕ) → length (d
 header_size digest wide file h is = omega (arith, is.size, length-header digest wide h.generation h.cubes)
 
 stands_from : (digest : List ℕ → List ℕ) → ((m : List ℕ) → length (digest m) ≡ 32) → (told : List ℕ → Option (List Decl)) → TellsCubes told → TextsDeclareOneList
-    → (c : CurrentHeader) (file other : List ℕ) → IsBytes file → front_from digest told file ≡ Ok (Some c.1) → c.1.generation ≤ 2 ^ 61
+    → (c : CurrentHeader) (file other : List ℕ) → IsBytes file → header_or_closed digest told file ≡ Ok (Some c.1) → c.1.generation ≤ 2 ^ 61
     → (IsClosed other ⊎ IsOlder digest c.1.generation other) → (content : PairContent) → content_from digest told c file ≡ Ok content
     → StandsAt digest content file other × (content.place.second ≡ c.0)
 stands_from digest wide told tells one_list c file other fits front most behind content e =
@@ -116,16 +116,16 @@ pub pair_takes : (digest : List ℕ → List ℕ) → ((m : List ℕ) → length
 pair_takes digest wide told tells one_list first second fits1 fits2 content e =
     let last : CurrentHeader → Result PairContent PairFault = λ c. content_from digest told c (file_of c.0 first second) in
     let middle : Option Header → Option Header → Result PairContent PairFault = λ a b. current_of a b >>= last in
-    let start : Option Header → Result PairContent PairFault = λ a. front_from digest told second >>= middle a in
-    let x = bind_ok (front_from digest told first) start content e in
-    let y = bind_ok (front_from digest told second) (middle x.0) content x.2 in
+    let start : Option Header → Result PairContent PairFault = λ a. header_or_closed digest told second >>= middle a in
+    let x = bind_ok (header_or_closed digest told first) start content e in
+    let y = bind_ok (header_or_closed digest told second) (middle x.0) content x.2 in
     let z = bind_ok (current_of x.0 y.0) last content y.2 in
     let c = z.0 in
     let newer = current_was x.0 y.0 c z.1 in
     let file = file_of c.0 first second in
     let other = file_of c.0 second first in
     let fits = file_fits c.0 first second fits1 fits2 in
-    let front : front_from digest told file ≡ Ok (Some c.1) = file_front digest told c.0 first second x.0 y.0 x.1 y.1 ∙ ap Ok newer.mine in
+    let front : header_or_closed digest told file ≡ Ok (Some c.1) = file_front digest told c.0 first second x.0 y.0 x.1 y.1 ∙ ap Ok newer.mine in
     let behind = behind_is digest told tells c.1.generation other (file_fits c.0 second first fits2 fits1) (front_of c.0 y.0 x.0) (file_front digest told c.0 second first y.0 x.0 y.1 x.1) newer.behind in
     let s = stands_from digest wide told tells one_list c file other fits front newer.most behind content z.2 in
     subst (λ (b : Bool). StandsAt digest content (file_of b first second) (file_of b second first)) (sym s.1) s.0
@@ -144,7 +144,7 @@ stands_begin digest generation kept file s =
     }
 
 behind_front : (digest : List ℕ → List ℕ) → ((m : List ℕ) → length (digest m) ≡ 32) → (told : List ℕ → Option (List Decl)) → TellsCubes told → (generation : ℕ) (file : List ℕ)
-    → (IsClosed file ⊎ IsOlder digest generation file) → (o : Option Header) × (front_from digest told file ≡ Ok o) × IsBehind generation o
+    → (IsClosed file ⊎ IsOlder digest generation file) → (o : Option Header) × (header_or_closed digest told file ≡ Ok o) × IsBehind generation o
 behind_front digest wide told tells generation file (inl closed) = (None, front_closed digest told file closed, tt)
 behind_front digest wide told tells generation file (inr older) =
     (Some (header_of (text_start older.own) older.own older.text), front_again digest wide told tells older.own older.text file older.header, older.less)
@@ -195,7 +195,7 @@ pair_again digest wide told tells one_list kept first second fits1 fits2 short1 
     let last : CurrentHeader → Result PairContent PairFault = λ c. content_from digest told c (file_of c.0 first second) in
     record {
       place = content.0;
-      read = ap (λ (r : Result (Option Header) PairFault). r >>= λ a. front_from digest told second >>= λ b. current_of a b >>= last) front
+      read = ap (λ (r : Result (Option Header) PairFault). r >>= λ a. header_or_closed digest told second >>= λ b. current_of a b >>= last) front
           ∙ ap (λ (r : Result (Option Header) PairFault). r >>= λ b. current_of (Some h) b >>= last) behind.1
           ∙ ap (λ (r : Result CurrentHeader PairFault). r >>= last) (first_again h behind.0 current.most behind.2)
           ∙ content.1;
@@ -209,7 +209,7 @@ pair_again digest wide told tells one_list kept first second fits1 fits2 short1 
     let last : CurrentHeader → Result PairContent PairFault = λ c. content_from digest told c (file_of c.0 first second) in
     record {
       place = content.0;
-      read = ap (λ (r : Result (Option Header) PairFault). r >>= λ a. front_from digest told second >>= λ b. current_of a b >>= last) behind.1
+      read = ap (λ (r : Result (Option Header) PairFault). r >>= λ a. header_or_closed digest told second >>= λ b. current_of a b >>= last) behind.1
           ∙ ap (λ (r : Result (Option Header) PairFault). r >>= λ b. current_of behind.0 b >>= last) front
           ∙ ap (λ (r : Result CurrentHeader PairFault). r >>= last) (second_again behind.0 h current.most behind.2)
           ∙ content.1;
@@ -224,17 +224,17 @@ pub only_error : (e : CallError PairFault) (c : PairContent) → FailsRead e (ri
 only_error errors.NoMemory c given = refl
 only_error (errors.Fault f) c given = absurd cc
 
-begins_of : (digest : List ℕ → List ℕ) (second : Bool) (a b : Option Header) (first other : List ℕ) → IfSome a (BeginsWith digest first) → IfSome b (BeginsWith digest other)
-    → IfSome (front_of second a b) (BeginsWith digest (file_of second first other))
+begins_of : (digest : List ℕ → List ℕ) (second : Bool) (a b : Option Header) (first other : List ℕ) → IfSome a (HasFrontHeader digest first) → IfSome b (HasFrontHeader digest other)
+    → IfSome (front_of second a b) (HasFrontHeader digest (file_of second first other))
 begins_of digest true a b first other x y = y
 begins_of digest false a b first other x y = x
 
 -- The current header stands in its file.
-pub current_begins : (digest : List ℕ → List ℕ) (a b : Option Header) (c : CurrentHeader) (first other : List ℕ) → current_of a b ≡ Ok c → IfSome a (BeginsWith digest first)
-    → IfSome b (BeginsWith digest other) → BeginsWith digest (file_of c.0 first other) c.1
+pub current_begins : (digest : List ℕ → List ℕ) (a b : Option Header) (c : CurrentHeader) (first other : List ℕ) → current_of a b ≡ Ok c → IfSome a (HasFrontHeader digest first)
+    → IfSome b (HasFrontHeader digest other) → HasFrontHeader digest (file_of c.0 first other) c.1
 current_begins digest a b c first other e x y =
     let newer = current_was a b c e in
-    subst (λ (o : Option Header). IfSome o (BeginsWith digest (file_of c.0 first other))) newer.mine (begins_of digest c.0 a b first other x y)
+    subst (λ (o : Option Header). IfSome o (HasFrontHeader digest (file_of c.0 first other))) newer.mine (begins_of digest c.0 a b first other x y)
 
 -- The content of a pair that was opened.
 abbrev pub content_of : OpenedPair → PairContent

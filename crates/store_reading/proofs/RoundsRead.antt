@@ -13,7 +13,7 @@ use Rattle.cube_values.specs.declared.call_error.CallError.TheVariants as errors
 use Rattle.round_fields.specs.Reading.{◌>>=◌, FailsRead}
 use Rattle.round_fields.proofs.FieldLaws.{IsBytes, IsBytes-drop, bind_ok, ok_is}
 use Rattle.store_reading.specs.declared.fault.PairFault.{PairFault}
-use Rattle.store_reading.specs.Rounds.{next_from, RoundsEnd, rounds_end, and_more, rounds_from, IsReadable, IsNext}
+use Rattle.store_reading.specs.Rounds.{next_from, RoundsEnd, rounds_end, and_more, rounds_from, IsReadable, IsNextRound}
 use Rattle.store_reading.proofs.Following.{IsShut, next_takes, next_ends, next_shut, next_again}
 use Rattle.store_reading.proofs.Growing.{readable_more}
 
@@ -26,7 +26,7 @@ pub record TakesRounds (digest : List ℕ → List ℕ) (kept : Kept) (bytes : L
   pub ends : IsShut end.left
 
 -- One round more at the front.
-takes_more : (digest : List ℕ → List ℕ) (kept : Kept) (bytes : List ℕ) (x : Round × ℕ) (end : RoundsEnd) → IsNext digest kept bytes x
+takes_more : (digest : List ℕ → List ℕ) (kept : Kept) (bytes : List ℕ) (x : Round × ℕ) (end : RoundsEnd) → IsNextRound digest kept bytes x
     → TakesRounds digest (kept_with kept x.0) (drop x.1 bytes) end → TakesRounds digest kept bytes end
 takes_more digest kept bytes x end next more = record {
   rounds = x.0 ∷ more.rounds;
@@ -155,7 +155,7 @@ unfolding rounds_from
 rounds_step digest told size n kept bytes x e =
     ap (λ (r : Result (Option (Round × ℕ)) PairFault). r >>= and_more (λ k b. rounds_from digest told size n k b) kept bytes) e
 
-reads_more : (digest : List ℕ → List ℕ) (size most : ℕ) (kept begun : Kept) (left bytes : List ℕ) (x : Round × ℕ) → IsNext digest kept left x
+reads_more : (digest : List ℕ → List ℕ) (size most : ℕ) (kept begun : Kept) (left bytes : List ℕ) (x : Round × ℕ) → IsNextRound digest kept left x
     → ((told : List ℕ → Option (List Decl)) → TellsCubes told → next_from digest told size kept left ≡ Ok (Some x)) → length left ≤ most
     → ((told : List ℕ → Option (List Decl)) → TellsCubes told → rounds_from digest told size most kept left ≡ rounds_from digest told size size begun bytes)
     → ReadsOn digest size (kept_with kept x.0) begun (drop x.1 left) bytes
@@ -166,7 +166,7 @@ reads_more digest size (suc n) kept begun left bytes x is next few same = record
   same = λ told tells. sym (rounds_step digest told size n kept left x (next told tells)) ∙ same told tells;
 }
 
-pub reads_on : (digest : List ℕ → List ℕ) (size : ℕ) (kept begun : Kept) (left bytes : List ℕ) (x : Round × ℕ) → IsNext digest kept left x
+pub reads_on : (digest : List ℕ → List ℕ) (size : ℕ) (kept begun : Kept) (left bytes : List ℕ) (x : Round × ℕ) → IsNextRound digest kept left x
     → ((told : List ℕ → Option (List Decl)) → TellsCubes told → next_from digest told size kept left ≡ Ok (Some x)) → ReadsOn digest size kept begun left bytes
     → ReadsOn digest size (kept_with kept x.0) begun (drop x.1 left) bytes
 reads_on digest size kept begun left bytes x is next on = reads_more digest size on.most kept begun left bytes x is next on.few on.same
@@ -177,7 +177,7 @@ pub record IsFurther (digest : List ℕ → List ℕ) (size : ℕ) (begun : Kept
   pub readable : IsReadable kept
   pub so_far : ReadsOn digest size kept begun left bytes
 
-pub further : (digest : List ℕ → List ℕ) (size : ℕ) (kept begun after : Kept) (left bytes behind : List ℕ) (x : Round × ℕ) → IsNext digest kept left x
+pub further : (digest : List ℕ → List ℕ) (size : ℕ) (kept begun after : Kept) (left bytes behind : List ℕ) (x : Round × ℕ) → IsNextRound digest kept left x
     → ((told : List ℕ → Option (List Decl)) → TellsCubes told → next_from digest told size kept left ≡ Ok (Some x)) → after ≡ kept_with kept x.0 → behind ≡ drop x.1 left
     → IsReadable kept → length kept.rounds + length left ≤ size → ReadsOn digest size kept begun left bytes → IsFurther digest size begun bytes after behind
 further digest size kept begun after left bytes behind x is next after-is behind-is readable fits on =

@@ -37,10 +37,10 @@ abbrev pub opened_front : (List ℕ → List ℕ) → (List ℕ → Option (List
 opened_front digest told file = header_of_version (four_from (drop 8 file)) (header_from digest told file)
 
 -- The header of a file, and none where it is closed.
-abbrev pub front_from : (List ℕ → List ℕ) → (List ℕ → Option (List Decl)) → List ℕ → Result (Option Header) PairFault
-front_from digest told file = if is_closed file then Ok None else opened_front digest told file
+abbrev pub header_or_closed : (List ℕ → List ℕ) → (List ℕ → Option (List Decl)) → List ℕ → Result (Option Header) PairFault
+header_or_closed digest told file = if is_closed file then Ok None else opened_front digest told file
 
 -- A header stands at the front of the bytes, and has this size with the gate behind it.
-pub record BeginsWith (digest : List ℕ → List ℕ) (file : List ℕ) (header : Header) : Type 0 where
+pub record HasFrontHeader (digest : List ℕ → List ℕ) (file : List ℕ) (header : Header) : Type 0 where
   pub begins : BeginsWithHeader digest header.generation header.cubes file
   pub size : header.size ≡ length (header_bytes digest header.generation header.cubes) + 1

@@ -9,7 +9,7 @@ use Rattle.round_text.specs.declared.header.Header.{Header}
 use Rattle.store_reading.specs.declared.fault.PairFault.{PairFault}
 use Rattle.store_reading.specs.declared.fault.PairFault.TheVariants.{NotAStore, TwoGenerations, GenerationsSpent}
 use Rattle.store_reading.specs.declared.pair.StorePlace.{StorePlace}
-use Rattle.store_reading.specs.Fronts.{front_from}
+use Rattle.store_reading.specs.Fronts.{header_or_closed}
 use Rattle.store_reading.specs.Rounds.{RoundsEnd, rounds_from}
 
 -- Whether the second file is the current one, and the header of the current one.
@@ -71,8 +71,8 @@ file_of second first other = if second then other else first
 abbrev pub pair_from : (List ℕ → List ℕ) → (List ℕ → Option (List Decl)) → List ℕ → List ℕ
     → Result PairContent PairFault
 pair_from digest told first second = do
-  a ← front_from digest told first
-  b ← front_from digest told second
+  a ← header_or_closed digest told first
+  b ← header_or_closed digest told second
   current ← current_of a b
   content_from digest told current (file_of current.0 first second)
 

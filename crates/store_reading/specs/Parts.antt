@@ -10,5 +10,5 @@ abbrev pub all_names_with : List DimNames → List RoundCube → List DimNames
 all_names_with names parts = map (λ c. names_with c.0 c.1.names) (zip names parts)
 
 -- Each part of a round has as many lists of new names as its cube has lists of names.
-abbrev pub NamesFit : List DimNames → List RoundCube → Type 0
-NamesFit names parts = AllZip (λ lists part. length lists ≡ length part.names) names parts
+abbrev pub HaveNameLists : List DimNames → List RoundCube → Type 0
+HaveNameLists names parts = AllZip (λ lists part. length lists ≡ length part.names) names parts

@@ -5,6 +5,6 @@ use Rattle.round_fields.specs.declared.fault.FormatFault.{FormatFault}
 use Rattle.round_fields.specs.declared.fault.FormatFault.TheVariants.{BadText, BadDigest}
 
 -- The place that a fault names, and 0 where it names none.
-abbrev pub place_of : FormatFault → ℕ
-place_of (BadText at) = at
-place_of (BadDigest kept found) = 0
+abbrev pub fault_place : FormatFault → ℕ
+fault_place (BadText at) = at
+fault_place (BadDigest kept found) = 0

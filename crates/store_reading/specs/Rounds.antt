@@ -77,7 +77,7 @@ pub record IsReadable (kept : Kept) : Type 0 where
   pub dims : HaveDims kept.cubes kept.names
 
 -- This round follows what is kept at the front of the bytes, behind its gate, and so many bytes lie before the next.
-pub record IsNext (digest : List ℕ → List ℕ) (kept : Kept) (bytes : List ℕ) (next : Round × ℕ) : Type 0 where
+pub record IsNextRound (digest : List ℕ → List ℕ) (kept : Kept) (bytes : List ℕ) (next : Round × ℕ) : Type 0 where
   pub fits : FitsRound kept.cubes kept.names next.0
   pub from : next.0.from ≡ kept.epoch
   pub size : next.1 ≡ length (round_bytes digest kept.cubes next.0) + 1

@@ -3,7 +3,7 @@
 ghost use Rattle.std.specs.Prelude.{◌≡◌, ◌+◌, ◌<◌, ◌^◌};
 ghost use Rattle.store_reading.specs.Fronts.{header_fault};
 ghost use Rattle.store_reading.specs.Rounds.{round_fault};
-ghost use Rattle.store_reading.specs.Places.{place_of};
+ghost use Rattle.store_reading.specs.Places.{fault_place};
 
 use round_fields::FormatFault;
 
@@ -52,7 +52,7 @@ pub(crate) fn header_fault(fault: FormatFault) -> PairFault
 
 /// The fault of a round that begins at a place of its file.
 pub(crate) fn round_fault(number: u64, start: u64, fault: FormatFault) -> PairFault
-    requires { start + place_of fault < 2 ^ 64 }
+    requires { start + fault_place fault < 2 ^ 64 }
     ensures { result ≡ round_fault number start fault }
 {
     match fault {

@@ -6,7 +6,7 @@ ghost use Rattle.cube_rounds.specs.Headers.{BeginsWithHeader, header_bytes};
 ghost use Rattle.round_fields.specs.Canonical.{TellsCubes};
 ghost use Rattle.round_fields.specs.Reading.{GivesRead};
 ghost use Rattle.sha2.specs.Sha256.{sha256};
-ghost use Rattle.store_reading.specs.Fronts.{is_closed, front_from, opened_front, BeginsWith};
+ghost use Rattle.store_reading.specs.Fronts.{is_closed, header_or_closed, opened_front, HasFrontHeader};
 
 use crate::fault::{PairFault, header_fault};
 use cube_values::CallError;
@@ -26,7 +26,7 @@ fn opened_front(alloc: Global, file: &[u8]) -> Result<Option<Header>, CallError<
     requires { 16 ≤ length file.now }
     ensures exact { (told : List ℕ → Option (List Decl)) → TellsCubes told
         → GivesRead (λ h. h) result (opened_front sha256 told file.now) }
-    ensures found { IfOk result (λ o. IfSome o (BeginsWith sha256 file.now)) }
+    ensures found { IfOk result (λ o. IfSome o (HasFrontHeader sha256 file.now)) }
 {
     let (_, rest) = file.split_at(8);
     match four_of(rest) {
@@ -48,8 +48,8 @@ fn opened_front(alloc: Global, file: &[u8]) -> Result<Option<Header>, CallError<
 /// The header of a file, and none where the file is closed.
 pub(crate) fn front_of(alloc: Global, file: &[u8]) -> Result<Option<Header>, CallError<PairFault>>
     ensures exact { (told : List ℕ → Option (List Decl)) → TellsCubes told
-        → GivesRead (λ h. h) result (front_from sha256 told file.now) }
-    ensures found { IfOk result (λ o. IfSome o (BeginsWith sha256 file.now)) }
+        → GivesRead (λ h. h) result (header_or_closed sha256 told file.now) }
+    ensures found { IfOk result (λ o. IfSome o (HasFrontHeader sha256 file.now)) }
 {
     if is_closed(file) {
         return Ok(None);

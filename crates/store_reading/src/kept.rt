@@ -4,7 +4,7 @@ ghost use Rattle.std.specs.Prelude.{◌≡◌, ◌++◌, map, All, IfOk};
 ghost use Rattle.cube_language.specs.Cubes.{IsStorable};
 ghost use Rattle.cube_rounds.specs.Demands.{no_names, FitsRound};
 ghost use Rattle.cube_rounds.specs.Stands.{kept_of_cubes, kept_with};
-ghost use Rattle.store_reading.specs.Parts.{NamesFit};
+ghost use Rattle.store_reading.specs.Parts.{HaveNameLists};
 
 use crate::names::names_behind;
 use cube_language::Decl;
@@ -90,7 +90,7 @@ impl Kept {
     /// What is kept with one round more.
     pub fn with_round(self, alloc: Global, round: Round) -> Result<Kept, AllocError>
         requires storable { All IsStorable round.made }
-        requires names { NamesFit (self.names ++ map no_names round.made) round.cubes }
+        requires names { HaveNameLists (self.names ++ map no_names round.made) round.cubes }
         ensures { IfOk result (λ kept. kept ≡ kept_with self round) }
     {
         let Kept {

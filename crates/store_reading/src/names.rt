@@ -3,7 +3,7 @@
 ghost use Rattle.std.specs.Prelude.{◌≡◌, ◌++◌, map, length, IfOk, OnOk};
 ghost use Rattle.std.specs.List.{zip};
 ghost use Rattle.cube_rounds.specs.Demands.{no_names, names_with};
-ghost use Rattle.store_reading.specs.Parts.{NamesFit, all_names_with};
+ghost use Rattle.store_reading.specs.Parts.{HaveNameLists, all_names_with};
 
 use cube_language::Decl;
 use cube_rounds::RoundCube;
@@ -63,7 +63,7 @@ pub(crate) fn names_behind(
     made: &[Decl],
     parts: &[RoundCube],
 ) -> Result<NameLists, AllocError>
-    requires { NamesFit (names ++ map no_names made.now) parts.now }
+    requires { HaveNameLists (names ++ map no_names made.now) parts.now }
     ensures { IfOk result (λ all.
         all ≡ all_names_with (names ++ map no_names made.now) parts.now) }
 {

@@ -8,7 +8,7 @@ ghost use Rattle.cube_rounds.specs.Stands.{Kept as KeptData, Stands};
 ghost use Rattle.round_fields.specs.Canonical.{TellsCubes};
 ghost use Rattle.round_fields.specs.Reading.{GivesRead};
 ghost use Rattle.sha2.specs.Sha256.{sha256};
-ghost use Rattle.store_reading.specs.Fronts.{BeginsWith};
+ghost use Rattle.store_reading.specs.Fronts.{HasFrontHeader};
 ghost use Rattle.store_reading.specs.Pairs.{unspent, newer_of, current_of, content_from, file_of, pair_content, pair_from, StandsAt};
 
 use crate::fault::PairFault;
@@ -99,7 +99,7 @@ fn content_of(
     current: (bool, Header),
     file: &[u8],
 ) -> Result<OpenedPair, CallError<PairFault>>
-    requires begins { BeginsWith sha256 file.now current.1 }
+    requires begins { HasFrontHeader sha256 file.now current.1 }
     ensures { (told : List ℕ → Option (List Decl)) → TellsCubes told
         → GivesRead (λ o. pair_content o.kept o.place) result
         (content_from sha256 told current file.now) }

@@ -6,7 +6,7 @@ ghost use Rattle.cube_rounds.specs.Demands.{HaveDims};
 ghost use Rattle.round_fields.specs.Canonical.{TellsCubes};
 ghost use Rattle.round_fields.specs.Reading.{GivesRead};
 ghost use Rattle.sha2.specs.Sha256.{sha256};
-ghost use Rattle.store_reading.specs.Rounds.{begins_at, following_from, next_from, rounds_from, rounds_end, IsReadable, IsNext};
+ghost use Rattle.store_reading.specs.Rounds.{begins_at, following_from, next_from, rounds_from, rounds_end, IsReadable, IsNextRound};
 
 use crate::fault::{PairFault, round_fault};
 use crate::kept::Kept;
@@ -95,7 +95,7 @@ fn found_round(
     requires readable { IsReadable kept.now }
     ensures exact { (told : List ℕ → Option (List Decl)) → TellsCubes told
         → GivesRead (λ x. x) result (next_from sha256 told size kept.now left.now) }
-    ensures found { IfOk result (λ next. IfSome next (IsNext sha256 kept.now left.now)) }
+    ensures found { IfOk result (λ next. IfSome next (IsNextRound sha256 kept.now left.now)) }
 {
     a_text_declares_or_has_one_fault();
     next_round(alloc, size, kept, left)

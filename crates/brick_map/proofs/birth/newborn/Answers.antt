@@ -3,7 +3,7 @@ use Rattle.std.proofs.lemmas.List.{take_all}
 use Rattle.std.proofs.lemmas.List.Elements.{All-get_or}
 use Rattle.cube_values.specs.Shapes.{bricks_of}
 use Rattle.brick_store.specs.Bricks.{BrickState, Home}
-use Rattle.brick_map.specs.Births.{content_of, newborn}
+use Rattle.brick_map.specs.Births.{content_of_brick, newborn}
 use Rattle.brick_map.specs.Waiting.{IsWaiting}
 use Rattle.brick_map.proofs.Newborn.{born_more, deleted_home, deleted_spare, may_mark}
 use Rattle.brick_map.proofs.birth.newborn.Goals as goal
@@ -14,7 +14,7 @@ deletions-init c =
     let n = c.in_ok-brick.ensures in
     record {
       home = ap (λ (b : BrickState). b.home) e ∙ ap (λ (b : BrickState). b.home) n;
-      content = ap content_of e ∙ ap content_of n;
+      content = ap content_of_brick e ∙ ap content_of_brick n;
       spare = omega (arith, ap (λ (b : BrickState). b.spare_entries) e);
     }
 
@@ -44,7 +44,7 @@ deletions-preserved c =
     let made = c.delete_from.ensures in
     record {
       home = ap (λ (b : BrickState). b.home) made ∙ deleted_home sizes d.span d.epoch l.brick ∙ l.invariant.home;
-      content = ap content_of made ∙ born_more sizes c.args.recent.now l.deletion-index c.args.number d l.brick (omega arith) c.deletion-item.is (ap (λ (home : Home). home.number) l.invariant.home) l.invariant.content;
+      content = ap content_of_brick made ∙ born_more sizes c.args.recent.now l.deletion-index c.args.number d l.brick (omega arith) c.deletion-item.is (ap (λ (home : Home). home.number) l.invariant.home) l.invariant.content;
       spare = omega (arith, l.invariant.spare, deleted_spare sizes d.span d.epoch l.brick, ap (λ (b : BrickState). b.spare_entries) made);
     }
 

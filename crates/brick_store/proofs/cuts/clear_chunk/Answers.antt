@@ -3,7 +3,7 @@ use Rattle.std.proofs.lemmas.List.Elements.{All-get_or, length_all_zip}
 use Rattle.cube_values.specs.Spans.{part_has}
 use Rattle.brick_columns.specs.Rows.{BrickRow, IsBrickRow, row_at}
 use Rattle.brick_store.specs.Cuts.{AreClearedFrom, part_has_row}
-use Rattle.brick_store.specs.Whole.{HasSmallCoords, coords_from}
+use Rattle.brick_store.specs.Whole.{HasSmallCoords, coords_at_offsets}
 use Rattle.brick_store.proofs.Coordinates.{coords_long, coord_here}
 use Rattle.brick_store.proofs.ClearedBits.{cleared_none, cleared_more}
 use Rattle.brick_store.proofs.cuts.clear_chunk.Goals as goal
@@ -20,7 +20,7 @@ overflow_add-start c =
     let small_there = All-get_or (HasSmallCoords starts) columns.rows i none within c.requires.readable.small in
     let wide = length_all_zip ◌<◌ offsets columns.layout.ranges fits.offsets in
     let here = coord_here starts offsets c.args.dim 0 0 (omega (arith, c.requires.dim)) (omega (arith, wide, c.requires.dim, c.requires.readable.long)) in
-    let small = All-get_or (λ coord. coord < 2 ^ 32) (coords_from starts offsets) c.args.dim 0 (omega (arith, coords_long starts offsets, wide, c.requires.dim, c.requires.readable.long)) small_there in
+    let small = All-get_or (λ coord. coord < 2 ^ 32) (coords_at_offsets starts offsets) c.args.dim 0 (omega (arith, coords_long starts offsets, wide, c.requires.dim, c.requires.readable.long)) small_there in
     omega (arith, here, small, c.read_offsets.ensures c.rows.k c.rows-test.true)
 
 pub rows-init : goal.rows-init

@@ -6,7 +6,7 @@ use Rattle.cube_values.specs.Spans.{part_has, parts_have}
 use Rattle.brick_columns.specs.Rows.{BrickRow, IsBrickRow, row_at}
 use Rattle.brick_store.specs.Cuts.{part_has_row}
 use Rattle.brick_store.specs.Rows.{span_has_row}
-use Rattle.brick_store.specs.Whole.{coords_from, row_with_coords}
+use Rattle.brick_store.specs.Whole.{coords_at_offsets, row_with_coords}
 use Rattle.brick_store.proofs.Coordinates.{coords_long, coord_here}
 use Rattle.brick_store.proofs.Folds.{row_there}
 use Rattle.brick_store.proofs.ClearedBits.{cleared_both, first_parts_have, left_items, parts_more}
@@ -30,8 +30,8 @@ dims-preserved c =
           let fits = All-get_or (IsBrickRow columns.layout) columns.rows i none h c.requires.readable.fits in
           let wide = length_all_zip ◌<◌ offsets columns.layout.ranges fits.offsets in
           let here = coord_here starts offsets l.dim 0 0 (omega arith) (omega (arith, wide, c.requires.readable.long)) in
-          parts_more parts (coords_from starts offsets) l.dim part (omega (arith, c.requires.parts)) (omega (arith, coords_long starts offsets, wide, c.requires.readable.long))
-          ∙ (λ t. parts_have (take l.dim parts) (take l.dim (coords_from starts offsets)) && part_has (is t) (here t)))
+          parts_more parts (coords_at_offsets starts offsets) l.dim part (omega (arith, c.requires.parts)) (omega (arith, coords_long starts offsets, wide, c.requires.readable.long))
+          ∙ (λ t. parts_have (take l.dim parts) (take l.dim (coords_at_offsets starts offsets)) && part_has (is t) (here t)))
           l.invariant.cleared c.clear_dimension.ensures;
       some = l.invariant.some;
     }
@@ -53,7 +53,7 @@ returns-clause-left c =
     let offsets = (row_at columns.rows i).offsets in
     let fits = All-get_or (IsBrickRow columns.layout) columns.rows i none within c.requires.readable.fits in
     let wide = length_all_zip ◌<◌ offsets columns.layout.ranges fits.offsets in
-    let coords = coords_from starts offsets in
+    let coords = coords_at_offsets starts offsets in
     let whole : first_parts_have parts starts l.dim (row_at columns.rows i) ≡ span_has_row c.args.span.now (row_with_coords starts (row_at columns.rows i)) =
     λ t. parts_have (take_all l.dim parts (omega (arith, c.requires.parts)) t) (take_all l.dim coords (omega (arith, coords_long starts offsets, wide, c.requires.readable.long)) t) in
     cleared.inside i (omega arith) within

@@ -1,7 +1,7 @@
 use Rattle.std.proofs.Common.{List, sym, ap, subst, ◌∙◌}
 use Rattle.brick_map.specs.declared.deletion.Deletion.{Deletion}
 use Rattle.brick_map.specs.Batches.{AreRuns}
-use Rattle.brick_map.specs.Births.{BrickContent, CubeState, brick_in, content_among, content_with_rows, rows_of_brick, sizes_of}
+use Rattle.brick_map.specs.Births.{BrickContent, CubeState, brick_in, content_among, content_with_rows, rows_of_brick, cube_sizes}
 use Rattle.brick_map.proofs.Content.{appended_among}
 use Rattle.brick_map.proofs.cube.CubeBricks.append.Goals as goal
 
@@ -20,4 +20,4 @@ returns-clause-appended c = λ number.
     ∙ appended_among old.shape waiting c.args.epoch number rows parts mid new are (c.in_ok-prepare_runs.ensures.room number) c.append_runs.ensures
     ∙ ap more (c.in_ok-prepare_runs.ensures.readied.same number)
     ∙ ap (λ (r : List Deletion). more (content_among sizes r old.list number)) c.as_slice-waiting.ensures.value
-    ∙ ap (λ (s : CubeState). content_with_rows c.args.epoch (rows_of_brick (sizes_of s) number rows) (brick_in s number)) c.self.view_is
+    ∙ ap (λ (s : CubeState). content_with_rows c.args.epoch (rows_of_brick (cube_sizes s) number rows) (brick_in s number)) c.self.view_is

@@ -4,7 +4,7 @@ use Rattle.cube_values.specs.declared.span.Span.{Span}
 use Rattle.condition_spans.specs.Spans.{CutNoBrick}
 use Rattle.brick_store.specs.Bricks.{BrickState}
 use Rattle.brick_map.specs.declared.deletion.Deletion.{Deletion}
-use Rattle.brick_map.specs.Births.{CubeState, brick_in, content_among, content_with_mark, has_brick, rows_count, sizes_of}
+use Rattle.brick_map.specs.Births.{CubeState, brick_in, content_among, content_with_mark, has_brick, rows_count, cube_sizes}
 use Rattle.brick_map.specs.Lists.{IsBrickOf, brick_after_deletion}
 use Rattle.brick_map.specs.Waiting.{IsWaiting}
 use Rattle.brick_map.proofs.Content.{deleted_among}
@@ -61,7 +61,7 @@ invariant_of-self-2 c =
     let f : BrickState → BrickState = brick_after_deletion sizes c.args.span.now c.args.epoch in
     let d : Deletion = record { epoch = c.args.epoch; span = c.in_ok-copied.copied } in
     let P : Deletion → Type 0 = IsWaiting sizes in
-    let whole = subst (λ (s : CubeState). CutNoBrick (sizes_of s) c.args.span.now.parts) (sym c.self.view_is) c.requires.whole in
+    let whole = subst (λ (s : CubeState). CutNoBrick (cube_sizes s) c.args.span.now.parts) (sym c.self.view_is) c.requires.whole in
     let waits : P d = subst (λ (span : Span). P (record { epoch = c.args.epoch; span = span })) (sym c.in_ok-copied.ensures) (record { parts = c.requires.parts; whole = whole }) in
     let items = c.push_reserved.ensures.items ∙ ap (λ (l : List Deletion). l ++ d ∷ []) c.in_ok-reserve.ensures.items in
     let recent = subst (All P) (sym items) (All-push P old.recent.items d c.self.invariant.recent waits) in
@@ -82,7 +82,7 @@ returns-clause-deleted c = λ number.
     let all_mid = same_bricks old.shape old.list mid same c.self.invariant.bricks in
     (λ t. content_among sizes (items t) (c.delete.ensures t) number)
     ∙ deleted_among old.shape old.recent.items d number old.list mid same all_mid
-    ∙ ap (λ (s : CubeState). cond (has_brick (sizes_of s) c.args.span.now number) (content_with_mark c.args.epoch (brick_in s number)) (brick_in s number)) c.self.view_is
+    ∙ ap (λ (s : CubeState). cond (has_brick (cube_sizes s) c.args.span.now number) (content_with_mark c.args.epoch (brick_in s number)) (brick_in s number)) c.self.view_is
 
 pub returns-clause-count : goal.returns-clause-count
 returns-clause-count c =

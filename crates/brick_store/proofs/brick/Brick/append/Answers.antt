@@ -3,7 +3,7 @@ use Rattle.std.proofs.lemmas.List.{length-append, length-map}
 use Rattle.cube_values.specs.EpochsVector.{rows_of, vector_with_entry}
 use Rattle.cube_values.specs.declared.entry.Entry.TheVariants.{Run}
 use Rattle.epochs_vector.proofs.Ends.{vector_more}
-use Rattle.brick_columns.specs.Rows.{row_from, rows_between}
+use Rattle.brick_columns.specs.Rows.{offset_row, rows_between}
 use Rattle.brick_columns.proofs.Batches.{between_long}
 use Rattle.brick_store.specs.Bricks.{BrickState, IsRowOf}
 use Rattle.brick_store.specs.Whole.{contract_view, row_with_coords}
@@ -21,7 +21,7 @@ append_rows-requires-clause-fit c =
     let long = between_long c.args.batch.now.rows c.args.from c.args.to c.requires.within in
     let rows = rw c.as_slice-starts.ensures.value at c.push_rows.ensures.rows in
     let count : length c.push_rows.new.self.rows ≡ length old.columns.rows + (c.args.to - c.args.from) =
-    ap length rows ∙ length-append old.columns.rows (map (row_from old.starts.items) more) ∙ omega (arith, length-map more (row_from old.starts.items), long) in
+    ap length rows ∙ length-append old.columns.rows (map (offset_row old.starts.items) more) ∙ omega (arith, length-map more (offset_row old.starts.items), long) in
     omega (arith, rows_known old c.self.invariant, count, c.len-rows.ensures.len, c.len-rows.type_inv)
 
 pub invariant_of-self : goal.invariant_of-self
@@ -32,7 +32,7 @@ invariant_of-self c =
     let own = subst (λ (v : BrickState). All (IsRowOf v.home) more) (sym c.self.view_is) c.requires.rows in
     let rows = rw c.as_slice-starts.ensures.value at c.push_rows.ensures.rows in
     let count : length c.push_rows.new.self.rows ≡ length old.columns.rows + (c.args.to - c.args.from) =
-    ap length rows ∙ length-append old.columns.rows (map (row_from old.starts.items) more) ∙ omega (arith, length-map more (row_from old.starts.items), long) in
+    ap length rows ∙ length-append old.columns.rows (map (offset_row old.starts.items) more) ∙ omega (arith, length-map more (offset_row old.starts.items), long) in
     let known = rows_known old c.self.invariant in
     let vector = vector_more old.epochs.entries (Run c.args.epoch (length c.push_rows.new.self.rows)) (length old.columns.rows) (length c.push_rows.new.self.rows) c.self.invariant.vector (omega (arith, count, c.requires.some), refl) in
     let end : rows_of old.epochs.entries + (c.args.to - c.args.from) ≡ length c.push_rows.new.self.rows = omega (arith, known, count) in

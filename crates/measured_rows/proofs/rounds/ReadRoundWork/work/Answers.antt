@@ -1,6 +1,6 @@
 use Rattle.std.proofs.Common.{ℕ, List, sym, subst}
 use Rattle.cube_language.specs.declared.decl.Decl.{Decl}
-use Rattle.measured_rows.specs.Rounds.{IsRoundSize, size_in}
+use Rattle.measured_rows.specs.Rounds.{IsRoundSize, round_size_found}
 use Rattle.measured_rows.proofs.FoundRounds.{found_size}
 use Rattle.measured_rows.proofs.rounds.ReadRoundWork.work.Goals as goal
 
@@ -9,7 +9,7 @@ returns c =
     let names = c.args.self.now.names in
     let cubes = c.args.self.now.cubes.items in
     let bytes = c.args.self.now.bytes.items in
-    let size = size_in c.in_ok-found.found in
+    let size = round_size_found c.in_ok-found.found in
     subst (IsRoundSize cubes names bytes) (sym c.size_in.ensures)
     (subst (λ (cs : List Decl). IsRoundSize cs names bytes size) c.as_slice-cubes.ensures.value
     (subst (λ (bs : List ℕ). IsRoundSize c.as_slice-cubes.result.now names bs size) c.as_slice.ensures.value
