@@ -36,7 +36,7 @@ pub record IsForLoad (load : LoadState) (batch : Batch) : Type 0 where
 -- Behind a batch that is full the load has fewer records left.
 abbrev pub HasFewerLeft : LoadState → LoadState → BatchEnd → Type 0
 HasFewerLeft old new batch_is.Full = length new.left < length old.left
-HasFewerLeft old new ended = records.GoesOn old new
+HasFewerLeft old new ended = records.LoadGoesOn old new
 
 -- It may go on behind such a batch. Where no record is left there are no more bad ones than are allowed, else there is
 -- one more.
@@ -56,7 +56,7 @@ HasStopped allowed bad batch_is.TooMany = bad.count ≡ allowed + 1
 -- From one state to another a load into the cube at a place has these rows, whatever names the dictionaries end with.
 pub record HasTaken (place allowed : ℕ) (dictionaries : List (List Dictionary)) (start load : LoadState)
     (before bad : BadRecords) (rows : List CodedRow) (ended : BatchEnd) : Type 0 where
-  pub goes : records.GoesOn start load
+  pub goes : records.LoadGoesOn start load
   pub inside : All (HasCoords start.decl) rows
   pub batch : InTheEnd (MayEndWith dictionaries) place
       (λ lists. TakesBatch start.decl lists allowed start load before bad rows ended)
