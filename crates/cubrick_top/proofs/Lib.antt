@@ -3,3 +3,4 @@ pub mod FilesRead
 pub mod RunsEnd
 pub mod Served
 pub mod FaultsTold
+pub mod WordsRead

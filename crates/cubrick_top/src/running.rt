@@ -1,6 +1,8 @@
 //! The run of a program.
 
 ghost use Rattle.std.specs.Prelude.{◌≡◌, ◌≢◌, ◌↔◌, ◌≤◌, ℕ, List, [], ◌∷◌, length, map, string_bytes, Some};
+ghost use Rattle.cubrick_top.specs.Generated.{GeneratedEnds};
+ghost use Rattle.cubrick_top.specs.Words.{AskForNothing, AskForRows, NameFiles, NameNoFiles};
 ghost use Rattle.std.specs.Bool.{OnTrue};
 ghost use Rattle.std.specs.List.{AllByRecursion};
 ghost use Rattle.aosi_desk.specs.Desks.{AreCubes};
@@ -13,6 +15,8 @@ ghost use Rattle.cubrick_top.specs.Runs.{IsLeft, IsReady, IsServed, OutputRises,
 
 use crate::fault::{Fault, Finish};
 use crate::files::{Input, read_input};
+use crate::generating::run_generator;
+use crate::words::{name_files, rows_asked};
 use crate::writing::write_text;
 use cube_journal::{Counters, JournalEntry, Reply};
 use cube_language::MOST_STATEMENTS;
@@ -34,7 +38,7 @@ fn status_of_file(bad: &BadFile) -> u8
     }
 }
 
-fn status_of(fault: &Option<Fault>) -> u8
+pub(crate) fn status_of(fault: &Option<Fault>) -> u8
     ensures { result ≡ status_of fault.now }
 {
     match fault {
@@ -197,9 +201,16 @@ fn run_files<H: Shelf, K: Sink>(
     run_read(alloc, cubes, script, shelf, sink)
 }
 
-/// Runs a program by its words, `CUBES SCRIPT`: the names of a cubes file and of a script. It reads both through the shelf,
-/// executes the statements of the script one after the other as one session, whose LOADs read from the shelf as well, and
-/// writes the text to the sink: the replies, the journal and the last counters.
+/// Runs a program by its words.
+///
+/// The words `CUBES SCRIPT` are the names of a cubes file and of a script. It reads both through the shelf, executes the
+/// statements of the script one after the other as one session, whose LOADs read from the shelf as well, and writes the
+/// text to the sink: the replies, the journal and the last counters. Any two words are names of files, but where the
+/// first is `--generate`.
+///
+/// The words `--generate N`, with N from 1 to `MOST_GENERATED` in decimal digits and without leading zeros, ask for a run
+/// over N generated rows in four files in memory. A script loads one after the other and asks for the sums of a region.
+/// What is written is N, the lines of that answer, and the last counters. The shelf is not used.
 ///
 /// The status and the fault of the answer belong together ([`Fault`]). Without a fault the sink gained the whole text; after
 /// an output fault it gained a prefix of it, and after every other fault nothing. Want of memory may be answered at any
@@ -211,11 +222,11 @@ pub fn run<H: Shelf, K: Sink>(
     sink: &mut K,
 ) -> Finish
     ensures status { result.status ≡ status_of result.fault }
-    ensures words { result.fault ≡ Some Words ↔ length words.now ≢ 2 }
+    ensures words { result.fault ≡ Some Words ↔ AskForNothing (map string_bytes words.now) }
 
     // What the two files gave, how the run ended on it, and what it wrote.
-    ensures run { (cubes_name script_name : List ℕ) →
-        map string_bytes words.now ≡ cubes_name ∷ script_name ∷ [] →
+    ensures run { (cubes_name script_name : List ℕ)
+        → NameFiles (map string_bytes words.now) cubes_name script_name →
         Runs (record {
           told = H.told shelf.old;
           calls = H.call_list shelf.old;
@@ -225,22 +236,31 @@ pub fn run<H: Shelf, K: Sink>(
           absences = H.absence_count shelf.old;
           new_absences = H.absence_count shelf.new;
         }) (K.taken sink.old) (K.taken sink.new) cubes_name script_name result }
-    ensures silent { length words.now ≢ 2 → K.taken sink.new ≡ K.taken sink.old }
-    ensures unasked { length words.now ≢ 2 → H.call_list shelf.new ≡ H.call_list shelf.old }
-    ensures quiet { length words.now ≢ 2 → H.fault_count shelf.new ≡ H.fault_count shelf.old }
-    ensures none_absent { length words.now ≢ 2
+    // How a run over generated rows ended, and what it wrote.
+    ensures generated { (rows : ℕ) → AskForRows (map string_bytes words.now) rows
+        → GeneratedEnds rows (K.taken sink.old) (K.taken sink.new) result result.fault }
+    ensures silent { AskForNothing (map string_bytes words.now)
+        → K.taken sink.new ≡ K.taken sink.old }
+    ensures unasked { NameNoFiles (map string_bytes words.now)
+        → H.call_list shelf.new ≡ H.call_list shelf.old }
+    ensures quiet { NameNoFiles (map string_bytes words.now)
+        → H.fault_count shelf.new ≡ H.fault_count shelf.old }
+    ensures none_absent { NameNoFiles (map string_bytes words.now)
         → H.absence_count shelf.new ≡ H.absence_count shelf.old }
     ensures same { H.told shelf.new ≡ H.told shelf.old }
     ensures output { OutputRises result.fault (K.fault_count sink.old) (K.fault_count sink.new) }
 
     // Files that are as they have to be are run, unless the outside counted a fault or memory ran out.
-    ensures served { (cubes_name script_name : List ℕ) →
-        map string_bytes words.now ≡ cubes_name ∷ script_name ∷ [] →
+    ensures served { (cubes_name script_name : List ℕ)
+        → NameFiles (map string_bytes words.now) cubes_name script_name →
         IsReady (H.told shelf.old) cubes_name script_name →
         (Rose (H.fault_count shelf.old) (H.fault_count shelf.new) → ⊥) →
         (Rose (K.fault_count sink.old) (K.fault_count sink.new) → ⊥) → IsServed result.status }
 {
-    if words.len() != 2 {
+    if let Some(rows) = rows_asked(words) {
+        return run_generator(alloc, rows, sink);
+    }
+    if !name_files(words) {
         return finish(alloc, Fault::Words);
     }
     run_files(alloc, words[0].as_str(), words[1].as_str(), shelf, sink)

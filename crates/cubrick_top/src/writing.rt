@@ -1,9 +1,10 @@
 //! The text of a run.
 
-ghost use Rattle.std.specs.Prelude.{◌≡◌, ◌≤◌, [], ◌∷◌, length};
+ghost use Rattle.std.specs.Prelude.{◌≡◌, ◌≢◌, ◌≤◌, [], ◌∷◌, Some, length};
 ghost use Rattle.cube_journal.specs.Counters.{counters};
 ghost use Rattle.cube_journal.specs.WholeText.{whole_text};
 ghost use Rattle.cubrick_top.specs.Runs.{IsWritten, OutputRises};
+ghost use Rattle.cubrick_top.specs.declared.fault.Fault.TheVariants.{NoMemory};
 
 use crate::fault::Fault;
 use cube_journal::{Counters, JournalEntry, Reply};
@@ -13,9 +14,10 @@ use report_text::whole_bytes;
 use std::alloc::Global;
 
 /// Puts bytes into a sink.
-fn put_text<K: Sink>(sink: &mut K, text: &[u8]) -> Option<Fault>
+pub(crate) fn put_text<K: Sink>(sink: &mut K, text: &[u8]) -> Option<Fault>
     ensures output { OutputRises result (K.fault_count sink.old) (K.fault_count sink.new) }
     ensures written { IsWritten (K.taken sink.old) text.now (K.taken sink.new) result }
+    ensures known { result ≢ Some NoMemory }
 {
     match put_whole(sink, text) {
         Ok(()) => None,

@@ -43,7 +43,7 @@ fn shelf(
 }
 
 // The status of a run of these words and the text of its fault.
-fn outcome(
+pub(crate) fn outcome(
     alloc: Global,
     words: &[&str],
     shelf: &mut ShelfMemory,
