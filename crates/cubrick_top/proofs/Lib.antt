@@ -4,3 +4,5 @@ pub mod RunsEnd
 pub mod Served
 pub mod FaultsTold
 pub mod WordsRead
+pub mod JoinedTexts
+pub mod GeneratedRuns

@@ -48,6 +48,7 @@ struct Generated {
 }
 
 // The cube that is loaded.
+#[tactic(auto, using(crate::proofs::DeclaredCubes::declared_are_cubes))]
 fn generated_cubes(alloc: Global) -> Result<Vec<Schema>, AllocError>
     ensures declared { IfOk result (λ cubes. Declares (cubes_text (visits ∷ [])) cubes.items) }
     ensures cubes { IfOk result (λ cubes. AreCubes cubes.items) }
@@ -72,6 +73,7 @@ fn script_bytes(alloc: Global) -> Result<Vec<u8>, AllocError>
 }
 
 // What the texts of the script say.
+#[tactic(auto, using(crate::proofs::GeneratedRuns::gives_script, crate::proofs::GeneratedRuns::few_sentences))]
 fn generated_sentences(alloc: Global) -> Result<Vec<Said>, AllocError>
     ensures said { IfOk result (λ said. GivesScript (Gives (whole generated_script)) said.items) }
     ensures few { IfOk result (λ said. length said.items ≤ MOST_STATEMENTS) }
@@ -160,6 +162,7 @@ fn generated_bytes(alloc: Global, rows: u64, ran: &Ran) -> Result<Vec<u8>, Alloc
 }
 
 // Runs the script over the files of so many rows.
+#[tactic(auto, using(crate::proofs::GeneratedRuns::has_generated))]
 fn generate(alloc: Global, rows: u64) -> Result<Generated, AllocError>
     ensures { IfOk result (λ g. HasGeneratedText rows (names_of g.names) g.journal.items g.text.items) }
 {
@@ -203,6 +206,7 @@ fn finish_generated<K: Sink>(sink: &mut K, generated: Generated) -> Finish
 }
 
 /// Runs the script over the files of so many rows, and writes the text.
+#[tactic(auto, using(crate::proofs::GeneratedRuns::ends_written, crate::proofs::GeneratedRuns::ends_unwritten))]
 pub(crate) fn run_generator<K: Sink>(alloc: Global, rows: u64, sink: &mut K) -> Finish
     ensures status { result.status ≡ status_of result.fault }
     ensures not_words { result.fault ≢ Some Words }
