@@ -1,6 +1,7 @@
-# `make demo` runs the program on an example, unproved; `make compare` on a script whose text a model in Python works out. `make program` proves
-# the program and builds it as bin/cubrick. `make bench` proves and builds the program of measures, and prints what each hot path costs per item.
-.PHONY: demo compare program bench
+# `make demo` runs the program on an example, unproved; `make compare` on a script whose text a model in Python works out; `make starve` with each
+# of its allocations refused in turn. `make program` proves the program and builds it as bin/cubrick. `make bench` proves and builds the program of
+# measures, and prints what each hot path costs per item.
+.PHONY: demo compare starve program bench
 EXAMPLE = $(CURDIR)/examples
 demo:
 	@echo 'The program runs unproved here (rt try); make program proves and builds it.'
@@ -10,6 +11,8 @@ compare:
 	@folder=$$(mktemp -d) && python3 tools/three_cubes $$folder && cd crates/cubrick && \
 	    rt try $$(for it in $$folder/files/*; do echo --data $${it##*/}=$$it; done) -- three_cubes.cubes three_cubes.sql \
 	    > $$folder/written && cmp $$folder/written $$folder/text && echo 'The program, unproved, wrote the text of the model.'
+starve:
+	@python3 tools/starve
 program:
 	@echo 'Every crate that the program stands on is proved first: from nothing that takes more than an hour on four processors.'
 	@cd crates/cubrick && rt run -- >/dev/null; test -x out/cubrick
