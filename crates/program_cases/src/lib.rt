@@ -4,6 +4,8 @@
 #[cfg(test)]
 mod generated;
 #[cfg(test)]
+mod refusals;
+#[cfg(test)]
 mod rows;
 #[cfg(test)]
 mod runs;

@@ -1,25 +1,18 @@
 //! Scripts that are run whole, each with its text.
 
-use crate::runs::{CUBES, VISITS, run_of};
+use crate::runs::{CUBES, Row, VISITS, rows_write_their_texts};
 use std::test::Fail;
 
 const NONE: &[u8] = b"";
 
 const NAMES: &[u8] = b"cube d\ndim n text 1 1\nmetric m\n";
 
-// A script over cubes, with the bytes of the file f, and the text that it has to write.
-struct Row {
-    cubes: &'static [u8],
-    file: &'static [u8],
-    script: &'static [u8],
-    text: &'static str,
-}
-
-const ROWS: [Row; 21] = [
+const ROWS: [Row; 18] = [
     // Nothing is asked.
     Row {
         cubes: VISITS,
         file: b"",
+        failing: &[],
         script: b"",
         text: "session 1\njournal 1\nidle 0\nend ec 1 lce 0 lse 0\n",
     },
@@ -27,6 +20,7 @@ const ROWS: [Row; 21] = [
     Row {
         cubes: NONE,
         file: b"",
+        failing: &[],
         script: b" \t\r\n;; -- ;\n;",
         text: "session 1\njournal 1\nidle 0\nend ec 1 lce 0 lse 0\n",
     },
@@ -34,6 +28,7 @@ const ROWS: [Row; 21] = [
     Row {
         cubes: VISITS,
         file: b"",
+        failing: &[],
         script: b"SELECT SUM(likes), COUNT(*) FROM visits; SELECT region, COUNT(*) FROM visits GROUP BY region",
         text: "session 1\n1.1 rows 1 epoch 0\nNULL,0\n1.2 rows 0 epoch 0\njournal 5\nread 1.1 epoch 0\nreadend 1.1\nread 1.2 epoch 0\nreadend 1.2\nidle 0\nend ec 1 lce 0 lse 0\n",
     },
@@ -41,6 +36,7 @@ const ROWS: [Row; 21] = [
     Row {
         cubes: CUBES,
         file: b"",
+        failing: &[],
         script: b"INSERT INTO t VALUES (4,1); INSERT INTO t VALUES (5,1); INSERT INTO t VALUES (-1,1); INSERT INTO t VALUES (1)",
         text: "session 1\n1.1 stored 1 epoch 1\n1.2 refused 7 BadRow row 1 column x OutOfRange\n1.3 refused 7 BadRow row 1 column x OutOfRange\n1.4 refused 7 BadRow row 1 values 1 WrongCount\njournal 7\nbegin 1.1 epoch 1 deps []\ncommitted 1.1 epoch 1\nrefused 1.2 code 7\nrefused 1.3 code 7\nrefused 1.4 code 7\nround 1\nsafe 1\nend ec 2 lce 1 lse 1\n",
     },
@@ -48,6 +44,7 @@ const ROWS: [Row; 21] = [
     Row {
         cubes: VISITS,
         file: b"",
+        failing: &[],
         script: b"BEGIN; INSERT INTO visits VALUES ('CA','M',3,1); DELETE FROM visits; INSERT INTO visits VALUES ('CA','M',4,0); SELECT SUM(likes) FROM visits; COMMIT; SELECT SUM(likes) FROM visits",
         text: "session 1\n1.1 begun 1\n1.2 stored 1 epoch 1\n1.3 dropped epoch 1\n1.4 stored 1 epoch 1\n1.5 rows 1 epoch 1\n4\n1.6 committed 1\n1.7 rows 1 epoch 1\n4\njournal 6\nbegin 1.1 epoch 1 deps []\ncommitted 1.6 epoch 1\nread 1.7 epoch 1\nreadend 1.7\nround 1\nsafe 1\nend ec 2 lce 1 lse 1\n",
     },
@@ -55,6 +52,7 @@ const ROWS: [Row; 21] = [
     Row {
         cubes: VISITS,
         file: b"CA,M,3,1\nCA,M,x,1\nCA,M,3\n\xff,M,3,1\nNY,F,5,0\n",
+        failing: &[],
         script: b"LOAD visits FROM 'f' REJECT 3",
         text: "session 1\n1.1 stored 2 rejected 3 epoch 1\nreject 2 column likes NotNumber\nreject 3 values 3 WrongCount\nreject 4 column region NotText\njournal 4\nbegin 1.1 epoch 1 deps []\ncommitted 1.1 epoch 1\nround 1\nsafe 1\nend ec 2 lce 1 lse 1\n",
     },
@@ -62,6 +60,7 @@ const ROWS: [Row; 21] = [
     Row {
         cubes: VISITS,
         file: b"CA,M,3,1\nCA,M,x,1\nCA,M,3\n\xff,M,3,1\nNY,F,5,0\n",
+        failing: &[],
         script: b"LOAD visits FROM 'f' REJECT 2; SELECT COUNT(*) FROM visits",
         text: "session 1\n1.1 refused 10 TooManyRejected 3 allowed 2\n1.2 rows 1 epoch 1\n0\njournal 6\nbegin 1.1 epoch 1 deps []\naborted 1.1 epoch 1 TooManyRejected\nread 1.2 epoch 1\nreadend 1.2\nround 1\nsafe 1\nend ec 2 lce 1 lse 1\n",
     },
@@ -69,6 +68,7 @@ const ROWS: [Row; 21] = [
     Row {
         cubes: CUBES,
         file: b"4,1\n5,1\n-1,1\n+1,1\n 1,1\n1,\n1\n1,2,3\n1,9223372036854775808\n1,-9223372036854775808\n-0,1\n",
+        failing: &[],
         script: b"LOAD t FROM 'f' REJECT 8; LOAD t FROM 'f' REJECT 7",
         text: "session 1\n1.1 stored 3 rejected 8 epoch 1\nreject 2 column x OutOfRange\nreject 3 column x OutOfRange\nreject 4 column x NotNumber\nreject 5 column x NotNumber\nreject 6 column m NotNumber\nreject 7 values 1 WrongCount\nreject 8 values 3 WrongCount\nreject 9 column m NotNumber\n1.2 refused 10 TooManyRejected 8 allowed 7\njournal 6\nbegin 1.1 epoch 1 deps []\ncommitted 1.1 epoch 1\nbegin 1.2 epoch 2 deps []\naborted 1.2 epoch 2 TooManyRejected\nround 2\nsafe 2\nend ec 3 lce 2 lse 2\n",
     },
@@ -76,6 +76,7 @@ const ROWS: [Row; 21] = [
     Row {
         cubes: CUBES,
         file: b"",
+        failing: &[],
         script: b"DELETE FROM t WHERE x = 0; DELETE FROM t WHERE x BETWEEN 0 AND 1; DELETE FROM t WHERE x = 4",
         text: "session 1\n1.1 refused 6 CutsBrick x\n1.2 dropped epoch 1\n1.3 dropped epoch 2\njournal 7\nrefused 1.1 code 6\nbegin 1.2 epoch 1 deps []\ncommitted 1.2 epoch 1\nbegin 1.3 epoch 2 deps []\ncommitted 1.3 epoch 2\nround 2\nsafe 2\nend ec 3 lce 2 lse 2\n",
     },
@@ -83,6 +84,7 @@ const ROWS: [Row; 21] = [
     Row {
         cubes: VISITS,
         file: b"",
+        failing: &[],
         script: b"DELETE FROM visits WHERE region = 'CA'",
         text: "session 1\n1.1 refused 6 CutsBrick region\njournal 2\nrefused 1.1 code 6\nidle 0\nend ec 1 lce 0 lse 0\n",
     },
@@ -90,6 +92,7 @@ const ROWS: [Row; 21] = [
     Row {
         cubes: CUBES,
         file: b"",
+        failing: &[],
         script: b"INSERT INTO t VALUES (0,1); FLUSH; PURGE; SHOW EPOCHS;",
         text: "session 1\n1.1 stored 1 epoch 1\n1.2 flushed 1\n1.3 purged 1\n1.4 epochs ec 2 lce 1 lse 1 pending []\njournal 8\nbegin 1.1 epoch 1 deps []\ncommitted 1.1 epoch 1\nround 1\nsafe 1\nflushed 1.2\npurged 1.3 epoch 1\nshow 1.4\nidle 1\nend ec 2 lce 1 lse 1\n",
     },
@@ -97,6 +100,7 @@ const ROWS: [Row; 21] = [
     Row {
         cubes: CUBES,
         file: b"",
+        failing: &[],
         script: b"CREATE CUBE u (DIM y INT 4 4, METRIC k); INSERT INTO u VALUES (3,8); SELECT SUM(k) FROM u; CREATE CUBE u (METRIC k);",
         text: "session 1\n1.1 created epoch 1\n1.2 stored 1 epoch 2\n1.3 rows 1 epoch 2\n8\n1.4 refused 19 CubeExists u\njournal 8\ncube 1.1 epoch 1\nbegin 1.2 epoch 2 deps []\ncommitted 1.2 epoch 2\nread 1.3 epoch 2\nreadend 1.3\nrefused 1.4 code 19\nround 2\nsafe 2\nend ec 3 lce 2 lse 2\n",
     },
@@ -104,6 +108,7 @@ const ROWS: [Row; 21] = [
     Row {
         cubes: CUBES,
         file: b"",
+        failing: &[],
         script: b"SELECT COUNT(*) FROM w; LOAD t FROM 'g' REJECT 0",
         text: "session 1\n1.1 refused 2 UnknownCube w\n1.2 refused 8 NoSuchFile\njournal 3\nrefused 1.1 code 2\nrefused 1.2 code 8\nidle 0\nend ec 1 lce 0 lse 0\n",
     },
@@ -111,6 +116,7 @@ const ROWS: [Row; 21] = [
     Row {
         cubes: VISITS,
         file: b"",
+        failing: &[],
         script: b"INSERT INTO visits VALUES ('CA','M',3,1); INSERT INTO visits VALUES ('NY','F',5,0); INSERT INTO visits VALUES ('CA','F',2,4); INSERT INTO visits VALUES ('TX','M',7,2); SELECT region, SUM(likes), COUNT(*) FROM visits GROUP BY region HAVING SUM(likes) BETWEEN 5 AND 7 ORDER BY COUNT(*) DESC, SUM(likes) LIMIT 2; SELECT region, SUM(likes), COUNT(*) FROM visits GROUP BY region ORDER BY SUM(likes) LIMIT 1; SELECT region, SUM(likes), COUNT(*) FROM visits GROUP BY region ORDER BY MIN(likes)",
         text: "session 1\n1.1 stored 1 epoch 1\n1.2 stored 1 epoch 2\n1.3 stored 1 epoch 3\n1.4 stored 1 epoch 4\n1.5 rows 2 epoch 4\n'CA',5,2\n'NY',5,1\n1.6 rows 1 epoch 4\n'CA',5,2\n1.7 refused 26 NotAnItem MIN(likes)\njournal 15\nbegin 1.1 epoch 1 deps []\ncommitted 1.1 epoch 1\nbegin 1.2 epoch 2 deps []\ncommitted 1.2 epoch 2\nbegin 1.3 epoch 3 deps []\ncommitted 1.3 epoch 3\nbegin 1.4 epoch 4 deps []\ncommitted 1.4 epoch 4\nread 1.5 epoch 4\nreadend 1.5\nread 1.6 epoch 4\nreadend 1.6\nrefused 1.7 code 26\nround 4\nsafe 4\nend ec 5 lce 4 lse 4\n",
     },
@@ -118,6 +124,7 @@ const ROWS: [Row; 21] = [
     Row {
         cubes: CUBES,
         file: b"",
+        failing: &[],
         script: b"INSERT INTO t VALUES (0,9223372036854775807),(1,9223372036854775807),(2,9223372036854775807); SELECT SUM(m), AVG(m) FROM t; DELETE FROM t; INSERT INTO t VALUES (0,-1),(0,0); SELECT AVG(m), MIN(m), MAX(m) FROM t",
         text: "session 1\n1.1 stored 3 epoch 1\n1.2 rows 1 epoch 1\n27670116110564327421,9223372036854775807.0000\n1.3 dropped epoch 2\n1.4 stored 2 epoch 3\n1.5 rows 1 epoch 3\n-0.5000,-1,0\njournal 12\nbegin 1.1 epoch 1 deps []\ncommitted 1.1 epoch 1\nread 1.2 epoch 1\nreadend 1.2\nbegin 1.3 epoch 2 deps []\ncommitted 1.3 epoch 2\nbegin 1.4 epoch 3 deps []\ncommitted 1.4 epoch 3\nread 1.5 epoch 3\nreadend 1.5\nround 3\nsafe 3\nend ec 4 lce 3 lse 3\n",
     },
@@ -125,6 +132,7 @@ const ROWS: [Row; 21] = [
     Row {
         cubes: CUBES,
         file: b"",
+        failing: &[],
         script: b"BEGIN; INSERT INTO t VALUES (0,1)",
         text: "session 1\n1.1 begun 1\n1.2 stored 1 epoch 1\njournal 4\nbegin 1.1 epoch 1 deps []\naborted 1.3 epoch 1 EndOfScript\nround 1\nsafe 1\nend ec 2 lce 1 lse 1\n",
     },
@@ -132,6 +140,7 @@ const ROWS: [Row; 21] = [
     Row {
         cubes: NAMES,
         file: b"",
+        failing: &[],
         script: b"INSERT INTO d VALUES ('a',1); INSERT INTO d VALUES ('b',1); INSERT INTO d VALUES ('a',2); SELECT n, SUM(m) FROM d GROUP BY n",
         text: "session 1\n1.1 stored 1 epoch 1\n1.2 refused 15 DictionaryFull 'b'\n1.3 stored 1 epoch 2\n1.4 rows 1 epoch 2\n'a',3\njournal 9\nbegin 1.1 epoch 1 deps []\ncommitted 1.1 epoch 1\nrefused 1.2 code 15\nbegin 1.3 epoch 2 deps []\ncommitted 1.3 epoch 2\nread 1.4 epoch 2\nreadend 1.4\nround 2\nsafe 2\nend ec 3 lce 2 lse 2\n",
     },
@@ -139,53 +148,13 @@ const ROWS: [Row; 21] = [
     Row {
         cubes: CUBES,
         file: b"",
+        failing: &[],
         script: b"INSERT INTO t VALUES (4,7); SELECT FROM t; 'a;b'; x; INSERT INTO t VALUES (1,1) #; 'c;",
         text: "session 1\n1.1 stored 1 epoch 1\n1.2 refused 1 Syntax at 7\n1.3 refused 1 Syntax at 0\n1.4 refused 1 Syntax at 0\n1.5 refused 1 Syntax at 27\n1.6 refused 1 Syntax at 0\njournal 9\nbegin 1.1 epoch 1 deps []\ncommitted 1.1 epoch 1\nrefused 1.2 code 1\nrefused 1.3 code 1\nrefused 1.4 code 1\nrefused 1.5 code 1\nrefused 1.6 code 1\nround 1\nsafe 1\nend ec 2 lce 1 lse 1\n",
-    },
-    // What is refused while no transaction is open.
-    Row {
-        cubes: VISITS,
-        file: b"",
-        script: b"COMMIT; ROLLBACK; SELECT town FROM visits GROUP BY town; SELECT SUM(region) FROM visits; SELECT region FROM visits; CREATE CUBE u (DIM y INT 0 1, METRIC k); SELECT COUNT(*) FROM visits HAVING SUM(likes) = 1",
-        text: "session 1\n1.1 refused 13 NoTransaction\n1.2 refused 13 NoTransaction\n1.3 refused 3 UnknownColumn town\n1.4 refused 4 WrongKind region\n1.5 refused 5 NotGrouped region\n1.6 refused 20 BadCube ZeroCardinality y\n1.7 refused 26 NotAnItem SUM(likes)\njournal 8\nrefused 1.1 code 13\nrefused 1.2 code 13\nrefused 1.3 code 3\nrefused 1.4 code 4\nrefused 1.5 code 5\nrefused 1.6 code 20\nrefused 1.7 code 26\nidle 0\nend ec 1 lce 0 lse 0\n",
-    },
-    // What is refused inside a transaction leaves it open.
-    Row {
-        cubes: VISITS,
-        file: b"",
-        script: b"BEGIN; BEGIN; CREATE CUBE u (METRIC k); x; SELECT COUNT(*) FROM w; SELECT town FROM visits GROUP BY town; SELECT SUM(region) FROM visits; SELECT region FROM visits; DELETE FROM visits WHERE region = 'CA'; INSERT INTO visits VALUES (1); LOAD visits FROM 'g' REJECT 0; COMMIT",
-        text: "session 1\n1.1 begun 1\n1.2 refused 12 TransactionOpen\n1.3 refused 12 TransactionOpen\n1.4 refused 1 Syntax at 0\n1.5 refused 2 UnknownCube w\n1.6 refused 3 UnknownColumn town\n1.7 refused 4 WrongKind region\n1.8 refused 5 NotGrouped region\n1.9 refused 6 CutsBrick region\n1.10 refused 7 BadRow row 1 values 1 WrongCount\n1.11 refused 8 NoSuchFile\n1.12 committed 1\njournal 14\nbegin 1.1 epoch 1 deps []\nrefused 1.2 code 12\nrefused 1.3 code 12\nrefused 1.4 code 1\nrefused 1.5 code 2\nrefused 1.6 code 3\nrefused 1.7 code 4\nrefused 1.8 code 5\nrefused 1.9 code 6\nrefused 1.10 code 7\nrefused 1.11 code 8\ncommitted 1.12 epoch 1\nround 1\nsafe 1\nend ec 2 lce 1 lse 1\n",
-    },
-    // A transaction that a load ended waits for ROLLBACK.
-    Row {
-        cubes: VISITS,
-        file: b"CA,M,3,1\nCA,M,x,1\nCA,M,3\n\xff,M,3,1\nNY,F,5,0\n",
-        script: b"BEGIN; LOAD visits FROM 'f' REJECT 0; SELECT COUNT(*) FROM visits; INSERT INTO visits VALUES ('CA','M',1,1); BEGIN; COMMIT; x; FLUSH; PURGE; SHOW EPOCHS; ROLLBACK; SELECT COUNT(*) FROM visits",
-        text: "session 1\n1.1 begun 1\n1.2 refused 10 TooManyRejected 1 allowed 0\n1.3 refused 14 TransactionAborted\n1.4 refused 14 TransactionAborted\n1.5 refused 14 TransactionAborted\n1.6 refused 14 TransactionAborted\n1.7 refused 1 Syntax at 0\n1.8 flushed 1\n1.9 purged 1\n1.10 epochs ec 2 lce 1 lse 1 pending []\n1.11 rolled back 1\n1.12 rows 1 epoch 1\n0\njournal 16\nbegin 1.1 epoch 1 deps []\naborted 1.2 epoch 1 TooManyRejected\nrefused 1.3 code 14\nrefused 1.4 code 14\nrefused 1.5 code 14\nrefused 1.6 code 14\nrefused 1.7 code 1\nround 1\nsafe 1\nflushed 1.8\npurged 1.9 epoch 1\nshow 1.10\ncleared 1.11\nread 1.12 epoch 1\nreadend 1.12\nidle 1\nend ec 2 lce 1 lse 1\n",
     },
 ];
 
 #[test]
 fn scripts_write_their_texts(rt: HostRuntime) -> Result<(), Fail> {
-    let alloc = rt.alloc();
-    for (place, row) in ROWS.iter().enumerate() {
-        let (status, fault, text) = run_of(alloc, row.cubes, row.script, row.file, &[])?;
-        assert_eq!(rt; status, 0, "row {place}: {fault}");
-        assert_eq!(rt; text.as_slice(), row.text.as_bytes(), "row {place}");
-    }
-    Ok(())
-}
-
-#[test]
-fn a_file_that_cannot_be_read_ends_a_transaction(rt: HostRuntime) -> Result<(), Fail> {
-    let alloc = rt.alloc();
-    // The sixth call on the shelf reads the file of the LOAD.
-    let script: &[u8] = b"BEGIN; LOAD visits FROM 'f' REJECT 0; COMMIT; ROLLBACK";
-    let (status, _fault, text) = run_of(alloc, VISITS, script, b"CA,M,3,1\n", &[5])?;
-    assert_eq!(rt; status, 0);
-    assert_eq!(rt;
-        text.as_slice(),
-        "session 1\n1.1 begun 1\n1.2 refused 11 ReadFault\n1.3 refused 14 TransactionAborted\n1.4 rolled back 1\njournal 6\nbegin 1.1 epoch 1 deps []\naborted 1.2 epoch 1 ReadFault\nrefused 1.3 code 14\ncleared 1.4\nround 1\nsafe 1\nend ec 2 lce 1 lse 1\n".as_bytes()
-    );
-    Ok(())
+    rows_write_their_texts(&rt, rt.alloc(), &ROWS)
 }

@@ -3,6 +3,7 @@
 use cubrick_top::run;
 use outside::{ShelfMemory, SinkMemory};
 use std::alloc::{AllocError, Global};
+use std::process::Abort;
 use std::test::Fail;
 
 pub(crate) const CUBES: &[u8] = b"cube t\ndim x int 5 2\nmetric m\n";
@@ -21,12 +22,12 @@ fn strings(alloc: Global, texts: &[&str]) -> Result<Vec<String>, AllocError> {
     Ok(strings)
 }
 
-// A shelf with the cubes file c, the script s and the file f.
+// A shelf with the cubes file c, the script s and the file f, whose calls of these numbers fail.
 fn shelf(
     alloc: Global,
     cubes: &[u8],
     script: &[u8],
-    file: &[u8],
+    file: Vec<u8>,
     failing: &[u64],
 ) -> Result<ShelfMemory, AllocError> {
     let mut files = Vec::new(alloc);
@@ -38,7 +39,7 @@ fn shelf(
         String::from_str(alloc, "s")?,
         Vec::from_slice(alloc, script)?,
     ))?;
-    files.push((String::from_str(alloc, "f")?, Vec::from_slice(alloc, file)?))?;
+    files.push((String::from_str(alloc, "f")?, file))?;
     Ok(ShelfMemory::new(files, Vec::from_slice(alloc, failing)?))
 }
 
@@ -60,17 +61,56 @@ pub(crate) fn outcome(
 
 // The status of a run over these cubes, this script and these bytes of the file f, the text of its fault, and what it
 // wrote.
-pub(crate) fn run_of(
+fn run_of(
     alloc: Global,
     cubes: &[u8],
     script: &[u8],
-    file: &[u8],
+    file: Vec<u8>,
     failing: &[u64],
 ) -> Result<(u8, String, Vec<u8>), AllocError> {
     let mut shelf = shelf(alloc, cubes, script, file, failing)?;
     let mut sink = SinkMemory::new(alloc, 10_000, Vec::new(alloc))?;
     let (status, fault) = outcome(alloc, &["c", "s"], &mut shelf, &mut sink)?;
     Ok((status, fault, Vec::from_slice(alloc, sink.taken())?))
+}
+
+// A script over cubes, with the bytes of the file f, the calls on the shelf that fail, and the text that it has to write.
+// The calls are counted from 0: the first four are for the cubes file and the script, a size and a read each.
+pub(crate) struct Row {
+    pub(crate) cubes: &'static [u8],
+    pub(crate) file: &'static [u8],
+    pub(crate) failing: &'static [u64],
+    pub(crate) script: &'static [u8],
+    pub(crate) text: &'static str,
+}
+
+// Runs the script of each row, and compares what it wrote.
+pub(crate) fn rows_write_their_texts(
+    rt: &impl Abort,
+    alloc: Global,
+    rows: &[Row],
+) -> Result<(), Fail> {
+    for (place, row) in rows.iter().enumerate() {
+        let file = Vec::from_slice(alloc, row.file)?;
+        let (status, fault, text) = run_of(alloc, row.cubes, row.script, file, row.failing)?;
+        assert_eq!(rt; status, 0, "row {place}: {fault}");
+        assert_eq!(rt; text.as_slice(), row.text.as_bytes(), "row {place}");
+    }
+    Ok(())
+}
+
+// Runs a script over cubes, where the file f has so many bytes, and compares what it wrote.
+pub(crate) fn script_writes(
+    rt: &impl Abort,
+    alloc: Global,
+    script: &[u8],
+    size: usize,
+    text: &str,
+) -> Result<(), Fail> {
+    let (status, fault, written) = run_of(alloc, CUBES, script, vec![in alloc; b' '; size]?, &[])?;
+    assert_eq!(rt; status, 0, "{fault}");
+    assert_eq!(rt; written.as_slice(), text.as_bytes());
+    Ok(())
 }
 
 // A cubes file and a script that are refused whole, and the fault that says why.
@@ -169,7 +209,7 @@ const REFUSED: [Refused; 16] = [
 fn what_is_refused_whole_writes_nothing(rt: HostRuntime) -> Result<(), Fail> {
     let alloc = rt.alloc();
     for (place, row) in REFUSED.iter().enumerate() {
-        let (status, fault, text) = run_of(alloc, row.cubes, row.script, b"", &[])?;
+        let (status, fault, text) = run_of(alloc, row.cubes, row.script, Vec::new(alloc), &[])?;
         assert_eq!(rt; status, 4, "row {place}");
         assert_eq!(rt; fault.as_str(), row.fault, "row {place}");
         assert!(rt; text.is_empty(), "row {place}");
@@ -186,7 +226,13 @@ fn outcome_of_sizes(
 ) -> Result<(u8, String), AllocError> {
     let cubes = vec![in alloc; b'#'; cubes]?;
     let script = vec![in alloc; byte; script]?;
-    let mut shelf = shelf(alloc, cubes.as_slice(), script.as_slice(), b"", &[])?;
+    let mut shelf = shelf(
+        alloc,
+        cubes.as_slice(),
+        script.as_slice(),
+        Vec::new(alloc),
+        &[],
+    )?;
     let mut sink = SinkMemory::new(alloc, 100, Vec::new(alloc))?;
     outcome(alloc, &["c", "s"], &mut shelf, &mut sink)
 }
@@ -214,7 +260,7 @@ fn more_statements_than_are_allowed(rt: HostRuntime) -> Result<(), Fail> {
     for _ in 0..65_537 {
         script.extend_from_slice(b"x;")?;
     }
-    let mut shelf = shelf(alloc, CUBES, script.as_slice(), b"", &[])?;
+    let mut shelf = shelf(alloc, CUBES, script.as_slice(), Vec::new(alloc), &[])?;
     let mut sink = SinkMemory::new(alloc, 100, Vec::new(alloc))?;
     let (status, fault) = outcome(alloc, &["c", "s"], &mut shelf, &mut sink)?;
     assert_eq!(rt; status, 4);
@@ -238,7 +284,7 @@ const USAGE: &str = "usage: cubrick CUBES SCRIPT";
 const TEXT: &str =
     "session 1\n1.1 stored 1 epoch 1\n1.2 stored 1 epoch 2\n1.3 rows 1 epoch 2\n5\njournal 8\nbegin 1.1 epoch 1 deps []\ncommitted 1.1 epoch 1\nbegin 1.2 epoch 2 deps []\ncommitted 1.2 epoch 2\nread 1.3 epoch 2\nreadend 1.3\nround 2\nsafe 2\nend ec 3 lce 2 lse 2\n";
 
-const ENDINGS: [Ending; 11] = [
+const ENDINGS: [Ending; 13] = [
     Ending {
         words: &["c"],
         shelf_failing: &[],
@@ -304,7 +350,25 @@ const ENDINGS: [Ending; 11] = [
     },
     Ending {
         words: &["c", "s"],
+        shelf_failing: &[1],
+        room: 1000,
+        sink_failing: &[],
+        status: 3,
+        fault: "cannot read c",
+        written: 0,
+    },
+    Ending {
+        words: &["c", "s"],
         shelf_failing: &[2],
+        room: 1000,
+        sink_failing: &[],
+        status: 3,
+        fault: "cannot read s",
+        written: 0,
+    },
+    Ending {
+        words: &["c", "s"],
+        shelf_failing: &[3],
         room: 1000,
         sink_failing: &[],
         status: 3,
@@ -344,7 +408,7 @@ const ENDINGS: [Ending; 11] = [
 fn words_files_and_output_decide_how_a_run_ends(rt: HostRuntime) -> Result<(), Fail> {
     let alloc = rt.alloc();
     for (place, row) in ENDINGS.iter().enumerate() {
-        let mut shelf = shelf(alloc, CUBES, SCRIPT, b"", row.shelf_failing)?;
+        let mut shelf = shelf(alloc, CUBES, SCRIPT, Vec::new(alloc), row.shelf_failing)?;
         let failing = Vec::from_slice(alloc, row.sink_failing)?;
         let mut sink = SinkMemory::new(alloc, row.room, failing)?;
         let (status, fault) = outcome(alloc, row.words, &mut shelf, &mut sink)?;
