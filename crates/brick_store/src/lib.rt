@@ -8,8 +8,11 @@ mod copies;
 mod cuts;
 mod delta;
 mod dense;
+mod fold_lists;
 mod parts;
 mod rows;
 mod scan;
+mod scratch;
 
 pub use brick::Brick;
+pub use scratch::Scratch;

@@ -1,5 +1,5 @@
 -- What a brick is scanned for.
-use Rattle.std.specs.Prelude.{ℕ, ◌-◌, ◌^◌, false, List, [], ◌∷◌, map}
+use Rattle.std.specs.Prelude.{ℕ, ◌-◌, ◌^◌, false, [], ◌∷◌, map}
 use Rattle.cube_values.specs.Answer.{table_of}
 use Rattle.cube_values.specs.declared.query.BoundQuery.{BoundQuery}
 use Rattle.cube_values.specs.declared.query.BoundItem.TheVariants.{Group, Count, Sum}
