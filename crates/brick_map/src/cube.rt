@@ -23,6 +23,7 @@ use crate::passes::{compare_each, count_rows, scan_each};
 use crate::recent::{forget_epoch, forget_up_to};
 use crate::runs::runs_of;
 use agg_fold::Partial;
+use brick_store::Scratch;
 use cube_rounds::RoundBrickList;
 use cube_values::{BoundQuery, CodedRows, CubeShape, Snapshot, Span};
 use std::alloc::{AllocError, Global};
@@ -166,6 +167,7 @@ impl CubeBricks {
         &self,
         query: &BoundQuery,
         snapshot: &Snapshot,
+        scratch: &mut Scratch,
         into: &mut Partial,
     ) -> Result<(), AllocError>
         requires sound { IsSoundQuery query.now
@@ -180,7 +182,7 @@ impl CubeBricks {
             ≡ rows_shown query.now.span snapshot.now
             (brick_in self.now number).entries (brick_in self.now number).rows) }
     {
-        scan_each(self.list.as_slice(), query, snapshot, into)?;
+        scan_each(self.list.as_slice(), query, snapshot, scratch, into)?;
         Ok(())
     }
 
@@ -192,6 +194,7 @@ impl CubeBricks {
         query: &BoundQuery,
         from: &Snapshot,
         to: &Snapshot,
+        scratch: &mut Scratch,
         came: &mut Partial,
         went: &mut Partial,
     ) -> Result<(), AllocError>
@@ -217,7 +220,7 @@ impl CubeBricks {
             ≡ rows_apart query.now.span from.now to.now
             (brick_in self.now number).entries (brick_in self.now number).rows) }
     {
-        compare_each(self.list.as_slice(), query, from, to, came, went)?;
+        compare_each(self.list.as_slice(), query, from, to, scratch, came, went)?;
         Ok(())
     }
 

@@ -12,7 +12,7 @@ ghost use Rattle.brick_map.specs.Lists.{HasNumberBelow, HasSame, MayMark, IsAske
 
 use crate::marks::{delete_from, prepare_deletion};
 use agg_fold::Partial;
-use brick_store::Brick;
+use brick_store::{Brick, Scratch};
 use cube_values::{BoundQuery, Shape, Snapshot, Span};
 use std::alloc::AllocError;
 
@@ -80,6 +80,7 @@ pub fn scan_each(
     bricks: &[Brick],
     query: &BoundQuery,
     snapshot: &Snapshot,
+    scratch: &mut Scratch,
     into: &mut Partial,
 ) -> Result<(), AllocError>
     requires sound { All (IsAsked query.now) bricks.now }
@@ -90,7 +91,7 @@ pub fn scan_each(
 {
     for brick in bricks {
         let _rows = brick.len();
-        brick.scan(query, snapshot, into)?;
+        brick.scan(query, snapshot, scratch, into)?;
     }
     Ok(())
 }
@@ -102,6 +103,7 @@ pub fn compare_each(
     query: &BoundQuery,
     from: &Snapshot,
     to: &Snapshot,
+    scratch: &mut Scratch,
     came: &mut Partial,
     went: &mut Partial,
 ) -> Result<(), AllocError>
@@ -118,7 +120,7 @@ pub fn compare_each(
 {
     for brick in bricks {
         let _rows = brick.len();
-        brick.delta(query, from, to, came, went)?;
+        brick.delta(query, from, to, scratch, came, went)?;
     }
     Ok(())
 }

@@ -17,9 +17,8 @@ ghost use Rattle.brick_store.specs.Deltas.{rows_apart};
 ghost use Rattle.brick_store.specs.Rows.{rows_shown, span_has_row};
 
 use crate::copies::copy_entries;
-use crate::delta::apart_bits;
 use crate::parts::{copy_of, leave_rows, purge_entries, starts_of};
-use crate::scan::fold_rows;
+use crate::scratch::Scratch;
 use agg_fold::Partial;
 use brick_address::{Cover, covers};
 use brick_columns::Columns;
@@ -174,6 +173,7 @@ impl Brick {
         &self,
         query: &BoundQuery,
         snapshot: &Snapshot,
+        scratch: &mut Scratch,
         into: &mut Partial,
     ) -> Result<(), AllocError>
         requires sound { IsSoundQuery query.now
@@ -186,8 +186,8 @@ impl Brick {
     {
         match covers(&self.shape, &query.span, self.number) {
             Cover::Outside => Ok(()),
-            Cover::Inside => self.fold(query, snapshot, true, into),
-            Cover::Cut { .. } => self.fold(query, snapshot, false, into),
+            Cover::Inside => self.fold(query, snapshot, true, scratch, into),
+            Cover::Cut { .. } => self.fold(query, snapshot, false, scratch, into),
         }
     }
 
@@ -197,6 +197,7 @@ impl Brick {
         query: &BoundQuery,
         snapshot: &Snapshot,
         all: bool,
+        scratch: &mut Scratch,
         into: &mut Partial,
     ) -> Result<(), AllocError>
         requires sound { IsSoundQuery query.now
@@ -208,14 +209,13 @@ impl Brick {
             (rows_shown query.now.span snapshot.now self.now.entries self.now.rows)
             into.old.groups into.new.groups) }
     {
-        let mut bits = self.epochs.visible_bits(snapshot)?;
         let _rows = self.columns.len();
-        fold_rows(
-            *self.starts.allocator(),
+        scratch.fold_seen(
+            &self.epochs,
             &self.columns,
             self.starts.as_slice(),
-            &mut bits,
             query,
+            snapshot,
             all,
             into,
         )
@@ -230,6 +230,7 @@ impl Brick {
         query: &BoundQuery,
         from: &Snapshot,
         to: &Snapshot,
+        scratch: &mut Scratch,
         came: &mut Partial,
         went: &mut Partial,
     ) -> Result<(), AllocError>
@@ -245,8 +246,8 @@ impl Brick {
             (rows_apart query.now.span from.now to.now self.now.entries self.now.rows)
             went.old.groups went.new.groups) }
     {
-        self.add_apart(query, to, from, came)?;
-        self.add_apart(query, from, to, went)
+        self.add_apart(query, to, from, scratch, came)?;
+        self.add_apart(query, from, to, scratch, went)
     }
 
     // Adds the rows of the query's span that one snapshot sees and another does not.
@@ -255,6 +256,7 @@ impl Brick {
         query: &BoundQuery,
         one: &Snapshot,
         other: &Snapshot,
+        scratch: &mut Scratch,
         into: &mut Partial,
     ) -> Result<(), AllocError>
         requires sound { IsSoundQuery query.now
@@ -267,8 +269,8 @@ impl Brick {
     {
         match covers(&self.shape, &query.span, self.number) {
             Cover::Outside => Ok(()),
-            Cover::Inside => self.fold_apart(query, one, other, true, into),
-            Cover::Cut { .. } => self.fold_apart(query, one, other, false, into),
+            Cover::Inside => self.fold_apart(query, one, other, true, scratch, into),
+            Cover::Cut { .. } => self.fold_apart(query, one, other, false, scratch, into),
         }
     }
 
@@ -279,6 +281,7 @@ impl Brick {
         one: &Snapshot,
         other: &Snapshot,
         all: bool,
+        scratch: &mut Scratch,
         into: &mut Partial,
     ) -> Result<(), AllocError>
         requires sound { IsSoundQuery query.now
@@ -290,14 +293,14 @@ impl Brick {
             (rows_apart query.now.span one.now other.now self.now.entries self.now.rows)
             into.old.groups into.new.groups) }
     {
-        let mut bits = apart_bits(&self.epochs, one, other)?;
         let _rows = self.columns.len();
-        fold_rows(
-            *self.starts.allocator(),
+        scratch.fold_apart(
+            &self.epochs,
             &self.columns,
             self.starts.as_slice(),
-            &mut bits,
             query,
+            one,
+            other,
             all,
             into,
         )

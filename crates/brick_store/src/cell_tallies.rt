@@ -1,6 +1,6 @@
 //! Arrays of what cells have of an item's numbers.
 
-ghost use Rattle.std.specs.Prelude.{◌≡◌, ℕ, ◌+ℤ◌, ◌<◌, [], pos, length, fold, All, IfOk, slice_index_or};
+ghost use Rattle.std.specs.Prelude.{◌≡◌, ℕ, ◌+ℤ◌, ◌<◌, [], pos, length, fold, replicate, All, OnOk, slice_index_or};
 ghost use Rattle.std.specs.Int.{int_min, int_max};
 ghost use Rattle.agg_fold.specs.Tallies.{tally_of, tally_with, IsSmall};
 ghost use Rattle.agg_fold.specs.declared.tally.Tally.TheVariants.{Total};
@@ -32,27 +32,35 @@ pub struct Told {
 }
 
 impl CellTallies {
-    /// Of no rows, for so many cells.
-    pub fn new(alloc: Global, item: BoundItem, cells: usize) -> Result<CellTallies, AllocError>
-        ensures long { IfOk result (HasCells cells) }
-        ensures empty { IfOk result
-            (λ t. (cell : ℕ) → cell < cells → cell_tally t cell ≡ tally_of [] item) }
+    /// Leaves what so many cells without rows have of an item's numbers. An array of the kind that the item
+    /// wants keeps its memory.
+    pub fn reset(&mut self, alloc: Global, item: BoundItem, cells: usize) -> Result<(), AllocError>
+        ensures long { OnOk result (HasCells cells self.new) }
+        ensures empty { OnOk result
+            ((cell : ℕ) → cell < cells → cell_tally self.new cell ≡ tally_of [] item) }
     {
         match item {
-            BoundItem::Group(_) | BoundItem::Count => Ok(CellTallies::Nothing),
+            BoundItem::Group(_) | BoundItem::Count => *self = CellTallies::Nothing,
             BoundItem::Sum(_) | BoundItem::Avg(_) => {
-                let sums = vec![in alloc; 0; cells]?;
-                Ok(CellTallies::Sums(sums))
+                if let CellTallies::Sums(sums) = self {
+                    return fill(sums, cells, 0);
+                }
+                *self = CellTallies::Sums(vec![in alloc; 0; cells]?);
             }
             BoundItem::Min(_) => {
-                let lows = vec![in alloc; i64::MAX; cells]?;
-                Ok(CellTallies::Lows(lows))
+                if let CellTallies::Lows(lows) = self {
+                    return fill(lows, cells, i64::MAX);
+                }
+                *self = CellTallies::Lows(vec![in alloc; i64::MAX; cells]?);
             }
             BoundItem::Max(_) => {
-                let highs = vec![in alloc; i64::MIN; cells]?;
-                Ok(CellTallies::Highs(highs))
+                if let CellTallies::Highs(highs) = self {
+                    return fill(highs, cells, i64::MIN);
+                }
+                *self = CellTallies::Highs(vec![in alloc; i64::MIN; cells]?);
             }
         }
+        Ok(())
     }
 
     /// Adds numbers, each to the cell that stands at its place.
@@ -90,6 +98,14 @@ impl CellTallies {
         }
         told
     }
+}
+
+// Leaves so many equal numbers.
+fn fill<T: Copy>(list: &mut Vec<T>, count: usize, number: T) -> Result<(), AllocError>
+    ensures { OnOk result (list.new.items ≡ replicate count number) }
+{
+    list.clear();
+    list.resize(count, number)
 }
 
 // Adds numbers to the sums of their cells.

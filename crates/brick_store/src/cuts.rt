@@ -10,12 +10,12 @@ ghost use Rattle.brick_store.specs.Whole.{HaveCoordsFrom, row_with_coords};
 use crate::scan::ROWS_AT_ONCE;
 use brick_columns::Columns;
 use cube_values::{Bits, Part, Span};
-use std::alloc::{AllocError, Global};
+use std::alloc::AllocError;
 
 /// Clears the bits of the rows that a span has not. It goes over the rows once for each dimension that the
-/// span cuts, and skips words of bits that are 0.
+/// span cuts, and skips words of bits that are 0. The list is lent.
 pub fn clear_outside(
-    alloc: Global,
+    offsets: &mut Vec<u32>,
     columns: &Columns,
     starts: &[u32],
     span: &Span,
@@ -31,7 +31,7 @@ pub fn clear_outside(
         (items_where_true bits.old.bits (map (row_with_coords starts.now) columns.now.rows))) }
 {
     let at_once = columns.len().min(ROWS_AT_ONCE) as usize;
-    let mut offsets = vec![in alloc; 0; at_once]?;
+    offsets.resize(at_once, 0)?;
     let parts = span.parts.as_slice();
     'dims: for dim in 0..starts.len() {
         clear_dimension(

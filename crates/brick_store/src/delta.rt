@@ -1,21 +1,40 @@
-//! The rows that one snapshot sees and another does not.
+//! The bits of the rows that a snapshot sees, and of those that one sees and another does not.
 
-ghost use Rattle.std.specs.Prelude.{◌≡◌, length, IfOk};
+ghost use Rattle.std.specs.Prelude.{◌≡◌, length, OnOk};
+ghost use Rattle.epochs_vector.specs.Seen.{seen_rows};
 ghost use Rattle.brick_store.specs.Deltas.{bits_apart, seen_apart};
 
 use cube_values::{Bits, Snapshot};
 use epochs_vector::Epochs;
 use std::alloc::AllocError;
 
-/// A bit for each row, set where one snapshot sees the row and another does not. It is an error where memory
-/// is wanted.
-pub fn apart_bits(epochs: &Epochs, one: &Snapshot, other: &Snapshot) -> Result<Bits, AllocError>
-    ensures { IfOk result (λ bits. bits.bits ≡ seen_apart one.now other.now epochs.now.entries) }
+/// A bit for each row, set where the snapshot sees the row, in bits that are lent.
+pub fn show_in(bits: &mut Bits, epochs: &Epochs, snapshot: &Snapshot) -> Result<(), AllocError>
+    ensures { OnOk result (bits.new.bits ≡ seen_rows snapshot.now epochs.now.entries) }
 {
-    let mut bits = epochs.visible_bits(one)?;
-    let others = epochs.visible_bits(other)?;
-    clear_where(&mut bits, &others);
-    Ok(bits)
+    let rows = epochs.rows();
+    bits.reserve(rows)?;
+    bits.clear(rows);
+    epochs.set_visible(snapshot, bits);
+    Ok(())
+}
+
+/// A bit for each row, set where one snapshot sees the row and another does not, in bits that are lent, as are
+/// the others.
+pub fn show_apart_in(
+    bits: &mut Bits,
+    others: &mut Bits,
+    epochs: &Epochs,
+    one: &Snapshot,
+    other: &Snapshot,
+) -> Result<(), AllocError>
+    ensures { OnOk result
+        (bits.new.bits ≡ seen_apart one.now other.now epochs.now.entries) }
+{
+    show_in(bits, epochs, one)?;
+    show_in(others, epochs, other)?;
+    clear_where(bits, others);
+    Ok(())
 }
 
 // Clears the bits that are set in others. The work goes by runs of the others.

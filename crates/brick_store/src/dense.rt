@@ -26,13 +26,22 @@ pub struct Dense {
 }
 
 impl Dense {
-    /// So many cells without rows.
-    pub fn new(alloc: Global, query: &BoundQuery, cells: usize) -> Result<Dense, AllocError>
-        ensures { IfOk result (λ d. (ranges : List ℕ) → HoldRows ranges query.now cells [] d) }
+    /// No cells. It takes no memory.
+    pub fn new(alloc: Global) -> Dense {
+        Dense {
+            counts: Vec::new(alloc),
+            tallies: Vec::new(alloc),
+        }
+    }
+
+    /// Leaves so many cells without rows.
+    pub fn reset(&mut self, query: &BoundQuery, cells: usize) -> Result<(), AllocError>
+        ensures { OnOk result
+            ((ranges : List ℕ) → HoldRows ranges query.now cells [] self.new) }
     {
-        let counts = vec![in alloc; 0; cells]?;
-        let tallies = empty_tallies(alloc, query.items.as_slice(), cells)?;
-        Ok(Dense { counts, tallies })
+        self.counts.clear();
+        self.counts.resize(cells, 0)?;
+        empty_tallies(&mut self.tallies, query.items.as_slice(), cells)
     }
 
     /// Adds the rows of columns from one place up to another. The lists are lent, and say how many rows are
@@ -101,17 +110,24 @@ impl Dense {
         );
     }
 
-    /// Adds to a partial the rows that the cells have.
+    /// Adds to a partial the rows that the cells have. The lists are lent.
     pub fn add_to(
         &self,
-        alloc: Global,
         columns: &Columns,
         starts: &[u32],
         query: &BoundQuery,
+        key: &mut [u32],
+        sums: &mut [i128],
+        lows: &mut [i64],
+        highs: &mut [i64],
         into: &mut Partial,
     ) -> Result<(), AllocError>
         requires starts { length starts.now ≡ length columns.now.layout.ranges }
         requires fold { CanFold query.now columns.now }
+        requires key { length key.old ≡ length query.now.group }
+        requires sums { length sums.old ≡ length query.now.items }
+        requires lows { length lows.old ≡ length query.now.items }
+        requires highs { length highs.old ≡ length query.now.items }
         requires held { (rows : List BrickRow)
             × HoldRows columns.now.layout.ranges query.now
             (cell_count columns.now.layout.ranges query.now.group) rows self.now
@@ -124,22 +140,8 @@ impl Dense {
             → Gains query.now (map (row_with_coords starts.now) rows)
             into.old.groups into.new.groups) }
     {
-        let mut key = vec![in alloc; 0; query.group.len()]?;
-        let mut sums = vec![in alloc; 0; query.items.len()]?;
-        let mut lows = vec![in alloc; 0; query.items.len()]?;
-        let mut highs = vec![in alloc; 0; query.items.len()]?;
         'cells: for cell in 0..self.counts.len() {
-            self.add_cell(
-                columns,
-                starts,
-                query,
-                cell,
-                key.as_mut_slice(),
-                sums.as_mut_slice(),
-                lows.as_mut_slice(),
-                highs.as_mut_slice(),
-                into,
-            )?;
+            self.add_cell(columns, starts, query, cell, key, sums, lows, highs, into)?;
         }
         Ok(())
     }
@@ -190,23 +192,50 @@ impl Dense {
     }
 }
 
-// For each item what is kept of no rows.
+// Leaves for each item what is kept of no rows.
 fn empty_tallies(
-    alloc: Global,
+    tallies: &mut Vec<CellTallies>,
     items: &[BoundItem],
     cells: usize,
-) -> Result<Vec<CellTallies>, AllocError>
-    ensures many { IfOk result (λ ts. length ts.items ≡ length items.now) }
-    ensures long { IfOk result (λ ts. All (HasCells cells) ts.items) }
-    ensures empty { IfOk result (λ ts. (i cell : ℕ) → i < length items.now → cell < cells
-        → cell_tally (slice_index_or ts.items i Nothing) cell
+) -> Result<(), AllocError>
+    ensures many { OnOk result (length tallies.new.items ≡ length items.now) }
+    ensures long { OnOk result (All (HasCells cells) tallies.new.items) }
+    ensures empty { OnOk result ((i cell : ℕ) → i < length items.now → cell < cells
+        → cell_tally (slice_index_or tallies.new.items i Nothing) cell
         ≡ tally_of [] (slice_index_or items.now i (Group 0))) }
 {
-    let mut tallies = Vec::with_capacity(alloc, items.len())?;
-    'items: for item in items {
-        tallies.push(CellTallies::new(alloc, *item, cells)?)?;
+    take_many(tallies, items.len())?;
+    reset_each(*tallies.allocator(), tallies.as_mut_slice(), items, cells)
+}
+
+// Leaves so many tallies.
+fn take_many(tallies: &mut Vec<CellTallies>, many: usize) -> Result<(), AllocError>
+    ensures { OnOk result (length tallies.new.items ≡ many) }
+{
+    tallies.truncate(many);
+    for _i in tallies.len()..many {
+        tallies.push(CellTallies::Nothing)?;
     }
-    Ok(tallies)
+    Ok(())
+}
+
+// Leaves for each item what is kept of no rows.
+fn reset_each(
+    alloc: Global,
+    tallies: &mut [CellTallies],
+    items: &[BoundItem],
+    cells: usize,
+) -> Result<(), AllocError>
+    requires { length tallies.old ≡ length items.now }
+    ensures long { OnOk result (All (HasCells cells) tallies.new) }
+    ensures empty { OnOk result ((i cell : ℕ) → i < length items.now → cell < cells
+        → cell_tally (slice_index_or tallies.new i Nothing) cell
+        ≡ tally_of [] (slice_index_or items.now i (Group 0))) }
+{
+    'items: for i in 0..items.len() {
+        tallies[i].reset(alloc, items[i], cells)?;
+    }
+    Ok(())
 }
 
 // Counts the rows of which these are the cells.

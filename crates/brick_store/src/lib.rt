@@ -9,8 +9,11 @@ mod counted_chunks;
 mod cuts;
 mod delta;
 mod dense;
+mod fold_lists;
 mod parts;
 mod rows;
 mod scan;
+mod scratch;
 
 pub use brick::Brick;
+pub use scratch::Scratch;

@@ -15,11 +15,12 @@ ghost use Rattle.brick_store.specs.Whole.{HaveCoordsFrom, row_with_coords};
 use crate::cells::cell_count;
 use crate::cuts::clear_outside;
 use crate::dense::Dense;
+use crate::fold_lists::FoldLists;
 use crate::rows::read_row;
 use agg_fold::Partial;
 use brick_columns::Columns;
 use cube_values::{Bits, BoundItem, BoundQuery};
-use std::alloc::{AllocError, Global};
+use std::alloc::AllocError;
 
 /// So many cells a group may have in a brick of fewer rows for a fold into arrays, and so many a row: with
 /// more of them it costs less to add rows one by one than to look at each cell.
@@ -31,9 +32,9 @@ const CELLS_A_ROW: u64 = 4;
 pub const ROWS_AT_ONCE: u64 = 1_024;
 
 /// Adds the rows whose bit is set and that the query's span has. Where the span has not all rows, the bits of
-/// those outside are cleared first.
+/// those outside are cleared first. The lists are lent.
 pub fn fold_rows(
-    alloc: Global,
+    lists: &mut FoldLists,
     columns: &Columns,
     starts: &[u32],
     bits: &mut Bits,
@@ -53,15 +54,15 @@ pub fn fold_rows(
         into.old.groups into.new.groups) }
 {
     if all {
-        fold_whole(alloc, columns, starts, bits, query, into)
+        fold_whole(lists, columns, starts, bits, query, into)
     } else {
-        fold_cut(alloc, columns, starts, bits, query, into)
+        fold_cut(lists, columns, starts, bits, query, into)
     }
 }
 
 // Adds the rows whose bit is set, where the query's span has all rows.
 fn fold_whole(
-    alloc: Global,
+    lists: &mut FoldLists,
     columns: &Columns,
     starts: &[u32],
     bits: &Bits,
@@ -79,12 +80,12 @@ fn fold_whole(
         (items_where_true bits.now.bits (map (row_with_coords starts.now) columns.now.rows)))
         into.old.groups into.new.groups) }
 {
-    fold_chosen(alloc, columns, starts, bits, query, into)
+    fold_chosen(lists, columns, starts, bits, query, into)
 }
 
 // Adds the rows whose bit is set and that the query's span has, and clears the bits of the others.
 fn fold_cut(
-    alloc: Global,
+    lists: &mut FoldLists,
     columns: &Columns,
     starts: &[u32],
     bits: &mut Bits,
@@ -100,13 +101,13 @@ fn fold_cut(
         (items_where_true bits.old.bits (map (row_with_coords starts.now) columns.now.rows)))
         into.old.groups into.new.groups) }
 {
-    clear_outside(alloc, columns, starts, &query.span, bits)?;
-    fold_chosen(alloc, columns, starts, bits, query, into)
+    clear_outside(&mut lists.offsets, columns, starts, &query.span, bits)?;
+    fold_chosen(lists, columns, starts, bits, query, into)
 }
 
 // Adds the rows whose bit is set, all of which the query's span has. Where no bit is set, no row is looked at.
 fn fold_chosen(
-    alloc: Global,
+    lists: &mut FoldLists,
     columns: &Columns,
     starts: &[u32],
     bits: &Bits,
@@ -128,9 +129,9 @@ fn fold_chosen(
     }
     let most = most_cells(columns.len());
     if let Some(cells) = cell_count(columns, query.group.as_slice(), most) {
-        return fold_cells(alloc, columns, starts, bits, query, cells, into);
+        return fold_cells(lists, columns, starts, bits, query, cells, into);
     }
-    fold_each(alloc, columns, starts, bits, query, into)
+    fold_each(lists, columns, starts, bits, query, into)
 }
 
 // So many cells are worth a fold into arrays for so many rows.
@@ -145,7 +146,7 @@ fn most_cells(rows: u64) -> u64
 
 // Adds the rows whose bit is set, by the cells of the query's group.
 fn fold_cells(
-    alloc: Global,
+    lists: &mut FoldLists,
     columns: &Columns,
     starts: &[u32],
     bits: &Bits,
@@ -168,19 +169,27 @@ fn fold_cells(
         into.old.groups into.new.groups) }
 {
     numbers_fit(columns, query.group.as_slice(), query.items.as_slice());
-    let mut dense = Dense::new(alloc, query, cells as usize)?;
     let at_once = columns.len().min(ROWS_AT_ONCE) as usize;
-    let mut numbers = vec![in alloc; 0; at_once]?;
-    let mut offsets = vec![in alloc; 0; at_once]?;
+    lists.fit(query, at_once)?;
+    lists.dense.reset(query, cells as usize)?;
     add_runs(
         columns,
         bits,
         query,
-        &mut dense,
-        numbers.as_mut_slice(),
-        offsets.as_mut_slice(),
+        &mut lists.dense,
+        lists.numbers.as_mut_slice(),
+        lists.offsets.as_mut_slice(),
     );
-    dense.add_to(alloc, columns, starts, query, into)?;
+    lists.dense.add_to(
+        columns,
+        starts,
+        query,
+        lists.key.as_mut_slice(),
+        lists.sums.as_mut_slice(),
+        lists.lows.as_mut_slice(),
+        lists.highs.as_mut_slice(),
+        into,
+    )?;
     Ok(())
 }
 
@@ -258,7 +267,7 @@ fn all_fit(numbers: &[i64])
 
 // Adds the rows whose bit is set, one after another.
 fn fold_each(
-    alloc: Global,
+    lists: &mut FoldLists,
     columns: &Columns,
     starts: &[u32],
     bits: &Bits,
@@ -275,8 +284,10 @@ fn fold_each(
         (items_where_true bits.now.bits (map (row_with_coords starts.now) columns.now.rows))
         into.old.groups into.new.groups) }
 {
-    let mut coords = vec![in alloc; 0; starts.len()]?;
-    let mut metrics = vec![in alloc; 0; columns.width()]?;
+    let coords = &mut lists.coords;
+    let metrics = &mut lists.metrics;
+    coords.resize(starts.len(), 0)?;
+    metrics.resize(columns.width(), 0)?;
     'rows: for row in 0..columns.len() {
         fold_row(
             columns,

@@ -1,6 +1,6 @@
 //! A vector of epochs that is whole after every call.
 
-ghost use Rattle.std.specs.Prelude.{◌≡◌, ◌+◌, ◌^◌, ◌<◌, ◌≤◌, true, [], length, replicate, vec_capacity, OnOk, OnErr, IsOk, IfOk};
+ghost use Rattle.std.specs.Prelude.{◌≡◌, ◌+◌, ◌^◌, ◌<◌, ◌≤◌, true, false, [], length, replicate, vec_capacity, OnOk, OnErr, IsOk, IfOk};
 ghost use Rattle.cube_values.specs.BitRows.{set_bits};
 ghost use Rattle.cube_values.specs.EpochsVector.{IsVector, rows_of, vector_with_entry};
 ghost use Rattle.cube_values.specs.declared.entry.Entry.TheVariants.{Run, Mark};
@@ -122,17 +122,26 @@ impl Epochs {
         self.rows
     }
 
-    /// A bit for each row, set where the snapshot sees the row: where it sees the row's epoch, and no
-    /// mark that hides the row. The work is linear in entries and words of bits.
-    /// It is an error where memory is wanted.
+    /// A bit for each row, set where the snapshot sees the row. It is an error where memory is wanted.
     pub fn visible_bits(&self, snapshot: &Snapshot) -> Result<Bits, AllocError>
         ensures bits { IfOk result (λ bits. bits.bits ≡ seen_rows snapshot.now self.now.entries) }
         ensures room { IfOk result (λ bits. bits.room ≡ rows_of self.now.entries) }
     {
         let mut bits = Bits::new(*self.entries.allocator(), self.rows)?;
-        let limit = limit_of(self.entries.as_slice(), snapshot);
-        show_rows(&mut bits, self.entries.as_slice(), snapshot, &limit);
+        self.set_visible(snapshot, &mut bits);
         Ok(bits)
+    }
+
+    /// Of bits that are all clear, one for each row, sets those of the rows that the snapshot sees: where it
+    /// sees the row's epoch, and no mark that hides the row. The work is linear in entries and words of
+    /// bits, and it takes no memory.
+    pub fn set_visible(&self, snapshot: &Snapshot, bits: &mut Bits)
+        requires { bits.old.bits ≡ replicate (rows_of self.now.entries) false }
+        ensures bits { bits.new.bits ≡ seen_rows snapshot.now self.now.entries }
+        ensures room { bits.new.room ≡ bits.old.room }
+    {
+        let limit = limit_of(self.entries.as_slice(), snapshot);
+        show_rows(bits, self.entries.as_slice(), snapshot, &limit);
     }
 
     /// Takes the runs and marks of the epoch out, and with them its rows. `keep` has one bit for each row,

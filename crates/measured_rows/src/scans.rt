@@ -11,7 +11,7 @@ ghost use Rattle.measured_rows.specs.Scanned.{all_coords, all_epochs, count_alon
 use crate::groups::table_sum;
 use crate::one_brick::{BATCH, append_all, batch, one_brick};
 use agg_fold::Partial;
-use brick_store::Brick;
+use brick_store::{Brick, Scratch};
 use cube_values::{
     BoundItem, BoundItems, BoundQuery, Coords, EpochList, NameLists, Part, Parts, Snapshot, Span,
 };
@@ -80,7 +80,8 @@ fn scanned(alloc: Global, brick: &Brick, query: &BoundQuery) -> Result<Partial, 
         own: false,
     };
     let mut partial = Partial::new(alloc);
-    brick.scan(query, &snapshot, &mut partial)?;
+    let mut scratch = Scratch::new(alloc)?;
+    brick.scan(query, &snapshot, &mut scratch, &mut partial)?;
     Ok(partial)
 }
 

@@ -13,6 +13,7 @@ ghost use Rattle.shard_cell.specs.Slots.{AreGroupsOf, HasSameSlot, HasShape, IsS
 
 use agg_fold::Partial;
 use brick_map::CubeBricks;
+use brick_store::Scratch;
 use cube_rounds::RoundBrickList;
 use cube_values::{BoundQuery, CodedRows, CubeShape, Snapshot, Span};
 use standing_query::Change;
@@ -181,7 +182,8 @@ impl CubeSlot {
         match &self.bricks {
             None => Ok(found),
             Some(cube) => {
-                cube.scan(query, snapshot, &mut found)?;
+                let mut scratch = Scratch::new(alloc)?;
+                cube.scan(query, snapshot, &mut scratch, &mut found)?;
                 Ok(found)
             }
         }
@@ -216,7 +218,8 @@ impl CubeSlot {
         match &self.bricks {
             None => Ok(Change { came, went }),
             Some(cube) => {
-                cube.delta(query, from, to, &mut came, &mut went)?;
+                let mut scratch = Scratch::new(alloc)?;
+                cube.delta(query, from, to, &mut scratch, &mut came, &mut went)?;
                 Ok(Change { came, went })
             }
         }

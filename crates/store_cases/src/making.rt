@@ -11,7 +11,7 @@ ghost use Rattle.brick_store.specs.Bricks.{IsRowOf};
 
 use agg_fold::Partial;
 use brick_address::brick_of;
-use brick_store::Brick;
+use brick_store::{Brick, Scratch};
 use cube_values::{
     BoundItem, BoundItems, BoundQuery, CodedRows, Coords, EpochList, Field, NameLists, Part, Parts,
     Shape, Size, Sizes, Snapshot, Span, Table,
@@ -276,7 +276,8 @@ pub fn table(
     assert!(rt; is_sound(query, shape.sizes.len(), 1));
     assert!(rt; are_sound_parts(query.span.parts.as_slice()));
     assert!(rt; brick.len() < 1 << 62);
-    brick.scan(query, snapshot, &mut partial)?;
+    let mut scratch = Scratch::new(alloc)?;
+    brick.scan(query, snapshot, &mut scratch, &mut partial)?;
     partial.finish(query, names)
 }
 

@@ -18,7 +18,7 @@ add_runs-requires-clause-few c =
 pub add_runs-requires-clause-empty : goal.add_runs-requires-clause-empty
 add_runs-requires-clause-empty c =
     let ranges = c.args.columns.now.layout.ranges in
-    subst (λ n. HoldRows ranges c.args.query.now n [] c.in_ok-dense.dense) c.requires.cells (c.in_ok-dense.ensures ranges)
+    subst (λ n. HoldRows ranges c.args.query.now n [] c.reset.new.self) c.requires.cells (c.in_ok-reset.ensures ranges)
 
 pub add_to-requires-clause-fold : goal.add_to-requires-clause-fold
 add_to-requires-clause-fold c =

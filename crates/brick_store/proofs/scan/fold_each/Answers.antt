@@ -26,8 +26,8 @@ fold_row-requires-clause-room c =
 pub rows-init : goal.rows-init
 rows-init c = record {
   gains = gains_none c.args.query.now c.args.into.now.groups;
-  coords = omega (arith, c.in_ok-coords.ensures.len);
-  metrics = omega (arith, c.in_ok-metrics.ensures.len, c.width.ensures);
+  coords = omega (arith, c.in_ok-resize.ensures.len);
+  metrics = omega (arith, c.in_ok-resize-2.ensures.len, c.width.ensures);
 }
 
 pub rows-preserved : goal.rows-preserved
