@@ -1,5 +1,5 @@
 -- The columns of a brick stay whole as they grow and as rows come and go.
-use Rattle.std.proofs.Common.{◌≡◌, ℕ, ℤ, pos, ◌+◌, ◌-◌, ◌<◌, ◌≤◌, Bool, List, [], ◌∷◌, ◌++◌, length, map, get_or, All, Vec, Global, zero, suc, ◌^◌, sum, le_antisymm, refl, sym, ap, subst, ◌∙◌, arith}
+use Rattle.std.proofs.Common.{◌≡◌, ℕ, ℤ, pos, ◌+◌, ◌-◌, ◌<◌, ◌≤◌, Bool, List, [], ◌∷◌, ◌++◌, length, map, get_or, All, Vec, Global, zero, suc, true, IsTrue, ◌^◌, sum, pow_mono, le_antisymm, refl, sym, ap, subst, ◌∙◌, arith}
 use Rattle.std.specs.List.{AllZip, zip, items_where_true}
 use Rattle.std.specs.Vec.{with_items}
 use Rattle.std.proofs.lemmas.List.{length-map, map-append, length_push, with_items_is}
@@ -12,7 +12,7 @@ use Rattle.brick_columns.specs.Lists.{column_rows, AreColumns, HaveSpare, IsGrow
 use Rattle.cube_values.specs.declared.shape.Size.{Size}
 use Rattle.cube_values.specs.Shapes.{IsSoundSize}
 use Rattle.packed_words.specs.Rows.{NumberRows, HasWidth}
-use Rattle.brick_columns.specs.Rows.{BrickRow, BrickRows, IsBrickRow, IsWidth, row_at, metric_at}
+use Rattle.brick_columns.specs.Rows.{BrickRow, BrickRows, IsBrickRow, IsWidth, HasShortMetrics, row_at, metric_at}
 use Rattle.brick_columns.specs.Whole.{brick_rows, rows_in, layout_in, contract_view, IsWhole}
 use Rattle.brick_columns.proofs.KeptItems.{kept_all, kept_length, kept_map, kept_zip}
 use Rattle.brick_columns.proofs.RowLists.{map_map, zip_push, all_across, rows_length, rows_grown, rows_kept, rows_pushed, columns_grown, columns_kept, columns_pushed, columns_empty, columns_roomier, length_pushed, column_of_rows}
@@ -39,14 +39,15 @@ brick_rows_push os ms row e =
 pub seen_length : (c : Inside) (v : BrickRows) → IsWhole c → contract_view c ≡ v → length v.rows ≡ c.rows
 seen_length c v h e = ap (λ (v : BrickRows). length v.rows) (sym e) ∙ whole_length c h
 
--- The columns with other rows of offsets, lists of metrics, number of rows and room.
-abbrev pub after : Inside → NumberRows → List (Vec ℤ Global) → ℕ → ℕ → Inside
-after old os ms rows room = record {
+-- The columns with other rows of offsets, lists of metrics, number of rows and room, short or not.
+abbrev pub after : Inside → NumberRows → List (Vec ℤ Global) → ℕ → ℕ → Bool → Inside
+after old os ms rows room short = record {
   ranges = old.ranges;
   offsets = os;
   metrics = with_items old.metrics ms;
   rows = rows;
   room = room;
+  short = short;
 }
 
 -- The new columns are the old ones, grown.
@@ -56,6 +57,7 @@ pub record Grows (old new : Inside) : Type 0 where
   pub offsets : new.offsets.rows ≡ old.offsets.rows
   pub metrics : AllZip IsGrown old.metrics.items new.metrics.items
   pub rows : new.rows ≡ old.rows
+  pub short : new.short ≡ old.short
 
 -- The new columns are the old ones with a row at the end.
 pub record Takes (row : BrickRow) (old new : Inside) : Type 0 where
@@ -64,6 +66,7 @@ pub record Takes (row : BrickRow) (old new : Inside) : Type 0 where
   pub metrics : ArePushed old.metrics.items row.metrics new.metrics.items
   pub rows : new.rows ≡ old.rows + 1
   pub room : new.room ≡ old.room
+  pub short : IsTrue new.short → IsTrue old.short × HasShortMetrics row
 
 -- The new columns are the old ones with the rows whose bit is set.
 pub record Keeps (bits : List Bool) (old new : Inside) : Type 0 where
@@ -72,6 +75,7 @@ pub record Keeps (bits : List Bool) (old new : Inside) : Type 0 where
   pub metrics : AllZip (IsSelection bits) old.metrics.items new.metrics.items
   pub rows : new.rows ≡ set_bits bits
   pub room : new.room ≡ old.room
+  pub short : new.short ≡ old.short
 
 -- lists that were written through a slice, where each is what R makes of the old one
 written : {A : Type 0} (R : A → A → Type 0) (v : Vec A Global) (ys : List A) → AllZip R v.items ys → (with_items v ys).items ≡ ys
@@ -81,13 +85,13 @@ written R v ys h = with_items_is v ys (omega (arith, length_all_zip R v.items ys
 by_lists : {A : Type 0} (R : A → A → Type 0) (v : Vec A Global) (ys : List A) → AllZip R v.items ys → AllZip R v.items (with_items v ys).items
 by_lists R v ys h = rw (written R v ys h) h
 
-pub grows_by : (old : Inside) (os : NumberRows) (ms : List (Vec ℤ Global)) (room : ℕ) → os.widths ≡ old.offsets.widths → os.rows ≡ old.offsets.rows → AllZip IsGrown old.metrics.items ms → Grows old (after old os ms old.rows room)
+pub grows_by : (old : Inside) (os : NumberRows) (ms : List (Vec ℤ Global)) (room : ℕ) → os.widths ≡ old.offsets.widths → os.rows ≡ old.offsets.rows → AllZip IsGrown old.metrics.items ms → Grows old (after old os ms old.rows room old.short)
 grows_by old os ms room w o m =
-    record { ranges = refl; widths = w; offsets = o; metrics = by_lists IsGrown old.metrics ms m; rows = refl }
+    record { ranges = refl; widths = w; offsets = o; metrics = by_lists IsGrown old.metrics ms m; rows = refl; short = refl }
 
-pub keeps_by : (bits : List Bool) (old : Inside) (os : NumberRows) (ms : List (Vec ℤ Global)) (n : ℕ) → os ≡ record old.offsets { rows = items_where_true bits old.offsets.rows } → AllZip (IsSelection bits) old.metrics.items ms → n ≡ set_bits bits → Keeps bits old (after old os ms n old.room)
+pub keeps_by : (bits : List Bool) (old : Inside) (os : NumberRows) (ms : List (Vec ℤ Global)) (n : ℕ) → os ≡ record old.offsets { rows = items_where_true bits old.offsets.rows } → AllZip (IsSelection bits) old.metrics.items ms → n ≡ set_bits bits → Keeps bits old (after old os ms n old.room old.short)
 keeps_by bits old os ms n o m e =
-    record { ranges = refl; offsets = o; metrics = by_lists (IsSelection bits) old.metrics ms m; rows = e; room = refl }
+    record { ranges = refl; offsets = o; metrics = by_lists (IsSelection bits) old.metrics ms m; rows = e; room = refl; short = refl }
 
 -- a row that contracts say to be of the layout is of the columns' layout
 pub row_of : (c : Inside) (v : BrickRows) (row : BrickRow) → contract_view c ≡ v → AllZip ◌<◌ row.offsets v.layout.ranges → length row.metrics ≡ v.layout.metrics → IsBrickRow (layout_in c) row
@@ -115,10 +119,10 @@ same_widths (r ∷ ranges) (x ∷ xs) (y ∷ ys) p q =
     let same : x ≡ y = le_antisymm (p.0.least y q.0.enough) (q.0.least x p.0.enough) in
     λ t. same t ∷ same_widths ranges xs ys p.1 q.1 t
 
-pub takes_by : (row : BrickRow) (old : Inside) (os : NumberRows) (ms : List (Vec ℤ Global)) → IsBrickRow (layout_in old) row → os ≡ record old.offsets { rows = old.offsets.rows ++ row.offsets ∷ [] } → ArePushed old.metrics.items row.metrics ms → Takes row old (after old os ms (old.rows + 1) old.room)
-takes_by row old os ms r o m =
+pub takes_by : (row : BrickRow) (old : Inside) (os : NumberRows) (ms : List (Vec ℤ Global)) (short : Bool) → IsBrickRow (layout_in old) row → os ≡ record old.offsets { rows = old.offsets.rows ++ row.offsets ∷ [] } → ArePushed old.metrics.items row.metrics ms → (IsTrue short → IsTrue old.short × HasShortMetrics row) → Takes row old (after old os ms (old.rows + 1) old.room short)
+takes_by row old os ms short r o m s =
     let width : length ms ≡ old.metrics.len = length_pushed old.metrics.items row.metrics ms r.metrics m ∙ sym old.metrics.ok.0 in
-    record { ranges = refl; offsets = o; metrics = rw (with_items_is old.metrics ms width) m; rows = refl; room = refl }
+    record { ranges = refl; offsets = o; metrics = rw (with_items_is old.metrics ms width) m; rows = refl; room = refl; short = s }
 
 -- the layout does not change
 same_layout : (old new : Inside) → new.ranges ≡ old.ranges → length new.metrics.items ≡ length old.metrics.items → layout_in new ≡ layout_in old
@@ -141,6 +145,7 @@ keeps_whole bits old new e k h =
       room = omega (arith, h.room, k.room, ap (λ (o : NumberRows). o.room) k.offsets);
       metrics = rw (k.rows, k.room) (columns_kept bits old.metrics.items new.metrics.items old.rows old.room e k.metrics h.metrics);
       sound = rw (same_layout old new k.ranges (sym width), keeps_rows bits old new e k) (kept_all (IsBrickRow (layout_in old)) bits (rows_in old) h.sound);
+      short = λ t. rw (keeps_rows bits old new e k) (kept_all HasShortMetrics bits (rows_in old) (h.short (subst (λ (b : Bool). IsTrue b) k.short t)));
     }
 
 -- a row at the end
@@ -161,6 +166,7 @@ takes_whole row old new r l p h =
       room = omega (arith, h.room, p.room, ap (λ (o : NumberRows). o.room) p.offsets);
       metrics = rw (p.rows, p.room) (columns_pushed old.metrics.items row.metrics new.metrics.items old.rows old.room r.metrics p.metrics h.metrics);
       sound = rw (same_layout old new p.ranges width, takes_rows row old new r p h) (All-push (IsBrickRow (layout_in old)) (rows_in old) row h.sound r);
+      short = λ t. let (before, last) = p.short t in rw (takes_rows row old new r p h) (All-push HasShortMetrics (rows_in old) row (h.short before) last);
     }
 
 -- more memory
@@ -187,6 +193,7 @@ grows_sound old new g ms l r h =
       room = r;
       metrics = ms;
       sound = rw (same_layout old new g.ranges (sym width), grows_rows old new g) h.sound;
+      short = λ t. rw (grows_rows old new g) (h.short (subst (λ (b : Bool). IsTrue b) g.short t));
     }
 
 pub grows_whole : (old new : Inside) → Grows old new → new.room ≡ old.room → old.offsets.room ≤ new.offsets.room → IsWhole old → IsWhole new
@@ -194,9 +201,9 @@ grows_whole old new g e r h =
     grows_sound old new g (rw (g.rows, e) (columns_grown old.metrics.items new.metrics.items old.rows old.room g.metrics h.metrics)) (omega (arith, h.within, g.rows)) (omega (arith, h.room)) h
 
 -- memory for `more` rows
-pub grows_roomier : (old : Inside) (os : NumberRows) (ms : List (Vec ℤ Global)) (more room : ℕ) → os.widths ≡ old.offsets.widths → os.rows ≡ old.offsets.rows → room ≤ os.room → AllZip IsGrown old.metrics.items ms → HaveSpare more ms → old.rows + more ≡ room → IsWhole old → IsWhole (after old os ms old.rows room)
+pub grows_roomier : (old : Inside) (os : NumberRows) (ms : List (Vec ℤ Global)) (more room : ℕ) → os.widths ≡ old.offsets.widths → os.rows ≡ old.offsets.rows → room ≤ os.room → AllZip IsGrown old.metrics.items ms → HaveSpare more ms → old.rows + more ≡ room → IsWhole old → IsWhole (after old os ms old.rows room old.short)
 grows_roomier old os ms more room w o r m rm e h =
-    let new = after old os ms old.rows room in
+    let new = after old os ms old.rows room old.short in
     let by = grows_by old os ms room w o m in
     let wide : AreColumns ms old.rows room = columns_roomier ms old.rows old.room more room (columns_grown old.metrics.items ms old.rows old.room m h.metrics) rm e in
     grows_sound old new by (rw (written IsGrown old.metrics ms m) wide) (omega arith) r h
@@ -225,7 +232,7 @@ metrics_column c m column h l =
 pub made_rows : (ms : List (Vec ℤ Global)) → brick_rows [] (column_rows ms 0) ≡ []
 made_rows ms = refl
 
-pub made_whole : (ranges : Vec ℕ Global) (os : NumberRows) (ms : Vec (Vec ℤ Global) Global) → AllZip IsWidth ranges.items os.widths → os.rows ≡ [] → All (λ c. c.items ≡ []) ms.items → IsWhole (record { ranges = ranges; offsets = os; metrics = ms; rows = 0; room = 0 })
+pub made_whole : (ranges : Vec ℕ Global) (os : NumberRows) (ms : Vec (Vec ℤ Global) Global) → AllZip IsWidth ranges.items os.widths → os.rows ≡ [] → All (λ c. c.items ≡ []) ms.items → IsWhole (record { ranges = ranges; offsets = os; metrics = ms; rows = 0; room = 0; short = true })
 made_whole ranges os ms w o m = record {
   within = omega arith;
   widths = w;
@@ -233,6 +240,7 @@ made_whole ranges os ms w o m = record {
   room = omega arith;
   metrics = columns_empty ms.items m;
   sound = rw o (All-nil (IsBrickRow (record { ranges = ranges.items; metrics = length ms.items })));
+  short = λ t. rw o (All-nil HasShortMetrics);
 }
 
 -- the range sizes of a shape
@@ -253,3 +261,11 @@ widths_few ranges widths h w few =
     let most = sum_by-le (λ x. x) 32 widths (widths_small ranges widths h w) in
     let long = length_all_zip IsWidth ranges widths w in
     omega (arith, most, long)
+
+-- a range of few offsets has few numbers of its width
+pub few_cells : (ranges widths : List ℕ) (i : ℕ) → AllZip IsWidth ranges widths → i < length widths → get_or ranges i 0 ≤ 64 → 2 ^ get_or widths i 0 ≤ 64
+few_cells [] [] i w l h = absurd (omega arith)
+few_cells [] (n ∷ widths) i w l h = absurd w
+few_cells (r ∷ ranges) [] i w l h = absurd w
+few_cells (r ∷ ranges) (n ∷ widths) zero w l h = let small : n ≤ 6 = w.0.least 6 (omega arith) in omega (arith, pow_mono small)
+few_cells (r ∷ ranges) (n ∷ widths) (suc i) w l h = few_cells ranges widths i w.1 (omega arith) h

@@ -1,9 +1,10 @@
 -- The rows of a brick, as contracts see its columns.
 -- Source: Cubrick (VLDB 2016), a brick's dimension columns as offsets in its ranges, beside its metric columns.
-use Rattle.std.specs.Prelude.{◌≡◌, ℕ, ◌-◌, ◌^◌, ◌<◌, ◌≤◌, ℤ, List, [], length, map, take, drop, slice_index_or, slice_index, pos}
+use Rattle.std.specs.Prelude.{◌≡◌, ℕ, ◌-◌, ◌^◌, ◌<◌, ◌≤◌, ℤ, List, [], length, map, take, drop, slice_index_or, slice_index, pos, All}
 use Rattle.std.specs.List.{AllZip}
 use Rattle.cube_values.specs.declared.row.CodedRow.{CodedRow}
 use Rattle.cube_values.specs.declared.shape.Shape.{Shape}
+use Rattle.packed_words.specs.Counted.{IsShort}
 use Rattle.packed_words.specs.Rows.{differences}
 
 -- A row: for each dimension the offset in the brick's range, and the metrics.
@@ -30,6 +31,10 @@ layout_of shape metrics = record { ranges = map (λ size. size.range) shape.size
 pub record IsBrickRow (layout : Layout) (row : BrickRow) : Type 0 where
   pub offsets : AllZip ◌<◌ row.offsets layout.ranges
   pub metrics : length row.metrics ≡ layout.metrics
+
+-- The metrics of a row are short.
+abbrev pub HasShortMetrics : BrickRow → Type 0
+HasShortMetrics row = All IsShort row.metrics
 
 -- The least number of bits in which each number below a range can be written. A range of 1 takes none.
 pub record IsWidth (range width : ℕ) : Type 0 where

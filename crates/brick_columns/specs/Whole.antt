@@ -1,8 +1,8 @@
 -- The columns of a brick as its rows, and when they are whole.
-use Rattle.std.specs.Prelude.{◌≡◌, ℕ, ◌-◌, ◌≤◌, ℤ, List, length, map, All}
+use Rattle.std.specs.Prelude.{◌≡◌, ℕ, ◌-◌, ◌≤◌, ℤ, List, length, map, All, IsTrue}
 use Rattle.std.specs.List.{AllZip, zip}
 use Rattle.brick_columns.specs.Lists.{column_rows, AreColumns}
-use Rattle.brick_columns.specs.Rows.{BrickRow, BrickRows, Layout, IsBrickRow, IsWidth}
+use Rattle.brick_columns.specs.Rows.{BrickRow, BrickRows, Layout, IsBrickRow, IsWidth, HasShortMetrics}
 use Rattle.brick_columns.specs.declared.columns.Columns.TheInside.{Inside}
 
 -- Rows of offsets beside rows of metrics.
@@ -22,7 +22,7 @@ abbrev pub contract_view : Inside → BrickRows
 contract_view c = record { layout = layout_in c; rows = rows_in c; spare = c.room - c.rows }
 
 -- A width for each range, packed offsets and columns of metrics for the rows and the room, and each row is of the
--- layout.
+-- layout. Where the columns know that they are short, the metrics of each row are.
 pub record IsWhole (c : Inside) : Type 0 where
   pub within : c.rows ≤ c.room
   pub widths : AllZip IsWidth c.ranges.items c.offsets.widths
@@ -30,3 +30,4 @@ pub record IsWhole (c : Inside) : Type 0 where
   pub room : c.room ≤ c.offsets.room
   pub metrics : AreColumns c.metrics.items c.rows c.room
   pub sound : All (IsBrickRow (layout_in c)) (rows_in c)
+  pub short : IsTrue c.short → All HasShortMetrics (rows_in c)

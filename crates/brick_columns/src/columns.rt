@@ -1,21 +1,26 @@
 //! The columns of a brick, which are whole rows after every call.
 
-ghost use Rattle.std.specs.Prelude.{◌≡◌, ℕ, List, ◌+◌, ◌*◌, ◌-◌, ◌^◌, ◌<◌, ◌≤◌, [], ◌∷◌, ◌++◌, length, map, min, slice_index, All, EachIndex, IsOk, IfOk, OnOk, OnErr};
+ghost use Rattle.std.specs.Prelude.{◌≡◌, ℕ, List, ◌+◌, ◌*◌, ◌-◌, ◌^◌, ◌<◌, ◌≤◌, [], ◌∷◌, ◌++◌, length, map, min, slice_index, All, EachIndex, IsTrue, IsOk, IfOk, OnOk, OnErr};
 ghost use Rattle.std.specs.List.{AllZip, items_where_true};
 ghost use Rattle.cube_values.specs.Rooms.{grown_room};
 ghost use Rattle.cube_values.specs.Shapes.{IsSoundShape};
+ghost use Rattle.packed_words.specs.Counted.{IsShort, AreCounted};
 ghost use Rattle.packed_words.specs.Rows.{AreWords};
-ghost use Rattle.brick_columns.specs.Rows.{layout_of, IsBrickRow, IsWidth, LiesFrom, row_at, offset_row, rows_between, offset_at, metric_at};
+ghost use Rattle.packed_words.specs.declared.counted.TheConstants.{MOST_COUNTED, NOTHING_COUNTED};
+ghost use Rattle.brick_columns.specs.Rows.{layout_of, IsBrickRow, IsWidth, LiesFrom, HasShortMetrics, row_at, offset_row, rows_between, offset_at, metric_at};
 
-use crate::lists::{empty_lists, keep_each, push_each, reserve_each};
+use crate::lists::{all_short, empty_lists, keep_each, push_each, reserve_each};
 use cube_values::{Bits, CodedRows, Shape, Size, grown_room};
 use packed_words::PackedRows;
 use std::alloc::{AllocError, Global};
 use std::marker::Model;
 
+/// So many offsets a dimension may have at most whose rows are counted by them in words.
+pub const COUNTED_CELLS: usize = 64;
+
 /// The rows of a brick: in each dimension an offset below the range size, and the metrics. The offsets are
 /// packed row by row in words of 64 bits, each in no more bits than its range needs, none where that is 1.
-/// The values of a metric are one list.
+/// The values of a metric are one list, and the columns know whether all of them were short.
 #[derive(Debug, Drop)]
 pub struct Columns {
     ranges: Vec<u32>,
@@ -23,6 +28,7 @@ pub struct Columns {
     metrics: Vec<Vec<i64>>,
     rows: u64,
     room: u64,
+    short: bool,
 }
 
 impl Model for Columns {
@@ -54,6 +60,7 @@ impl Columns {
             metrics: empty_lists(alloc, metrics as usize)?,
             rows: 0,
             room: 0,
+            short: true,
         })
     }
 
@@ -92,6 +99,7 @@ impl Columns {
         self.offsets.push(offsets);
         push_each(self.metrics.as_mut_slice(), metrics);
         self.rows += 1;
+        self.short = all_short(self.short, metrics);
     }
 
     /// Puts the rows of a batch from one place up to another at the end, in room that there is. `starts` has
@@ -125,6 +133,7 @@ impl Columns {
         self.offsets.push_differences(coords, starts);
         push_each(self.metrics.as_mut_slice(), metrics);
         self.rows += 1;
+        self.short = all_short(self.short, metrics);
     }
 
     /// Leaves the rows whose bit is set, in order, with the room that there was. It takes no memory and goes
@@ -183,6 +192,27 @@ impl Columns {
         self.offsets.read_numbers(from, dim as usize, offsets);
     }
 
+    /// Counts and sums numbers in words that have counted nothing. The cell of each is the offset of its row in a
+    /// dimension of few offsets, of the rows from one on.
+    pub fn count_in_cells(&self, from: u64, dim: u32, numbers: &[i64], sums: &mut [u64])
+        requires some { 0 < length numbers.now }
+        requires rows { from + length numbers.now ≤ length self.now.rows }
+        requires dim { dim < length self.now.layout.ranges }
+        requires range { slice_index self.now.layout.ranges dim ≤ COUNTED_CELLS }
+        requires cells { COUNTED_CELLS ≤ length sums.old }
+        requires few { length numbers.now ≤ MOST_COUNTED }
+        requires short { All IsShort numbers.now }
+        requires nothing { All (λ sum. sum ≡ NOTHING_COUNTED) sums.old }
+        ensures long { length sums.new ≡ length sums.old }
+        ensures counted { (cells : List ℕ) → length cells ≡ length numbers.now
+            → EachIndex cells
+            (λ k. slice_index cells k ≡ offset_at dim (row_at self.now.rows (from + k)))
+            → AreCounted cells numbers.now sums.new }
+    {
+        self.offsets
+            .count_in_cells(from, dim as usize, numbers, sums);
+    }
+
     /// The range size of a dimension.
     pub fn range(&self, dim: u32) -> u32
         requires { dim < length self.now.layout.ranges }
@@ -198,6 +228,13 @@ impl Columns {
         ensures { result ≡ metric_at m (row_at self.now.rows row) }
     {
         self.metrics_of(m)[row as usize]
+    }
+
+    /// Whether it is known that the metrics of all rows are short.
+    pub fn has_short_metrics(&self) -> bool
+        ensures { IsTrue result → All HasShortMetrics self.now.rows }
+    {
+        self.short
     }
 
     /// The words that hold the offsets: dimension i of each row in the least number of bits in which each

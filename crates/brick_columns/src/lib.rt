@@ -4,4 +4,4 @@
 mod columns;
 mod lists;
 
-pub use columns::Columns;
+pub use columns::{COUNTED_CELLS, Columns};

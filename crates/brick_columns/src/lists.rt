@@ -1,7 +1,8 @@
 //! Columns as lists of one length: an item is put at the end of each, and the items of some rows stay.
 
-ghost use Rattle.std.specs.Prelude.{◌≡◌, ◌+◌, ◌<◌, ◌≤◌, [], length, take, All, vec_len, vec_capacity, IfOk, OnOk};
+ghost use Rattle.std.specs.Prelude.{◌≡◌, ◌+◌, ◌<◌, ◌≤◌, [], length, take, All, IsTrue, ◌↔◌, vec_len, vec_capacity, IfOk, OnOk};
 ghost use Rattle.std.specs.List.{AllZip, items_where_true};
+ghost use Rattle.packed_words.specs.Counted.{IsShort};
 ghost use Rattle.brick_columns.specs.Lists.{HaveSpare, IsGrown, IsSelection, ArePushed};
 
 use cube_values::Bits;
@@ -66,4 +67,26 @@ fn keep_items<T: Copy>(items: &mut [T], bits: &Bits) -> usize
         left += usize::from(bits.get(i as u64));
     }
     left
+}
+
+/// Whether numbers are short, and others before them were.
+pub fn all_short(before: bool, numbers: &[i64]) -> bool
+    ensures { IsTrue result ↔ (IsTrue before × All IsShort numbers.now) }
+{
+    before && are_short(numbers)
+}
+
+// Whether numbers are short.
+fn are_short(numbers: &[i64]) -> bool
+    ensures { IsTrue result ↔ All IsShort numbers.now }
+{
+    numbers.iter().all(|number| is_short(*number))
+}
+
+// Whether a number is short.
+#[inline(always)]
+fn is_short(number: i64) -> bool
+    ensures { IsTrue result ↔ IsShort number }
+{
+    -(1 << 41) < number && number < 1 << 41
 }

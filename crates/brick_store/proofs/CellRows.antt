@@ -15,8 +15,9 @@ use Rattle.agg_fold.specs.Tallies.{metric_number, metric_asked, tally_of, tally_
 use Rattle.agg_fold.proofs.Permuted.{filter_either, filter_all}
 use Rattle.agg_fold.proofs.Tallying.{tally_more}
 use Rattle.brick_columns.specs.Rows.{BrickRow, metric_at}
-use Rattle.brick_store.specs.Cells.{cell_of, rows_in_cell, rows_below_cell, cell_metrics, numbers_in}
-use Rattle.brick_store.proofs.CellNumbers.{same_cell, other_cell}
+use Rattle.packed_words.specs.Counted.{numbers_in}
+use Rattle.brick_store.specs.Cells.{cell_of, rows_in_cell, rows_below_cell, cell_metrics}
+use Rattle.packed_words.proofs.CellNumbers.{same_cell, other_cell}
 
 module _ (ranges group : List ℕ) (cell : ℕ) where
   -- the rows of a cell as their cells are counted

@@ -8,6 +8,7 @@ pub mod CellRuns
 pub mod CellScans
 pub mod ClearedBits
 pub mod Changes
+pub mod ChunkWords
 pub mod Coordinates
 pub mod Covered
 pub mod Folds

@@ -2,7 +2,6 @@
 -- Source: dense arrays for grouping by small domains; the numbering is mixed radix, the first dimension lowest.
 use Rattle.std.specs.Prelude.{◌≡◌, ℕ, ◌+◌, ◌-◌, ◌*◌, ◌^◌, ◌<◌, ◌==◌, nat_lt, ℤ, pos, List, [], ◌∷◌, ◌++◌, length, map, filter, take, drop, All, IsTrue, FitsSigned, slice_index, slice_index_or}
 use Rattle.std.specs.Int.{w64}
-use Rattle.std.specs.List.{zip}
 use Rattle.cube_values.specs.declared.query.BoundItem.{BoundItem}
 use Rattle.cube_values.specs.declared.query.BoundItem.TheVariants.{Group}
 use Rattle.cube_values.specs.declared.query.BoundQuery.{BoundQuery}
@@ -37,10 +36,6 @@ rows_below_cell ranges group cell rows = filter (λ row. nat_lt (cell_of ranges 
 -- Their metrics.
 abbrev pub cell_metrics : List ℕ → List ℕ → ℕ → List BrickRow → List (List ℤ)
 cell_metrics ranges group cell rows = map (λ row. row.metrics) (rows_in_cell ranges group cell rows)
-
--- Of numbers beside cells, those of a cell.
-abbrev pub numbers_in : ℕ → List ℕ → List ℤ → List ℤ
-numbers_in cell cells numbers = map (λ p. p.1) (filter (λ p. p.0 == cell) (zip cells numbers))
 
 -- What is kept of a cell for an item.
 abbrev pub cell_tally : CellTallies → ℕ → Tally

@@ -1,6 +1,7 @@
 pub mod Bricks
 pub mod Cells
 pub mod Copies
+pub mod CountedChunks
 pub mod Cuts
 pub mod Deltas
 pub mod Rows

@@ -4,7 +4,8 @@ ghost use Rattle.std.specs.Prelude.{◌≡◌, ℕ, ◌+ℤ◌, ◌<◌, [], pos
 ghost use Rattle.std.specs.Int.{int_min, int_max};
 ghost use Rattle.agg_fold.specs.Tallies.{tally_of, tally_with, IsSmall};
 ghost use Rattle.agg_fold.specs.declared.tally.Tally.TheVariants.{Total};
-ghost use Rattle.brick_store.specs.Cells.{cell_tally, numbers_in, HasCells, HasSmallTallies, IsToldBy};
+ghost use Rattle.packed_words.specs.Counted.{numbers_in};
+ghost use Rattle.brick_store.specs.Cells.{cell_tally, HasCells, HasSmallTallies, IsToldBy};
 
 use cube_values::BoundItem;
 use std::alloc::{AllocError, Global};

@@ -69,7 +69,7 @@ impl Dense {
         let mut at = from;
         'chunks: while at < to {
             let n = (to - at).min(cells.len() as u64);
-            self.add_chunk(
+            self.add_part(
                 columns,
                 query,
                 at,
@@ -80,8 +80,8 @@ impl Dense {
         }
     }
 
-    // Adds rows from one on, one for each item of the lists that are lent.
-    fn add_chunk(
+    /// Adds rows from one on, one for each item of the lists that are lent.
+    pub fn add_chunk(
         &mut self,
         columns: &Columns,
         query: &BoundQuery,

@@ -5,6 +5,7 @@ mod brick;
 mod cell_tallies;
 mod cells;
 mod copies;
+mod counted_chunks;
 mod cuts;
 mod delta;
 mod dense;

@@ -1,4 +1,6 @@
 pub mod BitParts
+pub mod CellNumbers
+pub mod CountedSums
 pub mod HeldRows
 pub mod Numbers
 pub mod RowLists

@@ -4,8 +4,11 @@ ghost use Rattle.std.specs.Prelude.{◌≡◌, ℕ, List, ◌+◌, ◌*◌, ◌^
 ghost use Rattle.std.specs.Int.{from_bool};
 ghost use Rattle.std.specs.List.{AllZip, items_where_true};
 ghost use Rattle.packed_words.specs.declared.packed_rows.TheConstants.{MOST_BITS};
+ghost use Rattle.packed_words.specs.Counted.{IsShort, AreCounted};
+ghost use Rattle.packed_words.specs.declared.counted.TheConstants.{MOST_COUNTED, NOTHING_COUNTED};
 ghost use Rattle.packed_words.specs.Rows.{HasWidth, AreWords, differences, number_in_rows, row_bits, rows_of_bits};
 
+use crate::counted::count_at;
 use crate::packed_words::PackedWords;
 use cube_values::Bits;
 use std::alloc::{AllocError, Global};
@@ -132,6 +135,34 @@ impl PackedRows {
         let place = from * self.width + self.bits_before(i);
         self.bits
             .read_each(place, self.width, self.widths[i], numbers);
+    }
+
+    /// Counts and sums numbers in words that have counted nothing. The cell of each is number `i` of its row,
+    /// of the rows from one on.
+    pub fn count_in_cells(&self, from: u64, i: usize, numbers: &[i64], sums: &mut [u64])
+        requires some { 0 < length numbers.now }
+        requires rows { from + length numbers.now ≤ length self.now.rows }
+        requires number { i < length self.now.widths }
+        requires cells { 2 ^ slice_index self.now.widths i ≤ length sums.old }
+        requires few { length numbers.now ≤ MOST_COUNTED }
+        requires short { All IsShort numbers.now }
+        requires nothing { All (λ sum. sum ≡ NOTHING_COUNTED) sums.old }
+        ensures long { length sums.new ≡ length sums.old }
+        ensures counted { (cells : List ℕ) → length cells ≡ length numbers.now
+            → EachIndex cells
+            (λ k. slice_index cells k ≡ number_in_rows self.now.rows (from + k) i)
+            → AreCounted cells numbers.now sums.new }
+    {
+        let _rows = self.len();
+        let place = from * self.width + self.bits_before(i);
+        count_at(
+            self.bits.words(),
+            place,
+            self.width,
+            self.widths[i],
+            numbers,
+            sums,
+        );
     }
 
     // How many bits of a row stand before number `i`.

@@ -59,9 +59,9 @@ pub fn read_each(words: &[u64], place: u64, step: u64, width: u64, numbers: &mut
     }
 }
 
-// A word whose lowest `width` bits are those from `place` on.
+/// A word whose lowest `width` bits are those from `place` on.
 #[inline(always)]
-fn word_at(words: &[u64], place: u64, width: u64) -> u64
+pub fn word_at(words: &[u64], place: u64, width: u64) -> u64
     requires some { 0 < width }
     requires width { width ≤ 64 }
     requires within { place + width ≤ 64 * length words.now }

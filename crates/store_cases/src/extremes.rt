@@ -94,3 +94,38 @@ fn no_dimension_has_one_brick(rt: HostRuntime) {
     assert_eq!(rt; all.len(), 1);
     assert!(rt; has_line(&all, 0, &[3, 7]));
 }
+
+#[test]
+fn numbers_on_both_sides_of_2_to_the_41_are_summed(rt: HostRuntime) {
+    let alloc = rt.alloc();
+    let within: i64 = 2_199_023_255_551;
+    let rows: [(&[u32], i64); 9] = [
+        (&[0], within),
+        (&[1], -within),
+        (&[4], 7),
+        (&[0], -1),
+        (&[1], 0),
+        (&[4], -7),
+        (&[4], 3),
+        (&[2], 5),
+        (&[0], 1),
+    ];
+    let sizes = [(5, 5)];
+    let all = answer(&rt, alloc, &sizes, 0, &rows, Part::All, &[0]);
+    assert_eq!(rt; all.len(), 4);
+    assert!(rt; has_line(&all, 0, &[0, 3, 2_199_023_255_551]));
+    assert!(rt; has_line(&all, 1, &[1, 2, -2_199_023_255_551]));
+    assert!(rt; has_line(&all, 2, &[2, 1, 5]));
+    assert!(rt; has_line(&all, 3, &[4, 3, 3]));
+    let beyond: [(&[u32], i64); 5] = [
+        (&[3], within + 1),
+        (&[0], -within - 1),
+        (&[3], within + 1),
+        (&[0], -within - 1),
+        (&[3], i64::MAX),
+    ];
+    let few = answer(&rt, alloc, &sizes, 0, &beyond, Part::All, &[0]);
+    assert_eq!(rt; few.len(), 2);
+    assert!(rt; has_line(&few, 0, &[0, 2, -4_398_046_511_104]));
+    assert!(rt; has_line(&few, 1, &[3, 3, 9_223_376_434_901_286_911]));
+}

@@ -2,7 +2,7 @@ use Rattle.std.proofs.Common.{◌≡◌, ◌+◌, ◌*◌, ◌^◌, ◌<◌, zer
 use Rattle.std.specs.Int.{w128}
 use Rattle.std.proofs.lemmas.Int.{ints, to_z-of_z}
 use Rattle.std.proofs.lemmas.List.{get_or-set_same}
-use Rattle.brick_store.specs.Cells.{numbers_in}
+use Rattle.packed_words.specs.Counted.{numbers_in}
 use Rattle.brick_store.proofs.CellNumbers.{all_in_one, written, set_keeps}
 use Rattle.brick_store.proofs.cell_tallies.add_sums.Goals as goal
 

@@ -1,5 +1,5 @@
 use Rattle.std.proofs.Common.{◌≡◌, ℕ, ◌+◌, ◌*◌, ◌^◌, ◌<◌, pos, ◌+ℤ◌, ◌<ℤ◌, neg_ℤ, length, take, fold, get_or}
-use Rattle.brick_store.specs.Cells.{numbers_in}
+use Rattle.packed_words.specs.Counted.{numbers_in}
 use Rattle.brick_store.proofs.cell_tallies.add_sums.Given as goal
 
 abbrev pub invariant-rows : goal.invariant-rows

@@ -1,6 +1,6 @@
 use Rattle.std.proofs.Common.{◌≡◌, ℕ, ◌<◌, pos, length, take, fold, get_or}
 use Rattle.std.specs.Int.{int_min}
-use Rattle.brick_store.specs.Cells.{numbers_in}
+use Rattle.packed_words.specs.Counted.{numbers_in}
 use Rattle.brick_store.proofs.cell_tallies.lower.Given as goal
 
 abbrev pub invariant-rows : goal.invariant-rows

@@ -2,7 +2,8 @@ use Rattle.std.proofs.Common.{◌+◌, ◌-◌, length, map, fold, take, drop, a
 use Rattle.agg_fold.specs.declared.tally.Tally.{Tally}
 use Rattle.agg_fold.specs.Tallies.{tally_with}
 use Rattle.brick_columns.specs.Rows.{metric_at}
-use Rattle.brick_store.specs.Cells.{cell_tally, columns_between, numbers_in, rows_in_cell}
+use Rattle.packed_words.specs.Counted.{numbers_in}
+use Rattle.brick_store.specs.Cells.{cell_tally, columns_between, rows_in_cell}
 use Rattle.brick_store.proofs.CellHolds.{between_map}
 use Rattle.brick_store.proofs.CellRows.{numbers_of_rows, tallied_more}
 use Rattle.brick_store.proofs.dense.add_metric.Goals as goal

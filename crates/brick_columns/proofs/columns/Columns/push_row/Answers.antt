@@ -21,7 +21,7 @@ invariant_of-self c =
     let old = c.self.inside in
     let row : BrickRow = record { offsets = c.args.offsets.now; metrics = c.args.metrics.now } in
     let is = row_of old c.args.self.now row c.self.view_is c.requires.offsets c.requires.metrics in
-    let by = takes_by row old c.push.new.self c.push_each.new.lists is c.push.ensures (rw c.as_mut_slice.ensures.value at c.push_each.ensures) in
+    let by = takes_by row old c.push.new.self c.push_each.new.lists c.all_short-self-inside.result is c.push.ensures (rw c.as_mut_slice.ensures.value at c.push_each.ensures) c.all_short-self-inside.ensures.0 in
     let spare = ap (λ (v : BrickRows). v.spare) c.self.view_is in
     takes_whole row old _ is (omega (arith, c.requires.room)) by c.self.invariant
 
@@ -30,5 +30,5 @@ returns-clause-rows c =
     let old = c.self.inside in
     let row : BrickRow = record { offsets = c.args.offsets.now; metrics = c.args.metrics.now } in
     let is = row_of old c.args.self.now row c.self.view_is c.requires.offsets c.requires.metrics in
-    let by = takes_by row old c.push.new.self c.push_each.new.lists is c.push.ensures (rw c.as_mut_slice.ensures.value at c.push_each.ensures) in
+    let by = takes_by row old c.push.new.self c.push_each.new.lists c.all_short-self-inside.result is c.push.ensures (rw c.as_mut_slice.ensures.value at c.push_each.ensures) c.all_short-self-inside.ensures.0 in
     takes_rows row old _ is by c.self.invariant ∙ ap (λ (v : BrickRows). v.rows ++ row ∷ []) c.self.view_is

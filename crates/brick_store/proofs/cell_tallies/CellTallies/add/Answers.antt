@@ -4,7 +4,8 @@ use Rattle.std.proofs.lemmas.List.{take_at, get_or_default}
 use Rattle.agg_fold.specs.declared.tally.Tally.{Tally}
 use Rattle.agg_fold.specs.declared.tally.Tally.TheVariants.{Unused, Total, Least, Greatest}
 use Rattle.agg_fold.specs.Tallies.{tally_with, IsSmall}
-use Rattle.brick_store.specs.Cells.{cell_tally, numbers_in, HasCells, HasSmallTallies}
+use Rattle.packed_words.specs.Counted.{numbers_in}
+use Rattle.brick_store.specs.Cells.{cell_tally, HasCells, HasSmallTallies}
 use Rattle.brick_store.specs.declared.cell_tallies.CellTallies.{CellTallies}
 use Rattle.brick_store.proofs.CellNumbers.{nothing_kept, sums_kept, lows_kept, highs_kept}
 use Rattle.brick_store.proofs.cell_tallies.CellTallies.add.Goals as goal

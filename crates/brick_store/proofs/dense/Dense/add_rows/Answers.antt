@@ -25,18 +25,18 @@ chunks-preserved c =
     let columns = c.args.columns.now in
     let ranges = columns.layout.ranges in
     let n = c.min-n.result in
-    let new = c.add_chunk.new.self in
+    let new = c.add_part.new.self in
     let count = cell_count ranges query.group in
     let within : n ≤ length l.cells = omega arith in
     let long = length-take-le n l.cells within in
-    let second = subst (λ k. HoldMore ranges query count (columns_between l.at (l.at + k) columns.rows) l.self new) long c.add_chunk.ensures in
-    let cells : length c.add_chunk.new.cells ≡ n = omega (arith, long) in
-    let offsets : length c.add_chunk.new.offsets ≡ n = omega (arith, length-take-le n l.offsets (omega (arith, l.invariant.as_long))) in
+    let second = subst (λ k. HoldMore ranges query count (columns_between l.at (l.at + k) columns.rows) l.self new) long c.add_part.ensures in
+    let cells : length c.add_part.new.cells ≡ n = omega (arith, long) in
+    let offsets : length c.add_part.new.offsets ≡ n = omega (arith, length-take-le n l.offsets (omega (arith, l.invariant.as_long))) in
     record {
       after = omega arith;
       within = omega arith;
       held = subst (λ rs. HoldMore ranges query count rs c.args.self.now new) (between_join c.args.from l.at (l.at + n) columns.rows (omega (arith, l.invariant.after)) (omega arith))
           (hold_then ranges query count (columns_between c.args.from l.at columns.rows) (columns_between l.at (l.at + n) columns.rows) c.args.self.now l.self new l.invariant.held second);
-      some = omega (arith, cells, length-append c.add_chunk.new.cells (drop n l.cells), length-drop n l.cells, l.invariant.some);
-      as_long = omega (arith, cells, offsets, length-append c.add_chunk.new.cells (drop n l.cells), length-append c.add_chunk.new.offsets (drop n l.offsets), length-drop n l.cells, length-drop n l.offsets, l.invariant.as_long);
+      some = omega (arith, cells, length-append c.add_part.new.cells (drop n l.cells), length-drop n l.cells, l.invariant.some);
+      as_long = omega (arith, cells, offsets, length-append c.add_part.new.cells (drop n l.cells), length-append c.add_part.new.offsets (drop n l.offsets), length-drop n l.cells, length-drop n l.offsets, l.invariant.as_long);
     }
