@@ -18,7 +18,7 @@ use Rattle.cube_core.specs.declared.cell.CoreCell.{CoreCell}
 use Rattle.cube_core.specs.declared.cell.CoreCell.TheVariants as cell
 use Rattle.cube_core.specs.declared.shard.ShardAnswer.{ShardAnswer}
 use Rattle.cube_core.specs.declared.shard.ShardCall.{ShardCall}
-use Rattle.core_events.specs.Cells.{desk_of, brick_after_move, shard_view_of}
+use Rattle.core_events.specs.Cells.{counters_of_run, desk_of, brick_after_move, shard_view_of}
 use Rattle.core_events.specs.Clients.{client_state}
 use Rattle.core_events.specs.Events.{Opening, Work, CoreEvent, By, At}
 use Rattle.core_events.specs.Jobs.{CoreJob, JobOutcome}
@@ -37,6 +37,7 @@ use Rattle.core_links.proofs.NamesLinks as names
 use Rattle.core_board.specs.Links.{IsCallLinked}
 use Rattle.core_board_cells.specs.BoardCells.{client_of, call_job, job_asked, AnswerSays, cell_of_shard, cell_of_mail, IsShardLinked, FitsBoardEntry, IsEntryEvent, StandsInCell, IsByItself, IsClientCaller, IsRoundsOwn}
 use Rattle.core_board_cells.proofs.OwnEntries.{flusher-caller}
+use Rattle.core_board_cells.proofs.JobsInRuns.{call-in-run, lse-goes-on}
 use Rattle.core_board_cells.proofs.OffCells.{IsOffOthers, desk-off, names-off, mail-off}
 
 -- Who opens or closes a round is the flusher.
@@ -50,7 +51,7 @@ same-number : (a b : ℕ) → 2 + a ≡ 2 + b → a ≡ b
 same-number a b e = omega (arith, e)
 
 module _ {S : Type 0} (can_shard : S → ShardCall → Type 0) (step_shard : S → ShardCall → ShardAnswer → S → Type 0)
-    (fits : Opening → ℕ → ShardCall → Type 0) (stands : Opening → ℕ → S → ShardView → Type 0)
+    (fits : Opening → ℕ → ShardCall → Type 0) (stands : Opening → ℕ → ℕ → S → ShardView → Type 0)
     (says : CoreJob → ShardAnswer → JobOutcome → Type 0) (link : IsShardLinked can_shard step_shard fits stands says) where
   abbrev In : Opening → ℕ → CoreCell S → List CoreEvent → Type 0
   In o k x es = StandsInCell fits stands says o k x es
@@ -69,7 +70,8 @@ module _ {S : Type 0} (can_shard : S → ShardCall → Type 0) (step_shard : S �
   can o es caller k (call.Names c) (cell.Mail m) run may stand = absurd (omega (arith, may.0, stand.1))
   can o es caller k (call.Shard c) (cell.Shard s) run may stand =
       let same : may.number ≡ stand.0 = same-number may.number stand.0 (sym may.cell ∙ stand.1) in
-      link.takes o may.number s (shard_view_of o es) c (coe 1 0 (i. stands o (same i) s (shard_view_of o es)) stand.3) may.takes
+      let low = (counters_of_run o es).lse in
+      link.takes o may.number low s (shard_view_of o es) c (coe 1 0 (i. stands o (same i) low s (shard_view_of o es)) stand.3) may.takes
   can o es caller k (call.Shard c) (cell.Desk d alloc) run may stand = let at = may.cell in absurd (omega (arith, at, stand.0))
   can o es caller k (call.Shard c) (cell.Names d) run may stand = let at = may.cell in absurd (omega (arith, at, stand.0))
   can o es caller k (call.Shard c) (cell.Mail m) run may stand =
@@ -94,17 +96,18 @@ module _ {S : Type 0} (can_shard : S → ShardCall → Type 0) (step_shard : S �
     left_mails : (number : ℕ) → k ≢ cell_of_mail o number → (m : MailState Job JobAnswer)
         → IsMailCellOf job_asked (AnswerSays says) o number es m → IsMailCellOf job_asked (AnswerSays says) o number (event ∷ es) m
 
-  all-others : (o : Opening) (k : ℕ) (event : CoreEvent) (es : List CoreEvent) → Leaves o k event es
+  all-others : (o : Opening) (k : ℕ) (event : CoreEvent) (es : List CoreEvent) → IsCoreRun o (event ∷ es) → Leaves o k event es
       → (i : ℕ) (z : CoreCell S) → k ≢ i → In o i z es → In o i z (event ∷ es)
-  all-others o k event es l i (cell.Desk d alloc) other stand = (stand.0, stand.1 ∙ sym (l.left_desk (λ e. other (e ∙ sym stand.0))))
-  all-others o k event es l i (cell.Names d) other stand = (stand.0, l.left_names (λ e. other (e ∙ sym stand.0)) d stand.1)
-  all-others o k event es l i (cell.Shard s) other stand = (
+  all-others o k event es run l i (cell.Desk d alloc) other stand = (stand.0, stand.1 ∙ sym (l.left_desk (λ e. other (e ∙ sym stand.0))))
+  all-others o k event es run l i (cell.Names d) other stand = (stand.0, l.left_names (λ e. other (e ∙ sym stand.0)) d stand.1)
+  all-others o k event es run l i (cell.Shard s) other stand = (
     stand.0,
     stand.1,
     stand.2,
-    link.alike o stand.0 s (shard_view_of o es) (shard_view_of o (event ∷ es)) (l.left_view stand.0 (λ e. other (e ∙ sym stand.1))) stand.3,
+    link.alike o stand.0 (counters_of_run o es).lse (counters_of_run o (event ∷ es)).lse s (shard_view_of o es) (shard_view_of o (event ∷ es))
+        (lse-goes-on o event es run) (l.left_view stand.0 (λ e. other (e ∙ sym stand.1))) stand.3,
   )
-  all-others o k event es l i (cell.Mail m) other stand =
+  all-others o k event es run l i (cell.Mail m) other stand =
       (stand.0, stand.1, l.left_mails stand.0 (λ e. other (e ∙ sym stand.1)) m stand.2)
 
   desk-leaves : (o : Opening) (k a : ℕ) (c : DeskCall) (x : DeskAnswer) (es : List CoreEvent) → k ≡ 0
@@ -166,7 +169,7 @@ module _ {S : Type 0} (can_shard : S → ShardCall → Type 0) (step_shard : S �
         is = (may.1, rounds-own o caller c es may.1 may.2, refl);
         run = next.0;
         own = (may.0, next.1);
-        others = λ i z other is. all-others o k (By client (desk_event client (client_state o client es) c a)) es
+        others = λ i z other is. all-others o k (By client (desk_event client (client_state o client es) c a)) es next.0
             (desk-leaves o k client c a es may.0) i z other is;
       }
   step-at o es caller k (cell.Names d) (call.Names c) (answer.Names a) (cell.Names new) run may stand step =
@@ -176,20 +179,25 @@ module _ {S : Type 0} (can_shard : S → ShardCall → Type 0) (step_shard : S �
         is = (may.1, refl);
         run = next.0;
         own = (may.0, next.1);
-        others = λ i z other is. all-others o k (By client (names_event c a)) es (names-leaves o k client c a es may.0) i z other is;
+        others = λ i z other is. all-others o k (By client (names_event c a)) es next.0 (names-leaves o k client c a es may.0) i z other is;
       }
   step-at o es caller k (cell.Shard s) (call.Shard c) (answer.Shard a) (cell.Shard new) run may stand step =
       let number = may.number in
       let same : number ≡ stand.0 = same-number number stand.0 (sym may.cell ∙ stand.1) in
+      let low = (counters_of_run o es).lse in
       let next =
-      link.steps o number s new (shard_view_of o es) c a (coe 1 0 (i. stands o (same i) s (shard_view_of o es)) stand.3) may.takes step
+      link.steps o number low s new (shard_view_of o es) c a (coe 1 0 (i. stands o (same i) low s (shard_view_of o es)) stand.3) may.takes
+      (call-in-run o es number c run may.move) step
       in
-      let there = may.there in record {
+      let there = may.there in
+      let run_on : IsCoreRun o (At number (Work (call_job c) next.outcome) ∷ es) =
+      (run, record { there = omega (arith, there); fits = may.move next.outcome; says = next.answers })
+      in record {
         next = At number (Work (call_job c) next.outcome);
         is = record { number = number; cell = may.cell; own = may.own; outcome = next.outcome; said = next.said; is = refl };
-        run = (run, record { there = omega (arith, there); fits = may.move next.outcome; says = next.answers });
+        run = run_on;
         own = (number, may.cell, may.there, next.after);
-        others = λ i z other is. all-others o k (At number (Work (call_job c) next.outcome)) es
+        others = λ i z other is. all-others o k (At number (Work (call_job c) next.outcome)) es run_on
             (work-leaves o k number (call_job c) next.outcome es may.cell) i z other is;
       }
   step-at o es caller k (cell.Mail m) (call.Mail c) (answer.Mail a) (cell.Mail new) run may stand step =
@@ -203,7 +211,7 @@ module _ {S : Type 0} (can_shard : S → ShardCall → Type 0) (step_shard : S �
         is = (stand.0, stand.1, coe 0 1 (i. IsByItself o caller (same i) c) may.own, next.of);
         run = next.run;
         own = (stand.0, stand.1, next.stands);
-        others = λ i z other is. all-others o k next.event es
+        others = λ i z other is. all-others o k next.event es next.run
             (mail-leaves o k stand.0 next.event es stand.1
             (mail-off job_asked (AnswerSays says) o stand.0 es c a next.event next.of)) i z other is;
       }

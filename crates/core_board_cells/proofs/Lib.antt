@@ -1,4 +1,5 @@
 pub mod OffCells
 pub mod OwnEntries
+pub mod JobsInRuns
 pub mod EntrySteps
 pub mod OwnKnowledge

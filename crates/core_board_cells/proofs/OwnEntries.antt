@@ -59,7 +59,7 @@ not-client : (o : Opening) (a b client : ℕ) → IsClientCaller o a → IsClien
     → (client == client_of o a) ≡ false
 not-client o a b client act by is other = ne_eqb client (client_of o a) (λ same. other (one-client o b a by act (sym is ∙ same)))
 
-module _ {S : Type 0} (fits : Opening → ℕ → ShardCall → Type 0) (stands : Opening → ℕ → S → ShardView → Type 0)
+module _ {S : Type 0} (fits : Opening → ℕ → ShardCall → Type 0) (stands : Opening → ℕ → ℕ → S → ShardView → Type 0)
     (says : CoreJob → ShardAnswer → JobOutcome → Type 0) where
   mail-calls : (o : Opening) (a b number : ℕ) (es : List CoreEvent) (c : MailCall CellJob JobAnswer) (x : MailAnswer CellJob JobAnswer)
       (event : CoreEvent) → IsClientCaller o a → b ≢ a → IsByItself o b number c
@@ -152,7 +152,7 @@ names-rounds o a (names.Find cube dim name) (told.Found number) = refl
 names-rounds o a (names.CopyFrom cube dim from) (told.Copied copied) = refl
 names-rounds o a c x = refl
 
-module _ {S : Type 0} (fits : Opening → ℕ → ShardCall → Type 0) (stands : Opening → ℕ → S → ShardView → Type 0)
+module _ {S : Type 0} (fits : Opening → ℕ → ShardCall → Type 0) (stands : Opening → ℕ → ℕ → S → ShardView → Type 0)
     (says : CoreJob → ShardAnswer → JobOutcome → Type 0) where
   mail-rounds : (o : Opening) (b number : ℕ) (es : List CoreEvent) (c : MailCall CellJob JobAnswer) (x : MailAnswer CellJob JobAnswer)
       (event : CoreEvent) → b ≢ server_of o (flush_mail o) → IsByItself o b number c

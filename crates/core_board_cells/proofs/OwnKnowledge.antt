@@ -59,7 +59,7 @@ last-by-calls number a (At other move ∷ es) = last-by-calls number a es
 last-same : (number a : ℕ) (es fs : List CoreEvent) → calls_of a es ≡ calls_of a fs → last_post number a es ≡ last_post number a fs
 last-same number a es fs same = last-by-calls number a es ∙ ap (last_in number) same ∙ sym (last-by-calls number a fs)
 
-module _ {S : Type 0} (fits : Opening → ℕ → ShardCall → Type 0) (stands : Opening → ℕ → S → ShardView → Type 0)
+module _ {S : Type 0} (fits : Opening → ℕ → ShardCall → Type 0) (stands : Opening → ℕ → ℕ → S → ShardView → Type 0)
     (says : CoreJob → ShardAnswer → JobOutcome → Type 0) where
   -- The event of a mail's call.
   mail-same : (o : Opening) (b number : ℕ) (es fs : List CoreEvent) (c : MailCall CellJob JobAnswer) (x : MailAnswer CellJob JobAnswer)

@@ -1,7 +1,9 @@
 -- The cells of a board as the core's: their numbers, whose calls they take, which event an entry is, and when a cell is
 -- what events have made of it. What shards ask, answer and become is a parameter.
 -- Source: this project's own.
-use Rattle.std.specs.Prelude.{◌≡◌, ℕ, ◌+◌, ◌%◌, ◌<◌, ◌≤◌, ◌==◌, List, if◌then◌else◌, ◌⊎◌, nat_le}
+use Rattle.std.specs.Prelude.{◌≡◌, ℕ, ◌+◌, ◌%◌, ◌<◌, ◌≤◌, ◌==◌, true, List, if◌then◌else◌, ◌⊎◌, nat_le}
+use Rattle.cube_values.specs.declared.snapshot.Snapshot.{Snapshot}
+use Rattle.cube_values.specs.Sees.{sees}
 use Rattle.cube_core.specs.declared.cell.CoreAnswer.{CoreAnswer}
 use Rattle.cube_core.specs.declared.cell.CoreAnswer.TheVariants as answer
 use Rattle.cube_core.specs.declared.cell.CoreCall.{CoreCall}
@@ -22,13 +24,13 @@ use Rattle.core_cells.specs.declared.desk.DeskCall.TheVariants as desk
 use Rattle.core_cells.specs.declared.mail.MailCall.{MailCall}
 use Rattle.core_cells.specs.declared.mail.MailCall.TheVariants as mail
 use Rattle.turn_board.specs.declared.history.Event.{Event}
-use Rattle.core_events.specs.Cells.{desk_of, shard_view_of, brick_after_move, WorkerState, worker_of}
-use Rattle.core_events.specs.Clients.{client_state, calls_of}
+use Rattle.core_events.specs.Cells.{counters_of_run, desk_of, shard_view_of, brick_after_move, WorkerState, worker_of}
+use Rattle.core_events.specs.Clients.{client_state, calls_of, reader_up_to}
 use Rattle.core_events.specs.Events.{Opening, flusher, flush_mail, Work, CoreEvent, By, At, ClientCall}
 use Rattle.core_events.specs.Fitting.{FitsMove, RoundProgress, round_progress}
 use Rattle.core_events.specs.Jobs.{CoreJob, Append, DropBox, Scan, Delta, Rollback, Purge, CopyRound, Flush, JobOutcome, Done, StoreLost, OutOfMemory}
 use Rattle.core_events.specs.Runs.{ShardSays}
-use Rattle.core_events.specs.ShardView.{ShardView}
+use Rattle.core_events.specs.ShardView.{ShardView, HasNoZeroRows}
 use Rattle.core_links.specs.DeskEvents.{desk_event, FitsDeskCall}
 use Rattle.core_links.specs.MailEvents.{IsMailEvent, FitsMailCall, IsMailCellOf}
 use Rattle.core_links.specs.NamesEvents.{names_event, FitsNamesCall, AreNamesOf}
@@ -95,28 +97,50 @@ abbrev pub view_after_work : Opening → ℕ → CoreJob → JobOutcome → Shar
 view_after_work o number job outcome view cube brick =
     brick_after_move o (number == brick % o.shards) cube brick (Work job outcome) (view cube brick)
 
-module _ {S : Type 0} (stands : Opening → ℕ → S → ShardView → Type 0)
+module _ {S : Type 0} (stands : Opening → ℕ → ℕ → S → ShardView → Type 0)
     (says : CoreJob → ShardAnswer → JobOutcome → Type 0) where
   -- A shard's answer stands for an outcome that its bricks have, and it is then what the job makes of them.
-  pub record IsShardStep (o : Opening) (number : ℕ) (c : ShardCall) (a : ShardAnswer) (view : ShardView) (new : S)
+  pub record IsShardStep (o : Opening) (number low : ℕ) (c : ShardCall) (a : ShardAnswer) (view : ShardView) (new : S)
       : Type 0 where
     pub outcome : JobOutcome
     pub said : says (call_job c) a outcome
     pub answers : ShardSays o number view (call_job c) outcome
-    pub after : stands o number new (view_after_work o number (call_job c) outcome view)
+    pub after : stands o number low new (view_after_work o number (call_job c) outcome view)
+
+-- A snapshot sees every epoch up to one.
+abbrev pub SeesAllUpTo : ℕ → Snapshot → Type 0
+SeesAllUpTo low s = (epoch : ℕ) → epoch ≤ low → sees s epoch ≡ true
+
+-- A job fits LSE: it writes above it, looks by snapshots that see all up to it, purges up to it, and copies from it on,
+-- or all.
+abbrev pub FitsLse : ℕ → CoreJob → Type 0
+FitsLse low (Append cube epoch rows) = low < epoch
+FitsLse low (DropBox cube epoch box) = low < epoch
+FitsLse low (Scan query snapshot) = SeesAllUpTo low snapshot
+FitsLse low (Delta query from to) = SeesAllUpTo low (reader_up_to from) × SeesAllUpTo low (reader_up_to to)
+FitsLse low (Rollback epoch) = low < epoch
+FitsLse low (Purge epoch) = epoch ≤ low
+FitsLse low (CopyRound from to) = ((from ≡ low) ⊎ (from ≡ 0)) × (low < to)
+FitsLse low Flush = Unit {0}
+
+-- What a run tells of a call on a shard: it fits LSE, and no brick has rows of epoch 0.
+pub record IsCallInRun (low : ℕ) (c : ShardCall) (view : ShardView) : Type 0 where
+  pub safe : FitsLse low (call_job c)
+  pub later : (cube brick : ℕ) → HasNoZeroRows (view cube brick)
 
 -- Shards are linked to the core: one that is what a view shows can take a call that fits, its step is one of that view,
--- and it stands for its own bricks alone.
+-- it stands for its own bricks alone, and it still does when LSE rises.
 pub record IsShardLinked {S : Type 0} (can : S → ShardCall → Type 0) (step : S → ShardCall → ShardAnswer → S → Type 0)
-    (fits : Opening → ℕ → ShardCall → Type 0) (stands : Opening → ℕ → S → ShardView → Type 0)
+    (fits : Opening → ℕ → ShardCall → Type 0) (stands : Opening → ℕ → ℕ → S → ShardView → Type 0)
     (says : CoreJob → ShardAnswer → JobOutcome → Type 0) : Type 0 where
-  pub takes : (o : Opening) (number : ℕ) (s : S) (view : ShardView) (c : ShardCall) → stands o number s view
+  pub takes : (o : Opening) (number low : ℕ) (s : S) (view : ShardView) (c : ShardCall) → stands o number low s view
       → fits o number c → can s c
-  pub steps : (o : Opening) (number : ℕ) (s new : S) (view : ShardView) (c : ShardCall) (a : ShardAnswer)
-      → stands o number s view → fits o number c → step s c a new → IsShardStep stands says o number c a view new
-  pub alike : (o : Opening) (number : ℕ) (s : S) (view other : ShardView)
+  pub steps : (o : Opening) (number low : ℕ) (s new : S) (view : ShardView) (c : ShardCall) (a : ShardAnswer)
+      → stands o number low s view → fits o number c → IsCallInRun low c view → step s c a new
+      → IsShardStep stands says o number low c a view new
+  pub alike : (o : Opening) (number low later : ℕ) (s : S) (view other : ShardView) → low ≤ later
       → ((cube brick : ℕ) → brick % o.shards ≡ number → other cube brick ≡ view cube brick)
-      → stands o number s view → stands o number s other
+      → stands o number low s view → stands o number later s other
 
 -- Whoever makes a call on a mail makes it as itself.
 abbrev pub IsByItself : Opening → ℕ → ℕ → MailCall Job JobAnswer → Type 0
@@ -133,7 +157,7 @@ cell_of_shard number = 2 + number
 abbrev pub cell_of_mail : Opening → ℕ → ℕ
 cell_of_mail o number = 2 + o.shards + number
 
-module _ {S : Type 0} (fits : Opening → ℕ → ShardCall → Type 0) (stands : Opening → ℕ → S → ShardView → Type 0)
+module _ {S : Type 0} (fits : Opening → ℕ → ShardCall → Type 0) (stands : Opening → ℕ → ℕ → S → ShardView → Type 0)
     (says : CoreJob → ShardAnswer → JobOutcome → Type 0) where
   -- A worker does the job that it took, on its shard.
   pub record MayWork (o : Opening) (es : List CoreEvent) (caller k : ℕ) (c : ShardCall) : Type 0 where
@@ -192,6 +216,7 @@ module _ {S : Type 0} (fits : Opening → ℕ → ShardCall → Type 0) (stands 
   StandsInCell o k (cell.Desk desk alloc) es = (k ≡ 0) × (desk ≡ desk_of o es)
   StandsInCell o k (cell.Names names) es = (k ≡ 1) × AreNamesOf o es names
   StandsInCell o k (cell.Shard s) es =
-      (number : ℕ) × (k ≡ cell_of_shard number) × (number < o.shards) × stands o number s (shard_view_of o es)
+      (number : ℕ) × (k ≡ cell_of_shard number) × (number < o.shards)
+      × stands o number (counters_of_run o es).lse s (shard_view_of o es)
   StandsInCell o k (cell.Mail m) es =
       (number : ℕ) × (k ≡ cell_of_mail o number) × IsMailCellOf job_asked (AnswerSays says) o number es m

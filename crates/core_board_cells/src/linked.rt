@@ -15,8 +15,9 @@ pub trait LinkedShard: ShardCell {
     /// A call fits the shard of a number: it bears the shape of its cube, and rows of the shard.
     ghost fits: { Opening → ℕ → ShardCall → Type 0 };
 
-    /// A shard, by its number, is what a view shows of its bricks.
-    ghost stands: { Opening → ℕ → Self → ShardView → Type 0 };
+    /// A shard, by its number, is what a view shows of its bricks to whoever does not tell the epochs up to
+    /// the second number apart, which is LSE.
+    ghost stands: { Opening → ℕ → ℕ → Self → ShardView → Type 0 };
 
     /// The outcomes of a job for which an answer stands.
     ghost says: { CoreJob → ShardAnswer → JobOutcome → Type 0 };

@@ -5,8 +5,7 @@ use Rattle.std.proofs.lemmas.Bool.{false≢true, lt-leb}
 use Rattle.cube_values.specs.declared.row.CodedRow.{CodedRow}
 use Rattle.cube_values.specs.Sees.{sees}
 use Rattle.core_events.specs.Clients.{reader_up_to}
-use Rattle.core_events.specs.ShardView.{BrickEntry, RowRun, RowMark, EpochSet, is_below_mark, epochs_above, epochs_before_mark, every_epoch, rows_shown_to, brick_rows_seen, is_within_round, entries_of_round}
-use Rattle.core_bricks.specs.BrickTransactions.{rows_over_kept}
+use Rattle.core_events.specs.ShardView.{BrickEntry, RowRun, RowMark, EpochSet, is_below_mark, epochs_above, epochs_before_mark, every_epoch, rows_shown_to, brick_rows_seen, is_within_round, entries_of_round, rows_over_kept}
 use Rattle.core_bricks.proofs.Counts.{number_where, count-run, where-sum, where-zero, in-order}
 use Rattle.core_bricks.proofs.SerialRows.{or-assoc, or-true, and-assoc, and-true, and-false, low-run, none-run, mark-none}
 

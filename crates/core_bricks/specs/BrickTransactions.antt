@@ -2,7 +2,7 @@
 -- Source: AOSI (ICDE 2018), serial execution in the order of epochs.
 use Rattle.std.specs.Prelude.{ℕ, zero, suc, ◌==◌, List, [], ◌∷◌, ◌++◌, if◌then◌else◌}
 use Rattle.cube_values.specs.declared.row.CodedRow.{CodedRow}
-use Rattle.core_events.specs.ShardView.{BrickEntry, RowRun, RowMark, EpochSet, every_epoch, rows_shown_to}
+use Rattle.core_events.specs.ShardView.{BrickEntry, RowRun, RowMark, EpochSet}
 
 -- The runs and marks of an epoch, the newest first.
 abbrev pub entries_of_epoch : ℕ → List BrickEntry → List BrickEntry
@@ -24,7 +24,3 @@ brick_rows_left zero epochs entries = []
 brick_rows_left (suc m) epochs entries =
     if epochs m then rows_after_entries (entries_of_epoch m entries) (brick_rows_left m epochs entries)
     else brick_rows_left m epochs entries
-
--- The rows that a store shows of a brick: what it kept up to an epoch, below the runs and marks of later rounds.
-abbrev pub rows_over_kept : ℕ → List CodedRow → List BrickEntry → List CodedRow
-rows_over_kept epoch kept entries = rows_shown_to every_epoch every_epoch (entries ++ RowRun epoch kept ∷ [])

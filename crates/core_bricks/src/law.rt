@@ -5,7 +5,7 @@ ghost use Rattle.std.specs.List.{count_by};
 ghost use Rattle.cube_values.specs.declared.row.CodedRow.{CodedRow};
 ghost use Rattle.cube_values.specs.declared.snapshot.Snapshot.{Snapshot};
 ghost use Rattle.cube_values.specs.Sees.{sees};
-ghost use Rattle.core_bricks.specs.BrickTransactions.{brick_rows_left, rows_over_kept};
+ghost use Rattle.core_bricks.specs.BrickTransactions.{brick_rows_left};
 ghost use Rattle.core_events.specs.Clients.{reader_up_to};
 ghost use Rattle.core_events.specs.Runs.{Sight, rows_shown_besides};
 ghost use Rattle.core_events.specs.ShardView.{
@@ -13,6 +13,7 @@ ghost use Rattle.core_events.specs.ShardView.{
   brick_rows_seen,
   entries_of_round,
   rows_shown_to,
+  rows_over_kept,
 };
 
 /// What a snapshot sees of a brick is, row for row, what the transactions that it sees leave, run

@@ -164,7 +164,7 @@ saved = (
             (
               (
                 round,
-                record { there = omega arith; fits = (refl, λ e. false≢true (ap flushes e)); says = λ cube brick own. record { rows = λ epochs marks. refl; hidden = λ marks epoch. refl } },
+                record { there = omega arith; fits = (refl, λ e. false≢true (ap flushes e)); says = λ cube brick own. refl },
               ),
               record { there = omega arith; fits = (refl, refl); says = tt },
             ),

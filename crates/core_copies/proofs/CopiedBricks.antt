@@ -5,7 +5,7 @@ use Rattle.std.proofs.lemmas.Bool.{false≢true, leb-true, or_parts}
 use Rattle.cube_values.specs.declared.row.CodedRow.{CodedRow}
 use Rattle.cube_values.specs.Sees.{sees}
 use Rattle.cube_journal.specs.Counters.{JournalState, lce}
-use Rattle.core_events.specs.ShardView.{BrickEntry, RowRun, RowMark, ShardView, EpochSet, is_below_mark, epochs_above, epochs_before_mark, every_epoch, rows_where, rows_shown_to, brick_rows_seen, entries_without_epoch, is_up_to, entries_after_purge, entries_of_round}
+use Rattle.core_events.specs.ShardView.{BrickEntry, RowRun, RowMark, ShardView, EpochSet, is_below_mark, epochs_above, epochs_before_mark, every_epoch, rows_where, rows_shown_to, brick_rows_seen, entries_without_epoch, is_up_to, entries_after_purge, entries_of_round, rows_over_kept, HasNoZeroRows}
 use Rattle.core_events.specs.Jobs.{CoreJob, Append, DropBox, Scan, Delta, Rollback, Purge, CopyRound, Flush, JobOutcome, Done, ShardFull, Found, Compared, Copied, StoreLost, OutOfMemory, is_refusal}
 use Rattle.core_events.specs.Events.{Opening, IsSession, flusher, ClientCall, WorkerMove, Take, NoJob, Work, Reply, CoreEvent, By, At}
 use Rattle.core_events.specs.Groups.{GroupKind, Copies, kind_of, Received, has_number, mails_of, has_refusal}
@@ -13,7 +13,6 @@ use Rattle.core_events.specs.Clients.{client_state, ends_group, reader_up_to}
 use Rattle.core_events.specs.Cells.{counters_of_run, shard_view_of, rows_of_brick, box_has_brick, brick_after_job, brick_after_move, Took, worker_of}
 use Rattle.core_events.specs.Fitting.{OwnsWriter, FlushSays, round_progress}
 use Rattle.core_events.specs.Runs.{IsCoreRun, ShardSays}
-use Rattle.core_bricks.specs.BrickTransactions.{rows_over_kept}
 use Rattle.core_bricks.proofs.CopyRows.{sees-low, sees-not, copies-restore}
 use Rattle.core_desk.proofs.Agreement.{opening-of}
 use Rattle.core_desk.proofs.Blindness.{least-pending}
@@ -23,7 +22,7 @@ use Rattle.core_runs.proofs.ToldBricks.{writer-of, above-lse}
 use Rattle.core_deltas.proofs.FetchedAnswers.{AnswersFit, run-answers}
 use Rattle.core_copies.specs.Copies.{copy_in, copies_by, HasCopied, IsOfOpenRound}
 use Rattle.core_copies.proofs.OpenRounds.{is_copying, of-open-round}
-use Rattle.core_copies.proofs.OverKept.{NoneAtZero, over-alike}
+use Rattle.core_copies.proofs.OverKept.{NoneAtZero}
 
 -- What a reader up to an epoch between LSE and LCE sees stays, though nobody holds it.
 
@@ -81,32 +80,27 @@ epoch-stays o es other x cube brick (Reply client answer) run settled = by (othe
 
 -- No brick has rows of epoch 0.
 
-abbrev ZeroFree : List BrickEntry → Type 0
-ZeroFree [] = Unit {0}
-ZeroFree (RowRun e rows ∷ xs) = NoneAtZero e rows × ZeroFree xs
-ZeroFree (RowMark e ∷ xs) = ZeroFree xs
-
-append-free : (here : Bool) (e : ℕ) (rows : List CodedRow) (xs : List BrickEntry) → (e ≡ 0 → ⊥) → ZeroFree xs
-    → ZeroFree (if here then RowRun e rows ∷ xs else xs)
+append-free : (here : Bool) (e : ℕ) (rows : List CodedRow) (xs : List BrickEntry) → (e ≡ 0 → ⊥) → HasNoZeroRows xs
+    → HasNoZeroRows (if here then RowRun e rows ∷ xs else xs)
 append-free true e rows xs later f = ((λ zero. absurd (later zero)), f)
 append-free false e rows xs later f = f
 
-mark-free : (here : Bool) (e : ℕ) (xs : List BrickEntry) → ZeroFree xs → ZeroFree (if here then RowMark e ∷ xs else xs)
+mark-free : (here : Bool) (e : ℕ) (xs : List BrickEntry) → HasNoZeroRows xs → HasNoZeroRows (if here then RowMark e ∷ xs else xs)
 mark-free true e xs f = f
 mark-free false e xs f = f
 
-rollback-free : (k : ℕ) (xs : List BrickEntry) → ZeroFree xs → ZeroFree (entries_without_epoch k xs)
+rollback-free : (k : ℕ) (xs : List BrickEntry) → HasNoZeroRows xs → HasNoZeroRows (entries_without_epoch k xs)
 rollback-free k [] f = tt
 rollback-free k (RowRun e rows ∷ xs) f = by (e == k) (rollback-free k xs f.1)
   where
-    by : (b : Bool) → ZeroFree (entries_without_epoch k xs)
-        → ZeroFree (if b then entries_without_epoch k xs else RowRun e rows ∷ entries_without_epoch k xs)
+    by : (b : Bool) → HasNoZeroRows (entries_without_epoch k xs)
+        → HasNoZeroRows (if b then entries_without_epoch k xs else RowRun e rows ∷ entries_without_epoch k xs)
     by true rest = rest
     by false rest = (f.0, rest)
 rollback-free k (RowMark e ∷ xs) f = by (e == k) (rollback-free k xs f)
   where
-    by : (b : Bool) → ZeroFree (entries_without_epoch k xs)
-        → ZeroFree (if b then entries_without_epoch k xs else RowMark e ∷ entries_without_epoch k xs)
+    by : (b : Bool) → HasNoZeroRows (entries_without_epoch k xs)
+        → HasNoZeroRows (if b then entries_without_epoch k xs else RowMark e ∷ entries_without_epoch k xs)
     by true rest = rest
     by false rest = rest
 
@@ -114,14 +108,14 @@ where-none : (b : Bool) (rows : List CodedRow) → rows ≡ [] → rows_where b 
 where-none true rows e = e
 where-none false rows e = refl
 
-purge-free : (left : EpochSet) (at : ℕ) (xs : List BrickEntry) → ZeroFree xs → ZeroFree (entries_after_purge left at xs)
+purge-free : (left : EpochSet) (at : ℕ) (xs : List BrickEntry) → HasNoZeroRows xs → HasNoZeroRows (entries_after_purge left at xs)
 purge-free left at [] f = tt
 purge-free left at (RowRun e rows ∷ xs) f =
     ((λ zero. where-none (left e && not (is_below_mark (is_up_to at) e xs)) rows (f.0 zero)), purge-free left at xs f.1)
 purge-free left at (RowMark e ∷ xs) f = by (nat_le e at) (purge-free (epochs_above e left) at xs f) (purge-free left at xs f)
   where
-    by : (b : Bool) → ZeroFree (entries_after_purge (epochs_above e left) at xs) → ZeroFree (entries_after_purge left at xs)
-        → ZeroFree (if b then entries_after_purge (epochs_above e left) at xs else RowMark e ∷ entries_after_purge left at xs)
+    by : (b : Bool) → HasNoZeroRows (entries_after_purge (epochs_above e left) at xs) → HasNoZeroRows (entries_after_purge left at xs)
+        → HasNoZeroRows (if b then entries_after_purge (epochs_above e left) at xs else RowMark e ∷ entries_after_purge left at xs)
     by true above rest = above
     by false above rest = rest
 
@@ -142,8 +136,8 @@ job-later o es a (Purge epoch) run f = tt
 job-later o es a (CopyRound from to) run f = tt
 job-later o es a Flush run f = tt
 
-job-free : (o : Opening) (cube brick : ℕ) (job : CoreJob) (xs : List BrickEntry) → IsLater job → ZeroFree xs
-    → ZeroFree (brick_after_job o cube brick job xs)
+job-free : (o : Opening) (cube brick : ℕ) (job : CoreJob) (xs : List BrickEntry) → IsLater job → HasNoZeroRows xs
+    → HasNoZeroRows (brick_after_job o cube brick job xs)
 job-free o cube brick (Append other epoch rows) xs later f = append-free (other == cube) epoch (rows_of_brick o cube brick rows) xs later f
 job-free o cube brick (DropBox other epoch box) xs later f = mark-free (other == cube && box_has_brick o cube box brick) epoch xs f
 job-free o cube brick (Scan query snapshot) xs later f = f
@@ -154,8 +148,8 @@ job-free o cube brick (CopyRound from to) xs later f = f
 job-free o cube brick Flush xs later f = f
 
 move-free : (here : Bool) (o : Opening) (cube brick : ℕ) (move : WorkerMove) (xs : List BrickEntry)
-    → ((job : CoreJob) (answer : JobOutcome) → move ≡ Work job answer → IsLater job) → ZeroFree xs
-    → ZeroFree (brick_after_move o here cube brick move xs)
+    → ((job : CoreJob) (answer : JobOutcome) → move ≡ Work job answer → IsLater job) → HasNoZeroRows xs
+    → HasNoZeroRows (brick_after_move o here cube brick move xs)
 move-free true o cube brick (Work job Done) xs later f = job-free o cube brick job xs (later job Done refl) f
 move-free true o cube brick (Work job (ShardFull rows)) xs later f = f
 move-free true o cube brick (Work job (Found rows)) xs later f = f
@@ -168,7 +162,7 @@ move-free true o cube brick (NoJob closed) xs later f = f
 move-free true o cube brick (Reply client answer) xs later f = f
 move-free false o cube brick move xs later f = f
 
-run-free : (o : Opening) (es : List CoreEvent) (cube brick : ℕ) → IsCoreRun o es → ZeroFree (shard_view_of o es cube brick)
+pub run-free : (o : Opening) (es : List CoreEvent) (cube brick : ℕ) → IsCoreRun o es → HasNoZeroRows (shard_view_of o es cube brick)
 run-free o [] cube brick run = ((λ zero. ap (rows_of_brick o cube brick) (run.none zero cube)), tt)
 run-free o (By b call ∷ es) cube brick run = run-free o es cube brick run.0
 run-free o (At other move ∷ es) cube brick run =
@@ -191,14 +185,14 @@ zero-rows : (looked hidden : Bool) (e : ℕ) (rows : List CodedRow) → (looked 
 zero-rows true hidden e rows only none = where-none (not hidden) rows (none (only refl))
 zero-rows false hidden e rows only none = refl
 
-none-at-zero : (epochs marks : EpochSet) (xs : List BrickEntry) → ((e : ℕ) → epochs e ≡ true → e ≡ 0) → ZeroFree xs → rows_shown_to epochs marks xs ≡ []
+pub none-at-zero : (epochs marks : EpochSet) (xs : List BrickEntry) → ((e : ℕ) → epochs e ≡ true → e ≡ 0) → HasNoZeroRows xs → rows_shown_to epochs marks xs ≡ []
 none-at-zero epochs marks [] only f = refl
 none-at-zero epochs marks (RowRun e rows ∷ xs) only f =
     λ i. none-at-zero epochs marks xs only f.1 i ++ zero-rows (epochs e) (is_below_mark marks e xs) e rows (only e) f.0 i
 none-at-zero epochs marks (RowMark d ∷ xs) only f =
     none-at-zero (epochs_before_mark (marks d) d epochs) marks xs (before-zero (marks d) d epochs only) f
 
-sees-zero : (e : ℕ) → sees (reader_up_to 0) e ≡ true → e ≡ 0
+pub sees-zero : (e : ℕ) → sees (reader_up_to 0) e ≡ true → e ≡ 0
 sees-zero e is = let le = leb-true e 0 (left-and (nat_le e 0) true is) in omega (arith, le)
   where
     left-and : (a b : Bool) → (a && b) ≡ true → a ≡ true
@@ -228,15 +222,11 @@ abbrev CopyClaim : Opening → List CoreEvent → ℕ → ℕ → CoreJob → Jo
 CopyClaim o es a mail (CopyRound from to) answer = CopyAnswer o es mail from to answer
 CopyClaim o es a mail job answer = Unit {0}
 
-kept-shows : (o : Opening) (es : List CoreEvent) (from to cube brick : ℕ) (c : CodedRow → Bool) → IsCoreRun o es → from ≤ to
-    → count_by c (rows_over_kept from (rows_kept from (shard_view_of o es cube brick)) (entries_of_round from to (shard_view_of o es cube brick)))
-    ≡ count_by c (brick_rows_seen (reader_up_to to) (shard_view_of o es cube brick))
-kept-shows o es zero to cube brick c run le =
-    let xs = shard_view_of o es cube brick in
-    ap (λ (rows : List CodedRow). count_by c (rows_over_kept zero rows (entries_of_round zero to xs)))
-    (sym (none-at-zero (sees (reader_up_to 0)) (sees (reader_up_to 0)) xs sees-zero (run-free o es cube brick run)))
-    ∙ copies-restore c zero to xs le
-kept-shows o es (suc g) to cube brick c run le = copies-restore c (suc g) to (shard_view_of o es cube brick) le
+kept-seen : (o : Opening) (es : List CoreEvent) (from cube brick : ℕ) → IsCoreRun o es
+    → rows_kept from (shard_view_of o es cube brick) ≡ brick_rows_seen (reader_up_to from) (shard_view_of o es cube brick)
+kept-seen o es zero cube brick run =
+    sym (none-at-zero (sees (reader_up_to 0)) (sees (reader_up_to 0)) (shard_view_of o es cube brick) sees-zero (run-free o es cube brick run))
+kept-seen o es (suc g) cube brick run = refl
 
 copy-given : (o : Opening) (es : List CoreEvent) (a mail : ℕ) (job : CoreJob) (answer : JobOutcome) → IsCoreRun o es
     → ShardSays o mail (shard_view_of o es) job answer → CopyClaim o es a mail job answer
@@ -252,8 +242,9 @@ copy-given o es a mail (CopyRound from to) (Found rows) run says = absurd says
 copy-given o es a mail (CopyRound from to) (Compared came went) run says = absurd says
 copy-given o es a mail (CopyRound from to) (Copied copy) run says = λ le cube brick c here.
     let xs = shard_view_of o es cube brick in
-    ap (count_by c) (over-alike from (rows_kept from xs) (copy cube brick) (entries_of_round from to xs) (kept-none from xs) (says cube brick here))
-    ∙ kept-shows o es from to cube brick c run le
+    ap (λ (rows : List CodedRow). count_by c (rows_over_kept from rows (copy cube brick))) (kept-seen o es from cube brick run)
+    ∙ ap (count_by c) (says cube brick here)
+    ∙ copies-restore c from to xs le
 copy-given o es a mail (CopyRound from to) StoreLost run says = absurd says
 copy-given o es a mail (CopyRound from to) OutOfMemory run says = refl
 copy-given o es a mail Flush answer run says = tt

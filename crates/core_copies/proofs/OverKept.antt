@@ -2,8 +2,7 @@
 use Rattle.std.proofs.Common.{◌≡◌, ◌∙◌, ℕ, zero, suc, ◌+◌, Bool, true, false, not, ◌&&◌, ◌||◌, nat_lt, List, [], ◌∷◌, ◌++◌, append_assoc, append-nil, inl, inr, refl, sym, ap, arith, lt-ltb, le-ltb}
 use Rattle.std.specs.List.{count_by}
 use Rattle.cube_values.specs.declared.row.CodedRow.{CodedRow}
-use Rattle.core_events.specs.ShardView.{BrickEntry, RowRun, RowMark, EpochSet, is_below_mark, epochs_before_mark, every_epoch, rows_where, rows_shown_to, ShowAlike}
-use Rattle.core_bricks.specs.BrickTransactions.{rows_over_kept}
+use Rattle.core_events.specs.ShardView.{BrickEntry, RowRun, RowMark, EpochSet, is_below_mark, epochs_before_mark, every_epoch, rows_where, rows_shown_to, rows_over_kept}
 use Rattle.core_bricks.proofs.Counts.{number_where, count-append, count-where, in-order}
 
 below-over : (marks : EpochSet) (e at : ℕ) (kept : List CodedRow) (xs : List BrickEntry)
@@ -30,7 +29,7 @@ hidden-before true g d epochs b =
     (λ i. (epochs (suc g) && not-below g d i) && not b) ∙ hidden-twice (epochs (suc g)) (nat_lt g d) b
 hidden-before false g d epochs b = refl
 
-over-run : (g : ℕ) (kept : List CodedRow) (epochs marks : EpochSet) (xs : List BrickEntry)
+pub over-run : (g : ℕ) (kept : List CodedRow) (epochs marks : EpochSet) (xs : List BrickEntry)
     → rows_shown_to epochs marks (xs ++ RowRun (suc g) kept ∷ [])
     ≡ rows_where (epochs (suc g) && not (is_below_mark marks g xs)) kept ++ rows_shown_to epochs marks xs
 over-run g kept epochs marks [] = sym (append-nil (rows_where (epochs (suc g) && true) kept))
@@ -47,7 +46,7 @@ where-none : (b : Bool) → rows_where b [] ≡ []
 where-none true = refl
 where-none false = refl
 
-over-none : (at : ℕ) (epochs marks : EpochSet) (xs : List BrickEntry)
+pub over-none : (at : ℕ) (epochs marks : EpochSet) (xs : List BrickEntry)
     → rows_shown_to epochs marks (xs ++ RowRun at [] ∷ []) ≡ rows_shown_to epochs marks xs
 over-none at epochs marks [] = where-none (epochs at && true)
 over-none at epochs marks (RowRun j rows ∷ xs) =
@@ -57,20 +56,6 @@ over-none at epochs marks (RowMark d ∷ xs) = over-none at (epochs_before_mark 
 -- Nothing is kept up to epoch 0.
 abbrev pub NoneAtZero : ℕ → List CodedRow → Type 0
 NoneAtZero from kept = from ≡ 0 → kept ≡ []
-
--- Bricks that show the same show the same over what was kept.
-pub over-alike : (from : ℕ) (kept : List CodedRow) (a b : List BrickEntry) → NoneAtZero from kept → ShowAlike a b
-    → rows_over_kept from kept a ≡ rows_over_kept from kept b
-over-alike zero kept a b none alike =
-    ap (λ (rows : List CodedRow). rows_over_kept zero rows a) (none refl)
-    ∙ over-none zero every_epoch every_epoch a
-    ∙ alike.rows every_epoch every_epoch
-    ∙ sym (over-none zero every_epoch every_epoch b)
-    ∙ ap (λ (rows : List CodedRow). rows_over_kept zero rows b) (sym (none refl))
-over-alike (suc g) kept a b none alike =
-    over-run g kept every_epoch every_epoch a
-    ∙ (λ i. rows_where (true && not (alike.hidden every_epoch g i)) kept ++ alike.rows every_epoch every_epoch i)
-    ∙ sym (over-run g kept every_epoch every_epoch b)
 
 -- Of kept rows that are as many, as many are left.
 pub over-counts : (c : CodedRow → Bool) (from : ℕ) (kept more : List CodedRow) (xs : List BrickEntry)

@@ -7,7 +7,7 @@ use Rattle.std.proofs.lemmas.List.Sorted.{length_permutation}
 use Rattle.cube_values.specs.declared.row.CodedRow.{CodedRow}
 use Rattle.cube_values.specs.Sees.{sees}
 use Rattle.brick_address.specs.Addresses.{brick_of}
-use Rattle.core_events.specs.ShardView.{brick_rows_seen}
+use Rattle.core_events.specs.ShardView.{brick_rows_seen, rows_over_kept}
 use Rattle.core_events.specs.Jobs.{CoreJob, Append, DropBox, Scan, Delta, Rollback, Purge, CopyRound, Flush}
 use Rattle.core_events.specs.Events.{Opening, OnDesk, OnNames, Post, Fetch, CloseMail, NoChange, CoreEvent, By, At}
 use Rattle.core_events.specs.Groups.{has_ended}
@@ -16,7 +16,6 @@ use Rattle.core_events.specs.Cells.{counters_of_run, shard_view_of, rows_of_bric
 use Rattle.core_events.specs.Fitting.{FitsCall}
 use Rattle.core_events.specs.Runs.{IsCoreRun}
 use Rattle.core_events.specs.Serial.{CubeOperation, PutRows, counts_for, operations_of, rows_after_transaction}
-use Rattle.core_bricks.specs.BrickTransactions.{rows_over_kept}
 use Rattle.core_bricks.proofs.Counts.{count-filter}
 use Rattle.core_bricks.proofs.CopyRows.{sees-low, sees-not}
 use Rattle.core_desk.proofs.Blindness.{least-pending}

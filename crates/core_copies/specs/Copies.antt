@@ -5,14 +5,13 @@ use Rattle.std.specs.Prelude.{◌≡◌, ◌⊎◌, ℕ, ◌<◌, ◌≤◌, ◌
 use Rattle.std.specs.List.Sorted.{IsPermutation}
 use Rattle.cube_values.specs.declared.row.CodedRow.{CodedRow}
 use Rattle.cube_journal.specs.Counters.{JournalState, lce}
-use Rattle.core_events.specs.ShardView.{BrickEntry, ShardView}
+use Rattle.core_events.specs.ShardView.{BrickEntry, ShardView, rows_over_kept}
 use Rattle.core_events.specs.Jobs.{JobOutcome, Copied}
 use Rattle.core_events.specs.Events.{Opening, CoreEvent}
 use Rattle.core_events.specs.Groups.{Copies, Received, JobGroup}
 use Rattle.core_events.specs.Clients.{reader_up_to}
 use Rattle.core_events.specs.Cells.{rows_of_brick}
 use Rattle.core_events.specs.Fitting.{HasAllDone}
-use Rattle.core_bricks.specs.BrickTransactions.{rows_over_kept}
 use Rattle.core_serial.specs.CubeRows.{rows_of_serial_run}
 
 -- The copy in an answer.

@@ -4,7 +4,6 @@ ghost use Rattle.std.specs.Prelude.{◌≡◌, ℕ, Bool, List};
 ghost use Rattle.std.specs.List.{count_by};
 ghost use Rattle.std.specs.List.Sorted.{IsPermutation};
 ghost use Rattle.cube_values.specs.declared.row.CodedRow.{CodedRow};
-ghost use Rattle.core_bricks.specs.BrickTransactions.{rows_over_kept};
 ghost use Rattle.core_copies.specs.Copies.{
   HasCopied,
   IsOfOpenRound,
@@ -16,6 +15,7 @@ ghost use Rattle.core_events.specs.Cells.{counters_of_run, rows_of_brick};
 ghost use Rattle.core_events.specs.Clients.{client_state};
 ghost use Rattle.core_events.specs.Events.{Opening, CoreEvent};
 ghost use Rattle.core_events.specs.Runs.{IsCoreRun};
+ghost use Rattle.core_events.specs.ShardView.{rows_over_kept};
 
 /// The copies of a round, made by the shards at different moments, keep what committed transactions
 /// leave: over the rows that those up to the round's first epoch leave they show those that the

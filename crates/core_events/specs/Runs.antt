@@ -11,7 +11,7 @@ use Rattle.cube_journal.specs.Counters.{lce, counters_in}
 use Rattle.aosi_register.specs.State.{state_of, round_answer}
 use Rattle.aosi_desk.specs.Desks.{DeskState, cube_answer, IsFound}
 use Rattle.names_dict.specs.Dictionaries.{code_of, number_of}
-use Rattle.core_events.specs.ShardView.{BrickEntry, RowRun, RowMark, ShardView, ShowAlike, EpochSet, is_below_mark, epochs_before_mark, rows_where, brick_rows_seen, entries_of_round}
+use Rattle.core_events.specs.ShardView.{BrickEntry, RowRun, RowMark, ShardView, EpochSet, is_below_mark, epochs_before_mark, rows_where, brick_rows_seen, entries_of_round, rows_over_kept}
 use Rattle.core_events.specs.Jobs.{CoreJob, Append, DropBox, Scan, Delta, Rollback, Purge, CopyRound, JobOutcome, Done, ShardFull, Found, Compared, Copied, OutOfMemory}
 use Rattle.core_events.specs.Events.{Opening, IsOpening, DeskEvent, OpenWrite, OpenRead, TakeNote, CreateCube, FindCube, CubesFrom, CountersNow, RoundOpen, StoreFailed, NamesEvent, Encode, FindName, CopyFrom, ClientCall, OnDesk, OnNames, Fetch, WorkerMove, Take, NoJob, Work, Reply, CoreEvent, By, At}
 use Rattle.core_events.specs.Clients.{client_state, reader_up_to}
@@ -90,10 +90,17 @@ pub record IsDeltaOf (o : Opening) (mail : ℕ) (view : ShardView) (query : Boun
   pub goes : AreByBrick o mail query.cube went (λ brick. rows_in_span query.span
       (rows_shown_besides (sight_of_reader from) (sight_of_reader to) (view query.cube brick)))
 
--- A copy shows of each brick what its runs and marks of the round's epochs show.
+-- A copy of a brick shows, over the rows that a reader up to the round's first epoch sees, what the brick's runs and
+-- marks of the round's epochs show over them.
+abbrev pub IsBrickCopy : ℕ → ℕ → List BrickEntry → List BrickEntry → Type 0
+IsBrickCopy from to entries copy =
+    let kept = brick_rows_seen (reader_up_to from) entries in
+    rows_over_kept from kept copy ≡ rows_over_kept from kept (entries_of_round from to entries)
+
+-- So is that of each brick of a shard.
 abbrev pub IsCopyOf : Opening → ℕ → ShardView → ℕ → ℕ → ShardView → Type 0
 IsCopyOf o mail view from to copy = (cube brick : ℕ) → brick % o.shards ≡ mail
-    → ShowAlike (copy cube brick) (entries_of_round from to (view cube brick))
+    → IsBrickCopy from to (view cube brick) (copy cube brick)
 
 -- The answers of a shard. Rollback and purge take no memory.
 abbrev pub ShardSays : Opening → ℕ → ShardView → CoreJob → JobOutcome → Type 0

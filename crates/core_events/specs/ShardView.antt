@@ -101,6 +101,16 @@ entries_of_round from to (RowMark epoch ∷ older) =
     if is_within_round from to epoch then RowMark epoch ∷ entries_of_round from to older
     else entries_of_round from to older
 
+-- The rows that a store shows of a brick: what it kept up to an epoch, below the runs and marks of later rounds.
+abbrev pub rows_over_kept : ℕ → List CodedRow → List BrickEntry → List CodedRow
+rows_over_kept epoch kept entries = rows_shown_to every_epoch every_epoch (entries ++ RowRun epoch kept ∷ [])
+
+-- Epochs begin at 1: no run of epoch 0 has rows.
+abbrev pub HasNoZeroRows : List BrickEntry → Type 0
+HasNoZeroRows [] = Unit {0}
+HasNoZeroRows (RowRun epoch rows ∷ older) = (epoch ≡ 0 → rows ≡ []) × HasNoZeroRows older
+HasNoZeroRows (RowMark epoch ∷ older) = HasNoZeroRows older
+
 -- The epochs of a set that are in no other.
 abbrev pub epochs_without : EpochSet → EpochSet → EpochSet
 epochs_without set gone e = set e && not (gone e)

@@ -52,7 +52,7 @@ decl_at cubes place log = first_decl (slice_get cubes place) (decl_made_in place
 abbrev pub cells_for : ℕ → ℕ
 cells_for shards = 3 + 2 * shards
 
-module _ {S : Type 0} (fits : Opening → ℕ → ShardCall → Type 0) (stands : Opening → ℕ → S → ShardView → Type 0)
+module _ {S : Type 0} (fits : Opening → ℕ → ShardCall → Type 0) (stands : Opening → ℕ → ℕ → S → ShardView → Type 0)
     (says : CoreJob → ShardAnswer → JobOutcome → Type 0) where
   -- These cells are how a run opens, and each cube of the opening and of the history has the shape that is said of it.
   pub record OpensCells (o : Opening) (cells : List (CoreCell S)) (log : List CoreEntry) : Type 0 where

@@ -42,7 +42,7 @@ at-again cubes place log later decl is =
     (made-again place log later decl) is
 
 module _ {S : Type 0} (can_shard : S → ShardCall → Type 0) (step_shard : S → ShardCall → ShardAnswer → S → Type 0)
-    (fits : Opening → ℕ → ShardCall → Type 0) (stands : Opening → ℕ → S → ShardView → Type 0)
+    (fits : Opening → ℕ → ShardCall → Type 0) (stands : Opening → ℕ → ℕ → S → ShardView → Type 0)
     (says : CoreJob → ShardAnswer → JobOutcome → Type 0) (link : IsShardLinked can_shard step_shard fits stands says) where
   abbrev Opens : Opening → List (CoreCell S) → List CoreEntry → Type 0
   Opens o cells log = OpensCells fits stands says o cells log

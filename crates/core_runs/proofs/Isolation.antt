@@ -17,7 +17,7 @@ use Rattle.core_events.specs.Events.{Opening, IsSession, flusher, OpenWrite, Ope
 use Rattle.core_events.specs.Groups.{has_number}
 use Rattle.core_events.specs.Clients.{Holding, ClientState, client_state, client_after_call, held_under, holds_after, ends_group, lse_in, greater_of}
 use Rattle.core_events.specs.Cells.{counters_of_run, shard_view_of, brick_after_job, brick_after_move, rows_of_brick, box_has_brick, WorkerState, Free, Took, Worked, worker_of, queue_of, reply_for}
-use Rattle.core_events.specs.Fitting.{FitsCall, OwnsWriter, FitsWork, round_progress}
+use Rattle.core_events.specs.Fitting.{FitsCall, OwnsWriter, FitsMove, FitsWork, round_progress}
 use Rattle.core_events.specs.Runs.{IsCoreRun, CallSays}
 use Rattle.core_mails.specs.Histories.{DoneJob, job_done}
 use Rattle.core_runs.specs.Isolation.{IsOfOther}
@@ -251,15 +251,19 @@ asked-fits o (At other move ∷ es) mail a job run e =
     asked-fits o es mail a job run.0 (move-back (other == mail) a (worker_of mail es) move job (place mail a es) e)
 
 -- The job that a worker makes is asked.
-pub made-asked : (o : Opening) (es : List CoreEvent) (mail : ℕ) (job : CoreJob) (answer : JobOutcome)
-    → IsCoreRun o (At mail (Work job answer) ∷ es) → (a : ℕ) × (place mail a es ≡ Asked job)
-made-asked o es mail job answer run = made (worker_of mail es) run.1.fits ((run-posted o es run.0).posted mail).busy
+pub work-asked : (o : Opening) (es : List CoreEvent) (mail : ℕ) (job : CoreJob) (answer : JobOutcome) → IsCoreRun o es
+    → FitsMove o es mail (Work job answer) → (a : ℕ) × (place mail a es ≡ Asked job)
+work-asked o es mail job answer run may = made (worker_of mail es) may ((run-posted o es run).posted mail).busy
   where
     made : (w : WorkerState) → FitsWork (round_progress o es) (client_state o (flusher o) es).store_lost w (Work job answer)
         → IsBusy (λ a. place mail a es) (queue_of mail es) (λ a. reply_for mail a es) w → (a : ℕ) × (place mail a es ≡ Asked job)
     made Free fits busy = absurd fits
     made (Took c j) fits busy = (c, busy.asked ∙ ap Asked (sym fits.0))
     made (Worked c j x) fits busy = absurd fits
+
+pub made-asked : (o : Opening) (es : List CoreEvent) (mail : ℕ) (job : CoreJob) (answer : JobOutcome)
+    → IsCoreRun o (At mail (Work job answer) ∷ es) → (a : ℕ) × (place mail a es ≡ Asked job)
+made-asked o es mail job answer run = work-asked o es mail job answer run.0 run.1.fits
 
 -- A snapshot does not see what the job of another transaction changes.
 abbrev pub IsUnseen : Snapshot → CoreJob → Type 0

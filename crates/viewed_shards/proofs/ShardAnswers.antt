@@ -18,7 +18,7 @@ use Rattle.viewed_shards.specs.ViewedShards.{ShardsAnswerAsViewed}
 
 -- what a round copies shows itself as all did to whoever looks for the epochs of the round alone
 module _ (from to : ℕ) where
-  abbrev of_round : EpochSet → EpochSet
+  abbrev pub of_round : EpochSet → EpochSet
   of_round set e = set e && is_within_round from to e
 
   round_hidden : (marks : EpochSet) (e : ℕ) (xs : List BrickEntry) → is_below_mark marks e (entries_of_round from to xs) ≡ is_below_mark (of_round marks) e xs
@@ -36,7 +36,7 @@ module _ (from to : ℕ) where
   mark_of_round true j epochs = λ i e. and_last (epochs e) (is_within_round from to e) (nat_lt j e) i
   mark_of_round false j epochs = refl
 
-  round_shown : (epochs marks : EpochSet) (xs : List BrickEntry) → rows_shown_to epochs marks (entries_of_round from to xs) ≡ rows_shown_to (of_round epochs) (of_round marks) xs
+  pub round_shown : (epochs marks : EpochSet) (xs : List BrickEntry) → rows_shown_to epochs marks (entries_of_round from to xs) ≡ rows_shown_to (of_round epochs) (of_round marks) xs
   round_shown epochs marks [] = refl
   round_shown epochs marks (RowRun j rows ∷ older) = by_test (round_shown epochs marks older) (is_within_round from to j) where
     by_test : rows_shown_to epochs marks (entries_of_round from to older) ≡ rows_shown_to (of_round epochs) (of_round marks) older → (t : Bool)

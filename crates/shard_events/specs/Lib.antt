@@ -1,0 +1,2 @@
+pub mod ShardCalls
+pub mod ShardsInRuns
