@@ -18,7 +18,7 @@ use Rattle.script_runs.specs.ScriptRuns.{RunsWhole}
 use Rattle.script_runs.specs.declared.running.Ran.{Ran}
 use Rattle.script_sentences.specs.Sentences.{IsRunnable, SaysInPlace, SaysInTurn, sentence_of}
 use Rattle.script_sentences.specs.declared.said.Said.{Said}
-use Rattle.cubrick_top.specs.Generated.{GeneratedEnds, HasGeneratedText, HasLines, generated_files, generated_script}
+use Rattle.cubrick_top.specs.Generated.{GeneratedEnds, HasGeneratedText, HasClosingLines, generated_files, generated_script}
 use Rattle.cubrick_top.specs.Inputs.{GivesScript}
 use Rattle.cubrick_top.specs.Runs.{IsWritten}
 use Rattle.cubrick_top.specs.declared.fault.Fault.{Fault}
@@ -52,7 +52,7 @@ pub has_generated : (rows : ℕ) (cubes : List Decl) (said : List Said) (told : 
     → GivesScript (Gives (whole generated_script)) said → told ≡ Some (generated_files rows) → ran.whole ≡ true
     → OnTrue ran.whole (RunsWhole told cubes (map sentence_of said) ran.replies.items (names_of ran.names)
     ran.journal.items)
-    → HasLines rows ran.replies.items ran.journal.items text
+    → HasClosingLines rows ran.replies.items ran.journal.items text
     → HasGeneratedText rows (names_of ran.names) ran.journal.items text
 has_generated rows cubes said told ran text declared script as_told is runs lines = record {
   cubes = cubes;

@@ -50,7 +50,7 @@ closing_lines (reply.Loaded a b c d ∷ reply.Loaded e f g h ∷ reply.Loaded i 
 closing_lines replies = None
 
 -- The text over these replies and this journal: all files were stored, and it has the lines of the closing query.
-pub record HasLines (rows : ℕ) (replies : List Reply) (journal : List JournalEntry) (text : List ℕ) : Type 0 where
+pub record HasClosingLines (rows : ℕ) (replies : List Reply) (journal : List JournalEntry) (text : List ℕ) : Type 0 where
   pub lines : List (List Field)
   pub closing : closing_lines replies ≡ Some lines
   pub text_is : text ≡ generated_text 0 rows lines journal
@@ -64,7 +64,7 @@ pub record HasGeneratedText (rows : ℕ) (names : List (List (List (List ℕ))))
   pub input : GiveInput generated_readings cubes said
   pub replies : List Reply
   pub ran : RunsWhole (Some (generated_files rows)) cubes (map sentence_of said) replies names journal
-  pub shown : HasLines rows replies journal text
+  pub shown : HasClosingLines rows replies journal text
 
 -- How a run over generated rows ended, and what was written.
 abbrev pub GeneratedEnds : ℕ → Option (List ℕ) → Option (List ℕ) → Finish → Option Fault → Type 0

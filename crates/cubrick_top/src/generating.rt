@@ -14,7 +14,7 @@ ghost use Rattle.names_dict.specs.Dictionaries.{names_of};
 ghost use Rattle.run_files.specs.RunFiles.{Gives};
 ghost use Rattle.outside.specs.Given.{whole};
 ghost use Rattle.script_sentences.specs.Sentences.{IsRunnable};
-ghost use Rattle.cubrick_top.specs.Generated.{GeneratedEnds, HasGeneratedText, HasLines, closing_lines, generated_files, generated_script};
+ghost use Rattle.cubrick_top.specs.Generated.{GeneratedEnds, HasGeneratedText, HasClosingLines, closing_lines, generated_files, generated_script};
 ghost use Rattle.cubrick_top.specs.Inputs.{GivesScript};
 ghost use Rattle.cubrick_top.specs.Runs.{IsWritten, OutputRises, status_of};
 ghost use Rattle.cubrick_top.specs.declared.fault.Fault.TheVariants.{NoMemory, Words};
@@ -152,7 +152,8 @@ fn text_bytes(
 // The text over what the script has left, where all files were stored.
 fn generated_bytes(alloc: Global, rows: u64, ran: &Ran) -> Result<Vec<u8>, AllocError>
     requires counters { ran.now.counters ≡ counters 0 ran.now.journal.items }
-    ensures { IfOk result (λ text. HasLines rows ran.now.replies.items ran.now.journal.items text.items) }
+    ensures { IfOk result (λ text. HasClosingLines rows ran.now.replies.items
+        ran.now.journal.items text.items) }
 {
     match closing_lines(ran.replies.as_slice()) {
         Some(lines) => text_bytes(alloc, rows, lines, &ran.counters),
@@ -164,7 +165,8 @@ fn generated_bytes(alloc: Global, rows: u64, ran: &Ran) -> Result<Vec<u8>, Alloc
 // Runs the script over the files of so many rows.
 #[tactic(auto, using(crate::proofs::GeneratedRuns::has_generated))]
 fn generate(alloc: Global, rows: u64) -> Result<Generated, AllocError>
-    ensures { IfOk result (λ g. HasGeneratedText rows (names_of g.names) g.journal.items g.text.items) }
+    ensures { IfOk result (λ g. HasGeneratedText rows (names_of g.names)
+        g.journal.items g.text.items) }
 {
     let cubes = generated_cubes(alloc)?;
     let said = generated_sentences(alloc)?;
@@ -188,7 +190,8 @@ fn finish_generated<K: Sink>(sink: &mut K, generated: Generated) -> Finish
     ensures journal { result.journal.items ≡ generated.journal.items }
     ensures names { result.names ≡ generated.names }
     ensures output { OutputRises result.fault (K.fault_count sink.old) (K.fault_count sink.new) }
-    ensures written { IsWritten (K.taken sink.old) generated.text.items (K.taken sink.new) result.fault }
+    ensures written { IsWritten (K.taken sink.old) generated.text.items
+        (K.taken sink.new) result.fault }
     ensures known { result.fault ≢ Some NoMemory }
 {
     let Generated {

@@ -13,7 +13,8 @@ const GENERATE: &str = "--generate";
 
 // How many rows a word says, in decimal digits without leading zeros.
 fn row_count(word: &str) -> Option<u64>
-    ensures some { IfSome result (λ rows. word.now ≡ decimal rows × (1 ≤ rows) × (rows ≤ MOST_GENERATED)) }
+    ensures some { IfSome result (λ rows. word.now ≡ decimal rows
+        × (1 ≤ rows) × (rows ≤ MOST_GENERATED)) }
     ensures none { result ≡ None → (rows : ℕ) → word.now ≡ decimal rows → 1 ≤ rows
         → rows ≤ MOST_GENERATED → ⊥ }
 {
