@@ -1,6 +1,6 @@
 -- Which lists of rows groups stand for.
 -- Source: Cubrick (VLDB 2016), merging of partial results; taking rows out is this project's own.
-use Rattle.std.specs.Prelude.{◌≡◌, ℕ, ◌^◌, ◌<◌, ◌+◌, true, ℤ, List, [], ◌∷◌, ◌++◌, length, map, All, slice_get, Some, if◌then◌else◌}
+use Rattle.std.specs.Prelude.{◌≡◌, ℕ, ◌^◌, ◌<◌, ◌+◌, true, ℤ, List, ◌++◌, length, map, All, slice_get, Some, if◌then◌else◌}
 use Rattle.std.specs.List.{flat_map, IsDistinct}
 use Rattle.std.specs.List.Sorted.{IsPermutation}
 use Rattle.std.specs.Str.{bytes_eq}

@@ -1,5 +1,5 @@
 -- How the tickets of sessions agree with the open snapshots and the pending epochs.
-use Rattle.std.specs.Prelude.{◌≡◌, ℕ, ◌<◌, ◌≤◌, Bool, true, false, List, [], ◌∷◌, length, Option, Some, None, IsSomeAnd, slice_index_or}
+use Rattle.std.specs.Prelude.{◌≡◌, ℕ, ◌<◌, Bool, true, false, List, [], ◌∷◌, Option, Some, None, IsSomeAnd, slice_index_or}
 use Rattle.std.specs.List.{count_by}
 use Rattle.cube_journal.specs.declared.counters.OpenSnapshot.{OpenSnapshot}
 use Rattle.linked_roll.specs.declared.ticket.Ticket.{Ticket}

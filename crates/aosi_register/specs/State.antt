@@ -1,6 +1,6 @@
 -- What contracts see of a register, and what its calls answer.
 -- Source: AOSI (ICDE 2018), begin, commit and abort of a transaction; rounds are this project's own.
-use Rattle.std.specs.Prelude.{◌≡◌, ℕ, ◌+◌, ◌==◌, List, [], ◌∷◌, ◌++◌, Bool, true, false, if◌then◌else◌, IsSomeAnd, Option}
+use Rattle.std.specs.Prelude.{◌≡◌, ℕ, ◌+◌, ◌==◌, List, [], ◌∷◌, ◌++◌, true, false, if◌then◌else◌, IsSomeAnd}
 use Rattle.std.specs.Option.{option_map_or}
 use Rattle.cube_values.specs.declared.snapshot.Snapshot.{Snapshot}
 use Rattle.cube_journal.specs.declared.journal_entry.AbortCause.{AbortCause}

@@ -3,8 +3,7 @@ use Rattle.std.proofs.Common.{◌≡◌, ℕ, ◌+◌, ◌-◌, ◌<◌, ◌≤�
 use Rattle.std.proofs.lemmas.List.{take_more, length-take-le, length-drop, get_or-take, get_or-drop, map-append}
 use Rattle.std.proofs.lemmas.List.Elements.{All-get_or}
 use Rattle.cube_values.specs.declared.row.CodedRow.{CodedRow}
-use Rattle.cube_values.specs.Batches.{coded_row_at}
-use Rattle.brick_columns.specs.Rows.{rows_between}
+use Rattle.cube_values.specs.Batches.{coded_row_at, rows_between}
 
 -- the rows from a place that do not go past the end
 pub between_long : (rows : List CodedRow) (from to : ℕ) → to ≤ length rows → length (rows_between from to rows) ≡ to - from

@@ -1,6 +1,6 @@
 -- The rows of a brick, as contracts see its columns.
 -- Source: Cubrick (VLDB 2016), a brick's dimension columns as offsets in its ranges, beside its metric columns.
-use Rattle.std.specs.Prelude.{◌≡◌, ℕ, ◌-◌, ◌^◌, ◌<◌, ◌≤◌, ℤ, List, [], length, map, take, drop, slice_index_or, slice_index, pos, All}
+use Rattle.std.specs.Prelude.{◌≡◌, ℕ, ◌^◌, ◌<◌, ◌≤◌, ℤ, List, [], length, map, slice_index_or, slice_index, pos, All}
 use Rattle.std.specs.List.{AllZip}
 use Rattle.cube_values.specs.declared.row.CodedRow.{CodedRow}
 use Rattle.cube_values.specs.declared.shape.Shape.{Shape}
@@ -61,7 +61,3 @@ offset_row starts row = record { offsets = differences row.coords starts; metric
 pub record LiesFrom (layout : Layout) (starts : List ℕ) (row : CodedRow) : Type 0 where
   pub above : AllZip ◌≤◌ starts row.coords
   pub inside : IsBrickRow layout (offset_row starts row)
-
--- The rows from one place up to another.
-abbrev pub rows_between : ℕ → ℕ → List CodedRow → List CodedRow
-rows_between from to rows = take (to - from) (drop from rows)

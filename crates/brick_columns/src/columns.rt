@@ -7,7 +7,8 @@ ghost use Rattle.cube_values.specs.Shapes.{IsSoundShape};
 ghost use Rattle.packed_words.specs.Counted.{IsShort, AreCounted};
 ghost use Rattle.packed_words.specs.Rows.{AreWords};
 ghost use Rattle.packed_words.specs.declared.counted.TheConstants.{MOST_COUNTED, NOTHING_COUNTED};
-ghost use Rattle.brick_columns.specs.Rows.{layout_of, IsBrickRow, IsWidth, LiesFrom, HasShortMetrics, row_at, offset_row, rows_between, offset_at, metric_at};
+ghost use Rattle.brick_columns.specs.Rows.{layout_of, IsBrickRow, IsWidth, LiesFrom, HasShortMetrics, row_at, offset_row, offset_at, metric_at};
+ghost use Rattle.cube_values.specs.Batches.{rows_between};
 
 use crate::lists::{all_short, empty_lists, keep_each, push_each, reserve_each};
 use cube_values::{Bits, CodedRows, Shape, Size, grown_room};

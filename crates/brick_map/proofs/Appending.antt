@@ -6,7 +6,7 @@ use Rattle.std.proofs.lemmas.List.{append-nil, drop_all, drop_more, length-appen
 use Rattle.std.proofs.lemmas.List.Elements.{All-take, All-drop}
 use Rattle.cube_values.specs.declared.row.CodedRow.{CodedRow}
 use Rattle.cube_values.specs.declared.shape.CubeShape.{CubeShape}
-use Rattle.brick_columns.specs.Rows.{rows_between}
+use Rattle.cube_values.specs.Batches.{rows_between}
 use Rattle.brick_store.specs.Bricks.{Home, BrickState, IsRowOf}
 use Rattle.brick_map.specs.declared.runs.BatchRun.{BatchRun}
 use Rattle.brick_map.specs.Appended.{AreAppended, content_numbered}

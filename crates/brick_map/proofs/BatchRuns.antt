@@ -8,10 +8,9 @@ use Rattle.cube_values.specs.declared.entry.Entry.{Entry}
 use Rattle.cube_values.specs.declared.entry.Entry.TheVariants.{Run, Mark}
 use Rattle.cube_values.specs.declared.row.CodedRow.{CodedRow}
 use Rattle.cube_values.specs.declared.shape.Size.{Size}
-use Rattle.cube_values.specs.Batches.{coded_row_at}
+use Rattle.cube_values.specs.Batches.{coded_row_at, rows_between}
 use Rattle.cube_values.specs.EpochsVector.{vector_with_entry}
 use Rattle.brick_address.specs.Addresses.{brick_of}
-use Rattle.brick_columns.specs.Rows.{rows_between}
 use Rattle.brick_store.specs.Bricks.{BrickState}
 use Rattle.brick_store.proofs.Folds.{filter_none}
 use Rattle.brick_map.specs.declared.runs.BatchRun.{BatchRun}

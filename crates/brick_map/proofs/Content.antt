@@ -13,7 +13,7 @@ use Rattle.cube_values.specs.declared.span.Span.{Span}
 use Rattle.brick_address.specs.Addresses.{brick_of}
 use Rattle.brick_columns.proofs.KeptItems.{kept_all}
 use Rattle.brick_store.specs.Bricks.{Home, BrickState, IsRowOf}
-use Rattle.brick_store.specs.Rows.{span_has_row}
+use Rattle.cube_values.specs.Spans.{span_has_row}
 use Rattle.brick_map.specs.declared.deletion.Deletion.{Deletion}
 use Rattle.brick_map.specs.declared.runs.BatchRun.{BatchRun}
 use Rattle.brick_map.specs.Appended.{AreAppended}

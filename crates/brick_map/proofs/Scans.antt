@@ -12,7 +12,7 @@ use Rattle.cube_values.specs.declared.span.Span.{Span}
 use Rattle.agg_fold.specs.declared.groups.Groups.{Groups}
 use Rattle.agg_fold.specs.Standing.{Gains, HasRoom}
 use Rattle.brick_store.specs.Bricks.{BrickState}
-use Rattle.brick_store.specs.Rows.{span_has_row}
+use Rattle.cube_values.specs.Spans.{span_has_row}
 use Rattle.brick_store.proofs.Folds.{filter_short, gains_more, gains_same, room_after, set_short}
 use Rattle.brick_map.specs.Births.{has_brick, rows_count}
 use Rattle.brick_map.specs.Lists.{HasSame, MayMark, brick_before_deletion, brick_with_room}

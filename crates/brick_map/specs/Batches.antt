@@ -7,7 +7,7 @@ use Rattle.cube_values.specs.declared.shape.CubeShape.{CubeShape}
 use Rattle.cube_values.specs.declared.shape.Size.{Size}
 use Rattle.cube_values.specs.Shapes.{bricks_of}
 use Rattle.brick_address.specs.Addresses.{brick_of, AreCoords}
-use Rattle.brick_columns.specs.Rows.{rows_between}
+use Rattle.cube_values.specs.Batches.{rows_between}
 use Rattle.brick_map.specs.declared.runs.BatchRun.{BatchRun}
 
 -- A row of a cube.

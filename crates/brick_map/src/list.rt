@@ -5,7 +5,7 @@ ghost use Rattle.std.specs.List.{IsDistinct, AllZip};
 ghost use Rattle.cube_values.specs.Shapes.{IsSoundShape, bricks_of};
 ghost use Rattle.cube_values.specs.Spans.{IsSoundPart};
 ghost use Rattle.condition_spans.specs.Spans.{CutNoBrick};
-ghost use Rattle.brick_columns.specs.Rows.{rows_between};
+ghost use Rattle.cube_values.specs.Batches.{rows_between};
 ghost use Rattle.brick_store.specs.Bricks.{IsRowOf};
 ghost use Rattle.cube_rounds.specs.Demands.{AreRising};
 ghost use Rattle.brick_map.specs.Births.{brick_numbered};

@@ -8,7 +8,7 @@ use Rattle.cube_values.specs.Queries.{IsSoundQuery}
 use Rattle.brick_columns.specs.Rows.{BrickRows, IsBrickRow}
 use Rattle.brick_columns.proofs.KeptItems.{kept_all}
 use Rattle.brick_store.specs.Cells.{cell_count, CanFold, IsTakenRow, HasFitNumbers}
-use Rattle.brick_store.specs.Rows.{span_has_row}
+use Rattle.cube_values.specs.Spans.{span_has_row}
 use Rattle.brick_store.specs.Whole.{HaveCoordsFrom, HasSmallCoords, row_with_coords}
 use Rattle.brick_store.proofs.Changes.{rows_left}
 

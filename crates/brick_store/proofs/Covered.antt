@@ -7,7 +7,7 @@ use Rattle.cube_values.specs.declared.span.Span.{Span}
 use Rattle.brick_address.specs.Covers.{HasAll, HasNone}
 use Rattle.brick_columns.proofs.KeptItems.{kept_all}
 use Rattle.brick_store.specs.Bricks.{Home, BrickState, IsRowOf}
-use Rattle.brick_store.specs.Rows.{span_has_row}
+use Rattle.cube_values.specs.Spans.{span_has_row}
 use Rattle.brick_store.specs.Whole.{contract_view, IsWhole}
 use Rattle.brick_store.specs.declared.brick.Brick.TheInside.{Inside}
 use Rattle.brick_store.proofs.Folds.{filter_none}

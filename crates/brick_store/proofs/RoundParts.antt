@@ -8,7 +8,8 @@ use Rattle.cube_values.specs.declared.entry.Entry.{Entry}
 use Rattle.cube_values.specs.declared.entry.Entry.TheVariants.{Run, Mark}
 use Rattle.cube_values.specs.declared.row.CodedRow.{CodedRow}
 use Rattle.cube_values.specs.EpochsVector.{IsVector, Leads, rows_after, rows_of, vector_with_entry}
-use Rattle.cube_rounds.specs.Bricks.{EntryRows, entries_with_rows, rows_between}
+use Rattle.cube_rounds.specs.Bricks.{EntryRows, entries_with_rows}
+use Rattle.cube_values.specs.Batches.{rows_between}
 use Rattle.brick_store.specs.Copies.{entries_of_epochs, is_of_epochs, rows_of_entries, vector_of_entries, vector_with_rows}
 
 -- the first entry with its rows, and the others behind its rows

@@ -10,7 +10,7 @@ use Rattle.agg_fold.specs.declared.tally.Tally.{Tally}
 use Rattle.agg_fold.specs.declared.tally.Tally.TheVariants.{Unused, Total, Least, Greatest}
 use Rattle.agg_fold.specs.Tallies.{tally_of, number_for, IsSmall}
 use Rattle.brick_columns.specs.Rows.{BrickRow, BrickRows, Layout, IsBrickRow, offset_at}
-use Rattle.brick_store.specs.Rows.{span_has_row}
+use Rattle.cube_values.specs.Spans.{span_has_row}
 use Rattle.brick_store.specs.Whole.{HasSmallCoords, row_with_coords}
 use Rattle.brick_store.specs.declared.cell_tallies.CellTallies.{CellTallies}
 use Rattle.brick_store.specs.declared.cell_tallies.CellTallies.TheVariants.{Nothing, Sums, Lows, Highs}

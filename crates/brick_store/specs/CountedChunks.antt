@@ -1,4 +1,5 @@
 -- Chunks of rows that are folded by counts and sums side by side in one word for each cell.
+-- Source: a sum and a count side by side in one machine word; the form is this project's own.
 use Rattle.std.specs.Prelude.{◌≡◌, ℕ, ◌<◌, ◌≤◌, ℤ, ◌+ℤ◌, List, [], ◌∷◌, All, slice_index}
 use Rattle.cube_values.specs.declared.query.BoundItem.{BoundItem}
 use Rattle.cube_values.specs.declared.query.BoundItem.TheVariants.{Group, Count, Sum, Min, Max, Avg}

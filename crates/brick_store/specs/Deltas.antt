@@ -6,7 +6,7 @@ use Rattle.cube_values.specs.declared.row.CodedRow.{CodedRow}
 use Rattle.cube_values.specs.declared.snapshot.Snapshot.{Snapshot}
 use Rattle.cube_values.specs.declared.span.Span.{Span}
 use Rattle.cube_values.specs.EpochsVector.{rows_of, sees_row}
-use Rattle.brick_store.specs.Rows.{span_has_row}
+use Rattle.cube_values.specs.Spans.{span_has_row}
 
 -- The bits that are set where those of another list are not.
 abbrev pub bits_apart : List Bool → List Bool → List Bool

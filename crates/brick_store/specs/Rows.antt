@@ -1,16 +1,12 @@
 -- Which rows of a brick a query takes.
-use Rattle.std.specs.Prelude.{Bool, List, filter}
+use Rattle.std.specs.Prelude.{List, filter}
 use Rattle.std.specs.List.{items_where_true}
 use Rattle.cube_values.specs.declared.entry.Entry.{Entry}
 use Rattle.cube_values.specs.declared.row.CodedRow.{CodedRow}
 use Rattle.cube_values.specs.declared.snapshot.Snapshot.{Snapshot}
 use Rattle.cube_values.specs.declared.span.Span.{Span}
-use Rattle.cube_values.specs.Spans.{span_has}
+use Rattle.cube_values.specs.Spans.{span_has_row}
 use Rattle.epochs_vector.specs.Seen.{seen_rows}
-
--- A span has a row.
-abbrev pub span_has_row : Span → CodedRow → Bool
-span_has_row span row = span_has span row.coords
 
 -- The rows that a snapshot sees by the vector of epochs and that a span has, in order.
 abbrev pub rows_shown : Span → Snapshot → List Entry → List CodedRow → List CodedRow

@@ -4,7 +4,8 @@ ghost use Rattle.std.specs.Prelude.{◌≡◌, ◌+◌, ◌-◌, ◌<◌, ◌≤
 ghost use Rattle.cube_values.specs.EpochsVector.{IsVector, Leads, rows_after, rows_of, vector_with_entry};
 ghost use Rattle.cube_values.specs.declared.entry.Entry.TheVariants.{Run};
 ghost use Rattle.brick_columns.specs.Rows.{row_at};
-ghost use Rattle.cube_rounds.specs.Bricks.{entries_with_rows, rows_between};
+ghost use Rattle.cube_rounds.specs.Bricks.{entries_with_rows};
+ghost use Rattle.cube_values.specs.Batches.{rows_between};
 ghost use Rattle.brick_store.specs.Copies.{entries_of_epochs, is_of_epochs, rows_of_entries, vector_of_entries, vector_with_rows};
 ghost use Rattle.brick_store.specs.Whole.{HaveCoordsFrom, row_with_coords};
 

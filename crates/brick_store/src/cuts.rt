@@ -2,9 +2,8 @@
 
 ghost use Rattle.std.specs.Prelude.{◌≡◌, ℕ, if◌then◌else◌, ◌+◌, ◌<◌, ◌≤◌, false, IsTrue, length, map, filter, OnOk, slice_index, slice_set};
 ghost use Rattle.std.specs.List.{items_where_true};
-ghost use Rattle.cube_values.specs.Spans.{part_has};
+ghost use Rattle.cube_values.specs.Spans.{part_has, span_has_row};
 ghost use Rattle.brick_store.specs.Cuts.{AreCleared, AreClearedFrom, part_has_row};
-ghost use Rattle.brick_store.specs.Rows.{span_has_row};
 ghost use Rattle.brick_store.specs.Whole.{HaveCoordsFrom, row_with_coords};
 
 use crate::scan::ROWS_AT_ONCE;

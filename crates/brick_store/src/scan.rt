@@ -4,12 +4,11 @@ ghost use Rattle.std.specs.Prelude.{◌≡◌, if◌then◌else◌, ◌^◌, ◌
 ghost use Rattle.std.specs.Int.{w64};
 ghost use Rattle.std.specs.List.{items_where_true};
 ghost use Rattle.cube_values.specs.Queries.{IsSoundItem, IsSoundQuery};
-ghost use Rattle.cube_values.specs.Spans.{span_has};
+ghost use Rattle.cube_values.specs.Spans.{span_has, span_has_row};
 ghost use Rattle.agg_fold.specs.Standing.{Gains, HasRoom};
 ghost use Rattle.agg_fold.specs.Tallies.{metric_number};
 ghost use Rattle.brick_columns.specs.Rows.{row_at};
 ghost use Rattle.brick_store.specs.Cells.{cell_count, CanFold, HasFitNumber, HasFitNumbers, HoldRows};
-ghost use Rattle.brick_store.specs.Rows.{span_has_row};
 ghost use Rattle.brick_store.specs.Whole.{HaveCoordsFrom, row_with_coords};
 
 use crate::cells::cell_count;

@@ -7,7 +7,7 @@ ghost use Rattle.cube_values.specs.Queries.{IsSoundQuery};
 ghost use Rattle.epochs_vector.specs.Seen.{seen_rows};
 ghost use Rattle.agg_fold.specs.Standing.{Gains, HasRoom};
 ghost use Rattle.brick_store.specs.Deltas.{seen_apart};
-ghost use Rattle.brick_store.specs.Rows.{span_has_row};
+ghost use Rattle.cube_values.specs.Spans.{span_has_row};
 ghost use Rattle.brick_store.specs.Whole.{HaveCoordsFrom, row_with_coords};
 
 use crate::delta::{show_apart_in, show_in};

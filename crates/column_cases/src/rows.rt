@@ -3,7 +3,8 @@
 ghost use Rattle.std.specs.Prelude.{◌≡◌, ◌<◌, ◌≤◌, IfOk, IsTrue, All, length, [], ◌∷◌};
 ghost use Rattle.std.specs.List.{AllZip};
 ghost use Rattle.packed_words.specs.Rows.{differences};
-ghost use Rattle.brick_columns.specs.Rows.{LiesFrom, rows_between};
+ghost use Rattle.brick_columns.specs.Rows.{LiesFrom};
+ghost use Rattle.cube_values.specs.Batches.{rows_between};
 
 use crate::making::{columns_for, put};
 use brick_columns::Columns;

@@ -1,7 +1,7 @@
 -- What a statement asks by the places of its cube: the region of its conditions, its query, and what HAVING, ORDER BY
 -- and LIMIT ask for. In a statement that fits its cube each name has its place.
 -- Source: Cubrick (VLDB 2016), filters and groups by dimensions; HAVING, ORDER BY and LIMIT are SQL's.
-use Rattle.std.specs.Prelude.{ℕ, List, [], ◌∷◌, filter_map, Option, Some, None}
+use Rattle.std.specs.Prelude.{ℕ, List, [], filter_map, Option, Some, None}
 use Rattle.std.specs.List.{position_from}
 use Rattle.std.specs.Option.{option_map}
 use Rattle.std.specs.Str.{bytes_eq}

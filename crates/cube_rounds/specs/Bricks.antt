@@ -1,9 +1,10 @@
 -- What a round has of a brick, and the rows that each entry of it appended.
 -- Source: AOSI (ICDE 2018), the epochs vector.
-use Rattle.std.specs.Prelude.{ℕ, ◌-◌, List, [], ◌∷◌, take, drop}
+use Rattle.std.specs.Prelude.{ℕ, List, [], ◌∷◌}
 use Rattle.cube_values.specs.declared.entry.Entry.{Entry}
 use Rattle.cube_values.specs.declared.entry.Entry.TheVariants.{Run, Mark}
 use Rattle.cube_values.specs.declared.row.CodedRow.{CodedRow}
+use Rattle.cube_values.specs.Batches.{rows_between}
 
 -- The number of a brick, some entries of its vector, and the rows that these appended.
 pub record BrickPart : Type 0 where
@@ -15,10 +16,6 @@ pub record BrickPart : Type 0 where
 pub record EntryRows : Type 0 where
   pub entry : Entry
   pub rows : List CodedRow
-
--- The rows from one place up to another.
-abbrev pub rows_between : ℕ → ℕ → List CodedRow → List CodedRow
-rows_between from end rows = take (end - from) (drop from rows)
 
 -- The entries behind so many of the rows, each with the rows that it appended.
 abbrev pub entries_with_rows : ℕ → List CodedRow → List Entry → List EntryRows

@@ -1,5 +1,5 @@
 -- Batches of rows by coordinates, kept flat: all coordinates in one list and all metrics in another.
-use Rattle.std.specs.Prelude.{◌≡◌, ℕ, ◌*◌, ◌≤◌, ℤ, List, [], length, map, take, drop, slice_index_or}
+use Rattle.std.specs.Prelude.{◌≡◌, ℕ, ◌-◌, ◌*◌, ◌≤◌, ℤ, List, [], length, map, take, drop, slice_index_or}
 use Rattle.std.specs.List.{range_with_len}
 use Rattle.cube_values.specs.declared.row.CodedRow.{CodedRow}
 
@@ -18,6 +18,10 @@ pub record HasWidths (dims width : ℕ) (row : CodedRow) : Type 0 where
 -- Row i, and past the last one a row without items.
 abbrev pub coded_row_at : List CodedRow → ℕ → CodedRow
 coded_row_at rows i = slice_index_or rows i (record { coords = []; metrics = [] })
+
+-- The rows from one place up to another.
+abbrev pub rows_between : ℕ → ℕ → List CodedRow → List CodedRow
+rows_between from to rows = take (to - from) (drop from rows)
 
 -- Part i of a list that is cut into parts of one length.
 abbrev pub nth_part : {T : Type 0} → ℕ → List T → ℕ → List T

@@ -4,6 +4,7 @@ use Rattle.std.specs.List.{list_any, AllByRecursion}
 use Rattle.cube_values.specs.declared.span.Part.{Part}
 use Rattle.cube_values.specs.declared.span.Part.TheVariants.{All, Between, Listed}
 use Rattle.cube_values.specs.declared.span.Span.{Span}
+use Rattle.cube_values.specs.declared.row.CodedRow.{CodedRow}
 
 -- A coordinate is in a part.
 abbrev pub part_has : Part → ℕ → Bool
@@ -20,6 +21,10 @@ parts_have parts coords = false
 -- A span has the coordinates of a row.
 abbrev pub span_has : Span → List ℕ → Bool
 span_has span coords = parts_have span.parts coords
+
+-- A span has a row.
+abbrev pub span_has_row : Span → CodedRow → Bool
+span_has_row span row = span_has span row.coords
 
 -- Each number is below all that follow it.
 abbrev pub Rises : List ℕ → Type 0

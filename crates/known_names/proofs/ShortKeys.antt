@@ -4,7 +4,7 @@ use Rattle.std.specs.Int.{Width, w8, w16, w32, w64, from_le_bytes, to_le_bytes}
 use Rattle.std.proofs.lemmas.Bool.{cases_Bool, cases_lt, leb-true, leb-false}
 use Rattle.std.proofs.lemmas.List.{drop-drop, take-append-drop, take_all, length-take, length-drop, get_or-drop, get_or-take, get_or_past}
 use Rattle.std.proofs.lemmas.Nat.{le_bytes_2, le_bytes_4, le_bytes_8}
-use Rattle.known_names.specs.ShortKeys.{IsShort, first_number, key_by, short_key}
+use Rattle.known_names.specs.ShortKeys.{IsShortText, first_number, key_by, short_key}
 use Rattle.known_names.specs.declared.short_keys.ShortKey.{ShortKey}
 
 IsBytes : List ℕ → Type 0
@@ -109,7 +109,7 @@ len_with n text =
 pub len_short : (text : List ℕ) → (short_key text).len ≡ length text
 len_short text = len_with (length text) text
 
-same_with : (n : ℕ) (a b : List ℕ) → IsShort a → IsShort b → length a ≡ n → length b ≡ n
+same_with : (n : ℕ) (a b : List ℕ) → IsShortText a → IsShortText b → length a ≡ n → length b ≡ n
     → key_with n a ≡ key_with n b → a ≡ b
 unfolding IsBytes
 same_with n a b short short_too len len_too is =
@@ -141,7 +141,7 @@ same_with n a b short short_too len len_too is =
       ]
     ]
 
-pub short_same : (a b : List ℕ) → IsShort a → IsShort b → short_key a ≡ short_key b → a ≡ b
+pub short_same : (a b : List ℕ) → IsShortText a → IsShortText b → short_key a ≡ short_key b → a ≡ b
 short_same a b short short_too is =
     let len : length a ≡ length b =
     sym (len_short a) ∙ ap (λ (key : ShortKey). key.len) is ∙ len_short b in

@@ -5,7 +5,7 @@ use Rattle.std.specs.Str.{bytes_eq}
 use Rattle.std.proofs.lemmas.Bool.{cases_Bool}
 use Rattle.std.proofs.lemmas.List.Elements.{All-get_or, All-nil, All-push, All-set, All-weaker}
 use Rattle.known_names.specs.KnownTexts.{code_of_known, with_text}
-use Rattle.known_names.specs.ShortKeys.{IsShort, short_key}
+use Rattle.known_names.specs.ShortKeys.{IsShortText, short_key}
 use Rattle.known_names.specs.Slots.{AreRight, IsRight, slot_key}
 use Rattle.known_names.specs.declared.short_keys.ShortKey.{ShortKey}
 use Rattle.known_names.specs.declared.short_texts.Slot.{Slot}
@@ -29,7 +29,7 @@ pub right_set : (known : List (List ℕ × ℕ)) (slots : List Slot) (i : ℕ) (
 right_set known slots i slot right is = All-set (IsRight known) slots i slot is right
 
 -- the slot of a text with its code
-pub right_slot : (known : List (List ℕ × ℕ)) (slot : Slot) (key : ShortKey) (text : List ℕ) (code : ℕ) → IsShort text
+pub right_slot : (known : List (List ℕ × ℕ)) (slot : Slot) (key : ShortKey) (text : List ℕ) (code : ℕ) → IsShortText text
     → key ≡ short_key text → slot_key slot ≡ key → slot.code ≡ code → code_of_known known text ≡ Some code → IsRight known slot
 right_slot known slot key text code short is holds has so other other_short other_is =
     let same : other ≡ text = short_same other text other_short short (sym other_is ∙ holds ∙ is) in
@@ -37,7 +37,7 @@ right_slot known slot key text code short is holds has so other other_short othe
 
 -- what is found in a slot is the code
 pub right_code : (known : List (List ℕ × ℕ)) (slots : List Slot) (i : ℕ) (d : Slot) (text : List ℕ) (key : ShortKey)
-    → AreRight known slots → i < length slots → IsShort text → key ≡ short_key text → slot_key (get_or slots i d) ≡ key
+    → AreRight known slots → i < length slots → IsShortText text → key ≡ short_key text → slot_key (get_or slots i d) ≡ key
     → code_of_known known text ≡ Some (get_or slots i d).code
 right_code known slots i d text key right lt short is holds =
     All-get_or (IsRight known) slots i d lt right text short (holds ∙ is)

@@ -5,7 +5,7 @@ use Rattle.std.specs.Int.{Width, w8, w16, w32, w64, from_le_bytes}
 use Rattle.known_names.specs.declared.short_keys.ShortKey.{ShortKey}
 
 -- A text of 1 to 16 bytes.
-pub record IsShort (text : List ℕ) : Type 0 where
+pub record IsShortText (text : List ℕ) : Type 0 where
   pub some : 0 < length text
   pub few : length text ≤ 16
   pub bytes : (i : ℕ) → get_or text i 0 < 256

@@ -2,7 +2,7 @@
 
 ghost use Rattle.std.specs.Prelude.{◌≡◌, ◌≤◌, ◌-◌, length, drop, IfSome};
 ghost use Rattle.std.specs.Int.{w8, w16, w32, w64};
-ghost use Rattle.known_names.specs.ShortKeys.{IsShort, first_number, key_by, short_key};
+ghost use Rattle.known_names.specs.ShortKeys.{IsShortText, first_number, key_by, short_key};
 
 use std::hash::{FoldHasher, Hasher};
 
@@ -22,7 +22,7 @@ impl ShortKey {
     #[inline(always)]
     pub(crate) fn of(text: &[u8]) -> Option<ShortKey>
         ensures key { IfSome result (λ key. key ≡ short_key text.now) }
-        ensures short { IfSome result (λ key. IsShort text.now) }
+        ensures short { IfSome result (λ key. IsShortText text.now) }
     {
         let len = text.len();
         if len == 0 || SHORT_BYTES < len {

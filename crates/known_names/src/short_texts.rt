@@ -5,7 +5,7 @@
 
 ghost use Rattle.std.specs.Prelude.{◌≡◌, ◌↔◌, ℕ, ◌<◌, List, length, Some, IfOk, IfSome, IsTrue};
 ghost use Rattle.known_names.specs.KnownTexts.{code_of_known};
-ghost use Rattle.known_names.specs.ShortKeys.{IsShort};
+ghost use Rattle.known_names.specs.ShortKeys.{IsShortText};
 ghost use Rattle.known_names.specs.Slots.{AreRight, IsRight, slot_key};
 
 use crate::short_keys::ShortKey;

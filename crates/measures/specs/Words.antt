@@ -97,10 +97,10 @@ done_of BrickCount = codes "rows counted in a brick"
 done_of BrickKeep = codes "rows of columns kept or left out"
 
 -- A text spells a number below 2 ^ 32 in decimal digits, or none.
-abbrev pub IsRead : List ℕ → Option ℕ → Type 0
-IsRead text (Some n) = IsNumeral 10 (without_leading_plus text)
+abbrev pub IsItemCount : List ℕ → Option ℕ → Type 0
+IsItemCount text (Some n) = IsNumeral 10 (without_leading_plus text)
     × (n ≡ digits_value 10 (without_leading_plus text)) × (n < 2 ^ 32)
-IsRead text None = IsNumeral 10 (without_leading_plus text) × (digits_value 10 (without_leading_plus text) < 2 ^ 32) → ⊥
+IsItemCount text None = IsNumeral 10 (without_leading_plus text) × (digits_value 10 (without_leading_plus text) < 2 ^ 32) → ⊥
 
 -- The request of a path and a number of items, where the path takes so many.
 abbrev pub request_of : Bool → Option HotPath → Option ℕ → Option Request
@@ -110,7 +110,7 @@ request_of timed path n = None
 
 -- What a name and a number ask for.
 abbrev pub Asks : Bool → List ℕ → List ℕ → Option Request → Type 0
-Asks timed name items request = (n : Option ℕ) × IsRead items n × (request ≡ request_of timed (path_of name) n)
+Asks timed name items request = (n : Option ℕ) × IsItemCount items n × (request ≡ request_of timed (path_of name) n)
 
 -- The same behind a flag, which is the one that is known, or not.
 abbrev pub AsksBehind : Bool → List ℕ → List ℕ → Option Request → Type 0

@@ -1,7 +1,7 @@
 //! What the words ask for.
 
 ghost use Rattle.std.specs.Prelude.{◌≡◌, map, string_bytes};
-ghost use Rattle.measures.specs.Words.{Asks, AsksFor, IsRead, done_of, most_of, path_of, request_of, row_path_of};
+ghost use Rattle.measures.specs.Words.{Asks, AsksFor, IsItemCount, done_of, most_of, path_of, request_of, row_path_of};
 
 /// A call whose time is measured.
 #[derive(Clone, Copy, Debug, PartialEq, Eq)]
@@ -205,7 +205,7 @@ fn asked(timed: bool, name: &str, items: &str) -> Option<Request>
 
 /// The number that a text spells in decimal digits, where it fits 32 bits.
 fn number_in(text: &str) -> Option<u32>
-    ensures { IsRead text.now result }
+    ensures { IsItemCount text.now result }
 {
     text.parse::<u32>().ok()
 }

@@ -1,7 +1,7 @@
 -- The rows of cubes by coordinates: those of now, and those that a rollback goes back to.
 -- Source: Cubrick (VLDB 2016), rows by coordinates; AOSI (ICDE 2018), rollback of a transaction; that they are a plain
 -- list is this project's own.
-use Rattle.std.specs.Prelude.{ℕ, ◌-◌, Bool, not, List, [], ◌++◌, length, map, filter, get_or}
+use Rattle.std.specs.Prelude.{ℕ, ◌-◌, Bool, not, List, [], ◌++◌, length, filter, get_or}
 use Rattle.cube_values.specs.declared.row.CodedRow.{CodedRow}
 use Rattle.cube_values.specs.declared.span.Span.{Span}
 use Rattle.cube_values.specs.Spans.{span_has}
@@ -23,10 +23,6 @@ no_rows dims width = record { before = []; now = []; dims = dims; width = width;
 -- Those of the cube at a place.
 abbrev pub rows_at : List HeldRows → ℕ → HeldRows
 rows_at cubes place = get_or cubes place (no_rows 0 0)
-
--- A span has a row.
-abbrev pub span_has_row : Span → CodedRow → Bool
-span_has_row span row = span_has span row.coords
 
 abbrev pub span_lacks_row : Span → CodedRow → Bool
 span_lacks_row span row = not (span_has span row.coords)

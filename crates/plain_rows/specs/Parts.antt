@@ -1,5 +1,5 @@
 -- The rows of a cube as its parts, and when they are whole.
-use Rattle.std.specs.Prelude.{◌≡◌, ℕ, ◌+◌, ◌^◌, ◌<◌, ◌≤◌, false, [], length}
+use Rattle.std.specs.Prelude.{◌≡◌, ◌+◌, ◌^◌, ◌<◌, ◌≤◌, false, [], length}
 use Rattle.plain_rows.specs.PartRows.{rows_of_parts}
 use Rattle.plain_rows.specs.HeldRows.{HeldRows}
 use Rattle.plain_rows.specs.declared.cube_rows.CubeRows.TheInside.{Inside}

@@ -3,7 +3,8 @@
 ghost use Rattle.std.specs.Prelude.{◌≡◌, ◌+◌, ◌≤◌, ◌++◌, ◌∷◌, [], length, filter, OnOk};
 ghost use Rattle.cube_values.specs.Queries.{IsSoundQuery};
 ghost use Rattle.agg_fold.specs.Standing.{Gains, HasRoom};
-ghost use Rattle.plain_rows.specs.HeldRows.{span_has_row, span_lacks_row};
+ghost use Rattle.plain_rows.specs.HeldRows.{span_lacks_row};
+ghost use Rattle.cube_values.specs.Spans.{span_has_row};
 
 use agg_fold::Partial;
 use cube_values::{BoundQuery, CodedRows, Span};

@@ -4,7 +4,8 @@ ghost use Rattle.std.specs.Prelude.{◌≡◌, ◌+◌, ◌≤◌, ◌<◌, ◌^
 ghost use Rattle.cube_values.specs.Queries.{IsSoundQuery};
 ghost use Rattle.agg_fold.specs.Standing.{Gains, HasRoom};
 ghost use Rattle.plain_rows.specs.PartRows.{rows_of_parts};
-ghost use Rattle.plain_rows.specs.HeldRows.{no_rows, span_has_row, span_lacks_row, with_more, without_span, with_rows_kept, with_rows_back};
+ghost use Rattle.plain_rows.specs.HeldRows.{no_rows, span_lacks_row, with_more, without_span, with_rows_kept, with_rows_back};
+ghost use Rattle.cube_values.specs.Spans.{span_has_row};
 
 use crate::batches::{fold_both, fold_rows, put_both_outside, put_rows, put_rows_outside};
 use agg_fold::Partial;

@@ -4,7 +4,8 @@ ghost use Rattle.std.specs.Prelude.{◌≡◌, ◌≤◌, ◌<◌, ◌^◌, ◌+
 ghost use Rattle.cube_language.specs.declared.decl.TheConstants.{MOST_CUBES};
 ghost use Rattle.cube_values.specs.Queries.{IsSoundQuery};
 ghost use Rattle.agg_fold.specs.Standing.{Gains, HasRoom};
-ghost use Rattle.plain_rows.specs.HeldRows.{no_rows, rows_at, span_has_row, with_more, without_span, with_rows_kept, with_rows_back};
+ghost use Rattle.plain_rows.specs.HeldRows.{no_rows, rows_at, with_more, without_span, with_rows_kept, with_rows_back};
+ghost use Rattle.cube_values.specs.Spans.{span_has_row};
 
 use crate::cube_rows::CubeRows;
 use agg_fold::Partial;

@@ -1,6 +1,6 @@
 -- The replies of sessions.
 -- Source: this project's own.
-use Rattle.std.specs.Prelude.{ℕ, ◌≤◌, List, length}
+use Rattle.std.specs.Prelude.{◌≤◌, List, length}
 use Rattle.std.specs.Global.{Vec}
 use Rattle.cube_language.specs.declared.piece.TheConstants.{MOST_STATEMENTS}
 use Rattle.cube_journal.specs.declared.reply.Reply.{Reply}

@@ -8,7 +8,8 @@ use Rattle.cube_values.specs.declared.entry.Entry.TheVariants.{Run, Mark}
 use Rattle.cube_values.specs.declared.row.CodedRow.{CodedRow}
 use Rattle.cube_values.specs.EpochsVector.{Leads, NeighboursApart, IsVector}
 use Rattle.cube_language.specs.declared.decl.Decl.{Decl}
-use Rattle.cube_rounds.specs.Bricks.{EntryRows, rows_between, entries_with_rows}
+use Rattle.cube_rounds.specs.Bricks.{EntryRows, entries_with_rows}
+use Rattle.cube_values.specs.Batches.{rows_between}
 use Rattle.cube_rounds.specs.Demands.{FitsRow, IsOfEpochs}
 use Rattle.round_reading.specs.Payload.{joins_last, EntriesAndRows, brick_content}
 use Rattle.round_reading.proofs.Sequences.{all_put, EachFits}

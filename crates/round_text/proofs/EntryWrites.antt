@@ -6,9 +6,9 @@ use Rattle.std.proofs.lemmas.List.{take_more, take_all, get_or-drop, append-nil,
 use Rattle.cube_values.specs.declared.entry.Entry.{Entry}
 use Rattle.cube_values.specs.declared.entry.Entry.TheVariants.{Run, Mark}
 use Rattle.cube_values.specs.declared.row.CodedRow.{CodedRow}
-use Rattle.cube_values.specs.Batches.{coded_row_at}
+use Rattle.cube_values.specs.Batches.{coded_row_at, rows_between}
 use Rattle.cube_values.specs.EpochsVector.{Leads}
-use Rattle.cube_rounds.specs.Bricks.{rows_between, entries_with_rows}
+use Rattle.cube_rounds.specs.Bricks.{entries_with_rows}
 use Rattle.cube_rounds.proofs.Leads.{leads_up}
 use Rattle.cube_rounds.specs.Bytes.{row_bytes, entry_rows_bytes, entries_bytes, eight_bytes}
 

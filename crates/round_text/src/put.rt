@@ -4,8 +4,8 @@ ghost use Rattle.std.specs.Prelude.{◌≡◌, ◌-◌, ◌^◌, ◌<◌, ◌≤
 ghost use Rattle.std.specs.List.{flat_map};
 ghost use Rattle.cube_values.specs.EpochsVector.{IsVector};
 ghost use Rattle.cube_values.specs.declared.entry.Entry.TheVariants.{Run, Mark};
-ghost use Rattle.cube_rounds.specs.Bricks.{rows_between, entries_with_rows};
-ghost use Rattle.cube_values.specs.Batches.{coded_row_at};
+ghost use Rattle.cube_rounds.specs.Bricks.{entries_with_rows};
+ghost use Rattle.cube_values.specs.Batches.{coded_row_at, rows_between};
 ghost use Rattle.cube_rounds.specs.Bytes.{four_bytes, eight_bytes, signed_bytes, counted_bytes, name_bytes, row_bytes, entry_rows_bytes, entries_bytes, brick_bytes};
 
 use cube_rounds::RoundBrick;

@@ -11,7 +11,8 @@ use Rattle.cube_language.specs.declared.statement.Statement.{Statement}
 use Rattle.agg_fold.specs.Standing.{StandsFor}
 use Rattle.agg_fold.specs.declared.groups.Groups.{Groups}
 use Rattle.condition_spans.specs.Codes.{lists_at}
-use Rattle.plain_rows.specs.HeldRows.{rows_at, span_has_row}
+use Rattle.plain_rows.specs.HeldRows.{rows_at}
+use Rattle.cube_values.specs.Spans.{span_has_row}
 use Rattle.query_plan.specs.Ties.{QueriesAnswerForValues, StandForValues, rows_taken}
 use Rattle.one_session.specs.Changes.{AllStandForValues}
 use Rattle.select_lines.specs.Selects.{AreFolded, AreSelectLines, HasSelect, IsBoundSelect}

@@ -1,12 +1,12 @@
 -- The files that a run reads before its sessions, when each is in order, and what is wrong with one that is not.
 -- Source: this project's own.
-use Rattle.std.specs.Prelude.{◌≡◌, ℕ, ◌≤◌, List, ◌∷◌, ◌++◌, Option, Some, None}
+use Rattle.std.specs.Prelude.{◌≡◌, ℕ, List, ◌∷◌, ◌++◌, Option, Some, None}
 use Rattle.std.specs.List.{AllByRecursion}
 use Rattle.cube_language.specs.declared.decl.Decl.{Decl}
 use Rattle.cube_language.specs.declared.piece.Piece.{Piece}
 use Rattle.cube_language.specs.CubesText.{Declares, HasCubesFault}
 use Rattle.cube_language.specs.Pieces.{IsScript, HasScriptFault}
-use Rattle.outside.specs.Given.{Given, IsWithin, missing, too_long, whole}
+use Rattle.outside.specs.Given.{Given, missing, too_long, whole}
 use Rattle.run_files.specs.declared.bad_file.BadFile.{BadFile}
 use Rattle.run_files.specs.declared.bad_file.BadFile.TheVariants.{Absent, ReadFailed, CubesTooLong, Cubes, ScriptTooLong, Script}
 use Rattle.run_files.specs.declared.reading.TheConstants.{CUBES_BYTES, SCRIPT_BYTES}

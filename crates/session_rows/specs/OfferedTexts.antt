@@ -1,6 +1,6 @@
 -- What a statement offers to the dictionaries of its cube.
 -- Source: Cubrick (VLDB 2016), dictionaries of dimensions; who offers a name is this project's own.
-use Rattle.std.specs.Prelude.{◌≡◌, ◌⊎◌, ℕ, ◌<◌, List, [], ◌∷◌, ◌++◌, length, map, Contains, None, Some, Result, Ok, slice_get, true}
+use Rattle.std.specs.Prelude.{◌≡◌, ◌⊎◌, ℕ, ◌<◌, List, ◌∷◌, ◌++◌, length, map, Contains, None, Some, Result, Ok, slice_get, true}
 use Rattle.cube_values.specs.declared.row.Row.{Row}
 use Rattle.cube_values.specs.declared.value.Value.TheVariants.{Text}
 use Rattle.cube_language.specs.ResolvedNames.{resolved_region}

@@ -11,7 +11,7 @@ use Rattle.cube_values.specs.declared.span.Span.{Span}
 use Rattle.brick_address.specs.Addresses.{brick_of}
 use Rattle.brick_map.specs.Births.{BrickContent, content_purged, content_with_rows, content_without, rows_of_brick}
 use Rattle.brick_store.specs.Deltas.{seen_apart}
-use Rattle.brick_store.specs.Rows.{span_has_row}
+use Rattle.cube_values.specs.Spans.{span_has_row}
 use Rattle.epochs_vector.specs.Seen.{seen_rows}
 use Rattle.epochs_vector.specs.Without.{staying_bits}
 use Rattle.purge_plan.specs.Purged.{spared_bits}

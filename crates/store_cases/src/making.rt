@@ -6,7 +6,7 @@ ghost use Rattle.cube_values.specs.Queries.{IsSoundItem, IsSoundQuery};
 ghost use Rattle.cube_values.specs.Shapes.{bricks_of, IsSoundShape, IsSoundSize};
 ghost use Rattle.cube_values.specs.Spans.{IsSoundPart, Rises};
 ghost use Rattle.brick_address.specs.Addresses.{AreCoords, LieIn};
-ghost use Rattle.brick_columns.specs.Rows.{rows_between};
+ghost use Rattle.cube_values.specs.Batches.{rows_between};
 ghost use Rattle.brick_store.specs.Bricks.{IsRowOf};
 
 use agg_fold::Partial;

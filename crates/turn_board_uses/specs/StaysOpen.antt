@@ -1,12 +1,11 @@
 -- The law of doors: a door that caller 0 has not closed is as it was at first.
 use Rattle.std.specs.Prelude.{◌≡◌, ℕ, eqb, cond, Bool, true, false, List, [], ◌∷◌, ◌++◌}
-use Rattle.std.proofs.Common.{sym, refl, ap, ◌∙◌, subst, eq-eqb}
+use Rattle.std.proofs.Common.{sym, refl, ◌∙◌, subst, eq-eqb}
 use mathlib.Core.Option.{some, some-injective}
-use lib.ListN.{get_elem?}
 use Rattle.turn_board.specs.declared.history.Event.{Event}
 use Rattle.turn_board.specs.History.{of_cell, of_caller, LeadsTo, AllFitAfter, IsSafe}
 use Rattle.turn_board_uses.specs.declared.doors.Door.{Door}
-use Rattle.turn_board_uses.specs.declared.doors.Door.TheVariants.{Open, Closed}
+use Rattle.turn_board_uses.specs.declared.doors.Door.TheVariants.{Open}
 use Rattle.turn_board_uses.specs.declared.doors.Push.{Push}
 use Rattle.turn_board_uses.specs.declared.doors.Push.TheVariants.{Close, Try}
 use Rattle.turn_board_uses.specs.Closing.{CanTake, Moves, Spares, AllSpare, FitsDoor}

@@ -5,7 +5,7 @@ use Rattle.std.proofs.lemmas.Bool.Decides.{nat_tests}
 use Rattle.cube_values.specs.declared.row.CodedRow.{CodedRow}
 use Rattle.cube_values.specs.declared.snapshot.Snapshot.{Snapshot}
 use Rattle.cube_values.specs.Sees.{sees}
-use Rattle.brick_store.specs.Rows.{span_has_row}
+use Rattle.cube_values.specs.Spans.{span_has_row}
 use Rattle.brick_map.specs.Births.{BrickContent}
 use Rattle.brick_map.specs.Copied.{round_part_with}
 use Rattle.core_events.specs.ShardView.{BrickEntry, RowRun, RowMark, EpochSet, ShowAlike, entries_of_round, epochs_before_mark, is_below_mark, is_within_round, rows_shown_to, rows_where}

@@ -1,8 +1,7 @@
 use Rattle.std.proofs.Common.{◌≡◌, refl, sym, subst, All, arith}
 use Rattle.cube_values.specs.declared.row.CodedRow.{CodedRow}
-use Rattle.cube_values.specs.Batches.{coded_row_at}
+use Rattle.cube_values.specs.Batches.{coded_row_at, rows_between}
 use Rattle.brick_address.specs.Addresses.{brick_of}
-use Rattle.brick_columns.specs.Rows.{rows_between}
 use Rattle.brick_map.proofs.BatchRuns.{between_first, between_next}
 use Rattle.brick_map.proofs.runs.run_from.Goals as goal
 

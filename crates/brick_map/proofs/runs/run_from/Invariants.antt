@@ -1,6 +1,6 @@
 use Rattle.std.proofs.Common.{◌≡◌, ◌<◌, ◌≤◌, All}
 use Rattle.brick_address.specs.Addresses.{brick_of}
-use Rattle.brick_columns.specs.Rows.{rows_between}
+use Rattle.cube_values.specs.Batches.{rows_between}
 use Rattle.brick_map.proofs.runs.run_from.Given as goal
 
 abbrev pub invariant-rows : goal.invariant-rows

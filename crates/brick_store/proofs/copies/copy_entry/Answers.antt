@@ -3,7 +3,7 @@ use Rattle.std.proofs.lemmas.List.{length-append, length-map}
 use Rattle.cube_values.specs.declared.entry.Entry.{Entry}
 use Rattle.cube_values.specs.declared.entry.Entry.TheVariants.{Run, Mark}
 use Rattle.cube_values.specs.EpochsVector.{IsVector, Leads, rows_after, rows_of, vector_with_entry}
-use Rattle.cube_rounds.specs.Bricks.{rows_between}
+use Rattle.cube_values.specs.Batches.{rows_between}
 use Rattle.epochs_vector.proofs.Ends.{vector_more, vector_rows}
 use Rattle.brick_store.specs.Whole.{row_with_coords}
 use Rattle.brick_store.proofs.RoundParts.{long_between}

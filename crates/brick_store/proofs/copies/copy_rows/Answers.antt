@@ -1,8 +1,7 @@
 use Rattle.std.proofs.Common.{◌++◌, ◌∷◌, [], length, map, ap, sym, append_assoc, ◌∙◌, arith}
 use Rattle.std.proofs.lemmas.List.{length-map, length-append}
 use Rattle.cube_values.specs.declared.row.CodedRow.{CodedRow}
-use Rattle.cube_values.specs.Batches.{Batch}
-use Rattle.cube_rounds.specs.Bricks.{rows_between}
+use Rattle.cube_values.specs.Batches.{Batch, rows_between}
 use Rattle.brick_columns.specs.Rows.{row_at}
 use Rattle.brick_columns.proofs.Batches.{between_more}
 use Rattle.brick_store.specs.Whole.{row_with_coords}

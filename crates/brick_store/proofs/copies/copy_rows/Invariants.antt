@@ -1,5 +1,5 @@
 use Rattle.std.proofs.Common.{◌≡◌, ◌+◌, ◌-◌, ◌≤◌, ◌++◌, length, map, vec_len}
-use Rattle.cube_rounds.specs.Bricks.{rows_between}
+use Rattle.cube_values.specs.Batches.{rows_between}
 use Rattle.brick_store.specs.Whole.{row_with_coords}
 use Rattle.brick_store.proofs.copies.copy_rows.Given as goal
 

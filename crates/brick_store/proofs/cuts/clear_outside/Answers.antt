@@ -2,10 +2,9 @@ use Rattle.std.proofs.Common.{◌≡◌, ◌+◌, ◌<◌, ◌&&◌, false, List
 use Rattle.std.proofs.lemmas.List.{take_all, length-map}
 use Rattle.std.proofs.lemmas.List.Elements.{All-get_or, length_all_zip}
 use Rattle.cube_values.specs.declared.row.CodedRow.{CodedRow}
-use Rattle.cube_values.specs.Spans.{part_has, parts_have}
+use Rattle.cube_values.specs.Spans.{part_has, parts_have, span_has_row}
 use Rattle.brick_columns.specs.Rows.{BrickRow, IsBrickRow, row_at}
 use Rattle.brick_store.specs.Cuts.{part_has_row}
-use Rattle.brick_store.specs.Rows.{span_has_row}
 use Rattle.brick_store.specs.Whole.{coords_at_offsets, row_with_coords}
 use Rattle.brick_store.proofs.Coordinates.{coords_long, coord_here}
 use Rattle.brick_store.proofs.Folds.{row_there}

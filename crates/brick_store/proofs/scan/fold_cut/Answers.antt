@@ -3,7 +3,7 @@ use Rattle.std.specs.List.{items_where_true}
 use Rattle.std.proofs.lemmas.List.Elements.{filter_passes}
 use Rattle.cube_values.specs.declared.row.CodedRow.{CodedRow}
 use Rattle.agg_fold.specs.Standing.{Gains}
-use Rattle.brick_store.specs.Rows.{span_has_row}
+use Rattle.cube_values.specs.Spans.{span_has_row}
 use Rattle.brick_store.specs.Whole.{row_with_coords}
 use Rattle.brick_store.proofs.scan.fold_cut.Goals as goal
 

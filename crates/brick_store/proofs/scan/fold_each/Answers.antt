@@ -2,7 +2,7 @@ use Rattle.std.proofs.Common.{IsTrue, [], length, map, take, sym, subst, ◌∙�
 use Rattle.std.specs.List.{items_where_true}
 use Rattle.std.proofs.lemmas.List.{length-map, take_all}
 use Rattle.cube_values.specs.declared.row.CodedRow.{CodedRow}
-use Rattle.brick_store.specs.Rows.{span_has_row}
+use Rattle.cube_values.specs.Spans.{span_has_row}
 use Rattle.brick_store.specs.Whole.{row_with_coords}
 use Rattle.brick_store.proofs.Folds.{gains_none, gains_same, gains_row, row_there, chosen_has, chosen_short, room_after}
 use Rattle.brick_store.proofs.scan.fold_each.Goals as goal

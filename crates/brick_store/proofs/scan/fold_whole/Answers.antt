@@ -4,7 +4,7 @@ use Rattle.cube_values.specs.declared.row.CodedRow.{CodedRow}
 use Rattle.agg_fold.specs.Standing.{Gains}
 use Rattle.agg_fold.proofs.Permuted.{filter_all}
 use Rattle.brick_columns.proofs.KeptItems.{kept_all}
-use Rattle.brick_store.specs.Rows.{span_has_row}
+use Rattle.cube_values.specs.Spans.{span_has_row}
 use Rattle.brick_store.specs.Whole.{row_with_coords}
 use Rattle.brick_store.proofs.scan.fold_whole.Goals as goal
 

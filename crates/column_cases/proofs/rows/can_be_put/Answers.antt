@@ -2,9 +2,9 @@ use Rattle.std.proofs.Common.{◌<◌, ◌≤◌, All, IsTrue, [], length, ap, �
 use Rattle.std.specs.List.{AllZip}
 use Rattle.std.proofs.lemmas.List.Elements.{All-push}
 use Rattle.cube_values.specs.declared.row.CodedRow.{CodedRow}
-use Rattle.cube_values.specs.Batches.{coded_row_at}
+use Rattle.cube_values.specs.Batches.{coded_row_at, rows_between}
 use Rattle.packed_words.specs.Rows.{differences}
-use Rattle.brick_columns.specs.Rows.{LiesFrom, rows_between}
+use Rattle.brick_columns.specs.Rows.{LiesFrom}
 use Rattle.brick_columns.proofs.Batches.{between_more}
 use Rattle.column_cases.proofs.rows.can_be_put.Goals as goal
 

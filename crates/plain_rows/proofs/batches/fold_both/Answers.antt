@@ -1,7 +1,7 @@
 use Rattle.std.proofs.Common.{◌++◌, length, filter, sym, arith}
 use Rattle.std.proofs.lemmas.List.{length-append}
 use Rattle.std.proofs.lemmas.List.Elements.{filter-append}
-use Rattle.plain_rows.specs.HeldRows.{span_has_row}
+use Rattle.cube_values.specs.Spans.{span_has_row}
 use Rattle.plain_rows.proofs.Gained.{gains_more, gains_same, room_after, room_within}
 use Rattle.plain_rows.proofs.Taken.{filter_short}
 use Rattle.plain_rows.proofs.batches.fold_both.Goals as goal

@@ -2,7 +2,7 @@ use Rattle.std.proofs.Common.{◌+◌, ◌++◌, [], ◌∷◌, ◌≡◌, get_o
 use Rattle.std.proofs.lemmas.List.{take_all, take_more}
 use Rattle.std.proofs.lemmas.List.Elements.{filter-append}
 use Rattle.cube_values.specs.declared.row.CodedRow.{CodedRow}
-use Rattle.plain_rows.specs.HeldRows.{span_has_row}
+use Rattle.cube_values.specs.Spans.{span_has_row}
 use Rattle.plain_rows.proofs.Gained.{gains_none, gains_more, gains_same, room_after}
 use Rattle.plain_rows.proofs.Taken.{filter_taken_short}
 use Rattle.plain_rows.proofs.batches.fold_rows.Goals as goal

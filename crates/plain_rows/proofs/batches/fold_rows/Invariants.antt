@@ -1,6 +1,6 @@
 use Rattle.std.proofs.Common.{filter, take}
 use Rattle.agg_fold.specs.Standing.{Gains}
-use Rattle.plain_rows.specs.HeldRows.{span_has_row}
+use Rattle.cube_values.specs.Spans.{span_has_row}
 use Rattle.plain_rows.proofs.batches.fold_rows.Given as goal
 
 abbrev pub invariant-row : goal.invariant-row

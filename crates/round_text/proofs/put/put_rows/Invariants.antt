@@ -1,6 +1,6 @@
 use Rattle.std.proofs.Common.{◌≡◌, ◌++◌}
 use Rattle.std.specs.List.{flat_map}
-use Rattle.cube_rounds.specs.Bricks.{rows_between}
+use Rattle.cube_values.specs.Batches.{rows_between}
 use Rattle.cube_rounds.specs.Bytes.{row_bytes}
 use Rattle.round_text.proofs.put.put_rows.Given as goal
 

@@ -1,9 +1,8 @@
 use Rattle.std.proofs.Common.{All, IsTrue, length, [], ap, ◌∙◌, subst, sym, rules, arith}
 use Rattle.std.proofs.lemmas.List.Elements.{All-push}
 use Rattle.cube_values.specs.declared.row.CodedRow.{CodedRow}
-use Rattle.cube_values.specs.Batches.{coded_row_at}
+use Rattle.cube_values.specs.Batches.{coded_row_at, rows_between}
 use Rattle.brick_address.specs.Addresses.{LieIn}
-use Rattle.brick_columns.specs.Rows.{rows_between}
 use Rattle.brick_columns.proofs.Batches.{between_more}
 use Rattle.brick_store.specs.Bricks.{IsRowOf}
 use Rattle.store_cases.proofs.making.are_rows_of.Goals as goal

@@ -1,5 +1,5 @@
 use Rattle.std.proofs.Common.{All}
-use Rattle.brick_columns.specs.Rows.{rows_between}
+use Rattle.cube_values.specs.Batches.{rows_between}
 use Rattle.brick_store.specs.Bricks.{IsRowOf}
 use Rattle.store_cases.proofs.making.are_rows_of.Given as goal
 

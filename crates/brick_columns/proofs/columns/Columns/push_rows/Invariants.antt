@@ -1,5 +1,6 @@
 use Rattle.std.proofs.Common.{◌≡◌, ◌+◌, ◌-◌, ◌++◌, map}
-use Rattle.brick_columns.specs.Rows.{offset_row, rows_between}
+use Rattle.brick_columns.specs.Rows.{offset_row}
+use Rattle.cube_values.specs.Batches.{rows_between}
 use Rattle.brick_columns.proofs.columns.Columns.push_rows.Given as goal
 
 abbrev pub invariant-rows : goal.invariant-rows

@@ -1,7 +1,7 @@
 use Rattle.std.proofs.Common.{ℕ, ◌+◌, ◌-◌, ◌++◌, length, ap, sym, ◌∙◌, arith, set}
 use Rattle.cube_values.specs.declared.entry.Entry.TheVariants.{Run}
 use Rattle.cube_values.specs.EpochsVector.{vector_with_entry}
-use Rattle.brick_columns.specs.Rows.{rows_between}
+use Rattle.cube_values.specs.Batches.{rows_between}
 use Rattle.brick_store.specs.Bricks.{BrickState}
 use Rattle.brick_map.specs.Lists.{brick_with_rows, bricks_with}
 use Rattle.brick_map.proofs.Lists.{absent, numbers_set}

@@ -2,7 +2,7 @@ use Rattle.std.proofs.Common.{All, IsTrue, [], sym, subst}
 use Rattle.agg_fold.specs.Standing.{Gains}
 use Rattle.brick_store.specs.Bricks.{BrickState}
 use Rattle.brick_store.specs.Deltas.{rows_apart, seen_apart}
-use Rattle.brick_store.specs.Rows.{span_has_row}
+use Rattle.cube_values.specs.Spans.{span_has_row}
 use Rattle.brick_store.specs.Whole.{contract_view, home_in}
 use Rattle.brick_store.proofs.Covered.{all_inside, none_shown}
 use Rattle.brick_store.proofs.Folds.{gains_none, gains_same}

@@ -3,7 +3,8 @@ use Rattle.std.proofs.lemmas.List.{length-append, length-map}
 use Rattle.cube_values.specs.EpochsVector.{rows_of, vector_with_entry}
 use Rattle.cube_values.specs.declared.entry.Entry.TheVariants.{Run}
 use Rattle.epochs_vector.proofs.Ends.{vector_more}
-use Rattle.brick_columns.specs.Rows.{offset_row, rows_between}
+use Rattle.brick_columns.specs.Rows.{offset_row}
+use Rattle.cube_values.specs.Batches.{rows_between}
 use Rattle.brick_columns.proofs.Batches.{between_long}
 use Rattle.brick_store.specs.Bricks.{BrickState, IsRowOf}
 use Rattle.brick_store.specs.Whole.{contract_view, row_with_coords}

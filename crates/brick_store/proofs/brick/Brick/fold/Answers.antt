@@ -3,7 +3,8 @@ use Rattle.cube_values.specs.declared.row.CodedRow.{CodedRow}
 use Rattle.cube_values.specs.Queries.{IsSoundQuery}
 use Rattle.agg_fold.specs.Standing.{Gains, HasRoom}
 use Rattle.brick_store.specs.Bricks.{BrickState}
-use Rattle.brick_store.specs.Rows.{rows_shown, span_has_row}
+use Rattle.brick_store.specs.Rows.{rows_shown}
+use Rattle.cube_values.specs.Spans.{span_has_row}
 use Rattle.brick_store.proofs.Changes.{rows_known, seen_length}
 use Rattle.brick_store.proofs.Readable.{dims_known, rows_readable}
 use Rattle.brick_store.proofs.brick.Brick.fold.Goals as goal

@@ -3,7 +3,7 @@ use Rattle.cube_values.specs.declared.row.CodedRow.{CodedRow}
 use Rattle.cube_values.specs.Queries.{IsSoundQuery}
 use Rattle.agg_fold.specs.Standing.{Gains, HasRoom}
 use Rattle.brick_store.specs.Bricks.{BrickState}
-use Rattle.brick_store.specs.Rows.{span_has_row}
+use Rattle.cube_values.specs.Spans.{span_has_row}
 use Rattle.brick_store.specs.Deltas.{rows_apart}
 use Rattle.brick_store.proofs.Changes.{rows_known, seen_length}
 use Rattle.brick_store.proofs.Readable.{dims_known, rows_readable}

@@ -2,7 +2,8 @@ use Rattle.std.proofs.Common.{All, IsTrue, [], sym, subst}
 use Rattle.agg_fold.specs.Standing.{Gains}
 use Rattle.epochs_vector.specs.Seen.{seen_rows}
 use Rattle.brick_store.specs.Bricks.{BrickState}
-use Rattle.brick_store.specs.Rows.{rows_shown, span_has_row}
+use Rattle.brick_store.specs.Rows.{rows_shown}
+use Rattle.cube_values.specs.Spans.{span_has_row}
 use Rattle.brick_store.specs.Whole.{contract_view, home_in}
 use Rattle.brick_store.proofs.Covered.{all_inside, none_shown}
 use Rattle.brick_store.proofs.Folds.{gains_none, gains_same}
