@@ -6,7 +6,7 @@ use Rattle.cube_rounds.specs.Demands.{DimNames}
 use Rattle.round_fields.specs.declared.fault.FormatFault.{FormatFault}
 use Rattle.round_fields.specs.declared.fault.FormatFault.TheVariants.{BadText}
 use Rattle.round_fields.specs.Digests.{where_digest_is}
-use Rattle.round_fields.specs.Reading.{ReadOf, eight_from}
+use Rattle.round_fields.specs.Reading.{◌>>=◌, ReadOf, eight_from}
 use Rattle.round_reading.specs.declared.front.RoundFront.{RoundFront}
 use Rattle.round_reading.specs.Payload.{PayloadContent, payload_from}
 
