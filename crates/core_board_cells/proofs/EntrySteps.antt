@@ -35,9 +35,10 @@ use Rattle.core_links.proofs.DeskLinks as desk
 use Rattle.core_links.proofs.MailLinks as mail
 use Rattle.core_links.proofs.NamesLinks as names
 use Rattle.core_board.specs.Links.{IsCallLinked}
-use Rattle.core_board_cells.specs.BoardCells.{client_of, call_job, job_asked, AnswerSays, cell_of_shard, cell_of_mail, IsShardLinked, FitsBoardEntry, IsEntryEvent, StandsInCell, IsByItself, IsClientCaller, IsRoundsOwn}
+use Rattle.core_board_cells.specs.BoardCells.{client_of, call_job, job_asked, PostSuits, AnswerSays, cell_of_shard, cell_of_mail, IsShardLinked, FitsBoardEntry, IsEntryEvent, StandsInCell, IsByItself, IsClientCaller, IsRoundsOwn}
 use Rattle.core_board_cells.proofs.OwnEntries.{flusher-caller}
 use Rattle.core_board_cells.proofs.JobsInRuns.{call-in-run, lse-goes-on}
+use Rattle.core_board_cells.proofs.WaitingJobs.{waiting-suit}
 use Rattle.core_board_cells.proofs.OffCells.{IsOffOthers, desk-off, names-off, mail-off}
 
 -- Who opens or closes a round is the flusher.
@@ -108,7 +109,7 @@ module _ {S : Type 0} (can_shard : S → ShardCall → Type 0) (step_shard : S �
         (lse-goes-on o event es run) (l.left_view stand.0 (λ e. other (e ∙ sym stand.1))) stand.3,
   )
   all-others o k event es run l i (cell.Mail m) other stand =
-      (stand.0, stand.1, l.left_mails stand.0 (λ e. other (e ∙ sym stand.1)) m stand.2)
+      (stand.0, stand.1, l.left_mails stand.0 (λ e. other (e ∙ sym stand.1)) m stand.2, stand.3)
 
   desk-leaves : (o : Opening) (k a : ℕ) (c : DeskCall) (x : DeskAnswer) (es : List CoreEvent) → k ≡ 0
       → Leaves o k (By a (desk_event a (client_state o a es) c x)) es
@@ -206,11 +207,14 @@ module _ {S : Type 0} (can_shard : S → ShardCall → Type 0) (step_shard : S �
       let next =
       mail.steps job_asked (AnswerSays says) o stand.0 c a es m new run
       (coe 0 1 (i. FitsMailCall job_asked (AnswerSays says) o es (same i) c) may.fits_mail) stand.2 step
+      in
+      let jobs =
+      waiting-suit fits o stand.0 c a m new step (coe 0 1 (i. PostSuits fits o (same i) c) may.suits) stand.3
       in record {
         next = next.event;
-        is = (stand.0, stand.1, coe 0 1 (i. IsByItself o caller (same i) c) may.own, next.of);
+        is = (stand.0, stand.1, coe 0 1 (i. IsByItself o caller (same i) c) may.own, next.of, jobs.1);
         run = next.run;
-        own = (stand.0, stand.1, next.stands);
+        own = (stand.0, stand.1, next.stands, jobs.0);
         others = λ i z other is. all-others o k next.event es next.run
             (mail-leaves o k stand.0 next.event es stand.1
             (mail-off job_asked (AnswerSays says) o stand.0 es c a next.event next.of)) i z other is;

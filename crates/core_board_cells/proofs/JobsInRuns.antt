@@ -1,12 +1,10 @@
 -- The job that a worker does on its shard fits LSE.
-use Rattle.std.proofs.Common.{◌≡◌, ◌∙◌, ℕ, ◌≤◌, List, ◌∷◌, inl, inr, refl, sym, ap, arith}
-use Rattle.cube_values.specs.declared.query.BoundQuery.{BoundQuery}
+use Rattle.std.proofs.Common.{◌≡◌, ◌∙◌, ℕ, ◌≤◌, List, ◌∷◌, sym, arith}
 use Rattle.cube_values.specs.declared.snapshot.Snapshot.{Snapshot}
 use Rattle.core_events.specs.Cells.{counters_of_run, shard_view_of}
 use Rattle.core_events.specs.Clients.{client_state, reader_up_to}
 use Rattle.core_events.specs.Events.{Opening, Work, CoreEvent, By, At}
 use Rattle.core_events.specs.Fitting.{FitsMove}
-use Rattle.core_events.specs.Groups.{kind_of}
 use Rattle.core_events.specs.Jobs.{CoreJob, Append, DropBox, Scan, Delta, Rollback, Purge, CopyRound, Flush, JobOutcome, Done}
 use Rattle.core_events.specs.Runs.{IsCoreRun}
 use Rattle.cube_core.specs.declared.shard.ShardCall.{ShardCall}

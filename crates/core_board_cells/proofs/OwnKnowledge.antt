@@ -95,7 +95,7 @@ module _ {S : Type 0} (fits : Opening → ℕ → ShardCall → Type 0) (stands 
   event-same o b k es fs (call.Names c) (answer.Names x) event calls serves is = is
   event-same o b k es fs (call.Shard c) (answer.Shard x) event calls serves is = is
   event-same o b k es fs (call.Mail c) (answer.Mail x) event calls serves is =
-      (is.0, is.1, is.2, mail-same o b is.0 es fs c x event calls serves is.2 is.3)
+      (is.0, is.1, is.2, mail-same o b is.0 es fs c x event calls serves is.2 is.3, is.4)
   event-same o b k es fs c x event calls serves is = absurd is
 
   -- A session or main, a shard's worker, and the flusher.

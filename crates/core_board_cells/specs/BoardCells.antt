@@ -2,6 +2,10 @@
 -- what events have made of it. What shards ask, answer and become is a parameter.
 -- Source: this project's own.
 use Rattle.std.specs.Prelude.{◌≡◌, ℕ, ◌+◌, ◌%◌, ◌<◌, ◌≤◌, ◌==◌, true, List, if◌then◌else◌, ◌⊎◌, nat_le}
+use Rattle.std.specs.List.{AllByRecursion}
+use Rattle.mail_cell.specs.declared.answer.Taken.{Taken}
+use Rattle.mail_cell.specs.declared.answer.Taken.TheVariants.{Job as SomeJob}
+use Rattle.mail_cell.specs.declared.place.Post.{Post}
 use Rattle.cube_values.specs.declared.snapshot.Snapshot.{Snapshot}
 use Rattle.cube_values.specs.Sees.{sees}
 use Rattle.cube_core.specs.declared.cell.CoreAnswer.{CoreAnswer}
@@ -21,6 +25,8 @@ use Rattle.cube_core.specs.declared.shard.ShardCall.{ShardCall}
 use Rattle.cube_core.specs.declared.shard.ShardCall.TheVariants as shard
 use Rattle.core_cells.specs.declared.desk.DeskCall.{DeskCall}
 use Rattle.core_cells.specs.declared.desk.DeskCall.TheVariants as desk
+use Rattle.core_cells.specs.declared.mail.MailAnswer.{MailAnswer}
+use Rattle.core_cells.specs.declared.mail.MailAnswer.TheVariants as got
 use Rattle.core_cells.specs.declared.mail.MailCall.{MailCall}
 use Rattle.core_cells.specs.declared.mail.MailCall.TheVariants as mail
 use Rattle.turn_board.specs.declared.history.Event.{Event}
@@ -83,6 +89,31 @@ work_job (work.Shard c) = call_job c
 
 abbrev pub job_asked : Job → CoreJob
 job_asked job = work_job job.work
+
+module _ (fits : Opening → ℕ → ShardCall → Type 0) (o : Opening) (number : ℕ) where
+  -- What a job asks for suits the server of a mail: a round that of the flusher's, and a call that of a shard's which it
+  -- fits.
+  abbrev pub WorkSuits : JobWork → Type 0
+  WorkSuits work.Flush = number ≡ flush_mail o
+  WorkSuits (work.Shard c) = (number < o.shards) × fits o number c
+
+  -- So does a job that is posted.
+  abbrev pub PostSuits : MailCall Job JobAnswer → Type 0
+  PostSuits (mail.Post client job) = WorkSuits job.work
+  PostSuits c = Unit {0}
+
+  -- So do all that wait.
+  abbrev pub JobsSuit : List (Post Job) → Type 0
+  JobsSuit posted = AllByRecursion (λ p. WorkSuits p.job.work) posted
+
+  -- So does one that is taken.
+  abbrev pub TakenSuits : Taken Job → Type 0
+  TakenSuits (SomeJob client job) = WorkSuits job.work
+  TakenSuits answer = Unit {0}
+
+  abbrev pub TakeSuits : MailAnswer Job JobAnswer → Type 0
+  TakeSuits (got.Taken answer) = TakenSuits answer
+  TakeSuits a = Unit {0}
 
 module _ (says : CoreJob → ShardAnswer → JobOutcome → Type 0) where
   -- The outcomes for which an answer to a job stands.
@@ -173,6 +204,7 @@ module _ {S : Type 0} (fits : Opening → ℕ → ShardCall → Type 0) (stands 
     pub cell : k ≡ cell_of_mail o number
     pub there : number ≤ o.shards
     pub own : IsByItself o caller number c
+    pub suits : PostSuits fits o number c
     pub fits_mail : FitsMailCall job_asked (AnswerSays says) o es number c
 
   -- A call by a caller on a cell fits.
@@ -205,7 +237,7 @@ module _ {S : Type 0} (fits : Opening → ℕ → ShardCall → Type 0) (stands 
   IsEventOf o es caller k (call.Shard c) (answer.Shard a) event = IsWorkEvent o caller k c a event
   IsEventOf o es caller k (call.Mail c) (answer.Mail a) event =
       (number : ℕ) × (k ≡ cell_of_mail o number) × IsByItself o caller number c
-      × IsMailEvent job_asked (AnswerSays says) es number c a event
+      × IsMailEvent job_asked (AnswerSays says) es number c a event × TakeSuits fits o number a
   IsEventOf o es caller k c a event = ⊥
 
   abbrev pub IsEntryEvent : Opening → List CoreEvent → Event CoreCall CoreAnswer → CoreEvent → Type 0
@@ -220,3 +252,4 @@ module _ {S : Type 0} (fits : Opening → ℕ → ShardCall → Type 0) (stands 
       × stands o number (counters_of_run o es).lse s (shard_view_of o es)
   StandsInCell o k (cell.Mail m) es =
       (number : ℕ) × (k ≡ cell_of_mail o number) × IsMailCellOf job_asked (AnswerSays says) o number es m
+      × JobsSuit fits o number m.posted
