@@ -2,5 +2,7 @@
 #![tactic(auto)]
 
 mod cells;
+mod size;
 
 pub use cells::CoreCells;
+pub use size::CoreSize;
