@@ -1,0 +1,9 @@
+pub mod Alls
+pub mod Chains
+pub mod Fitting
+pub mod Joined
+pub mod Marks
+pub mod Places
+pub mod Putting
+pub mod Runs
+pub mod OwnRows

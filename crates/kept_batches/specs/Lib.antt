@@ -1,0 +1,4 @@
+pub mod RoundsFit
+pub mod KeptBatches
+pub mod Unhidden
+pub mod StoredRounds

@@ -1,0 +1,10 @@
+pub mod ApartNames
+pub mod ZippedLists
+pub mod NamedDicts
+pub mod NamedCubes
+pub mod FoundNames
+pub mod SoundCubes
+pub mod PartsLie
+pub mod SoundRounds
+pub mod JoinedEntries
+pub mod SoundBricks
