@@ -1,0 +1,2 @@
+pub mod KeptShards
+pub mod Openings
