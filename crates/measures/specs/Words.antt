@@ -2,10 +2,18 @@
 use Rattle.std.specs.Prelude.{◌≡◌, ℕ, ◌<◌, ◌^◌, Bool, true, false, ◌&&◌, nat_le, List, [], ◌∷◌, Option, Some, None, bytes_eq, codes, if◌then◌else◌}
 use Rattle.std.specs.Str.Parse.{IsNumeral, digits_value, without_leading_plus}
 use Rattle.measures.specs.declared.request.HotPath.{HotPath}
-use Rattle.measures.specs.declared.request.HotPath.TheVariants.{Split, Encode, Lookup, Known, Visible, Plan, Fold, Mail, Desk, Lock, Call, Cells, Records, LoadStep, Digest, RoundWrite, RoundRead, StoreRead, StoreOpen, Copy, BrickAppend, Sum, BrickScan, BrickCount, BrickKeep}
+use Rattle.measures.specs.declared.request.HotPath.TheVariants.{Split, Encode, Lookup, Known, Visible, Plan, Fold, Mail, Desk, Lock, Call, Cells, Records, LoadStep, Digest, RoundWrite, RoundRead, StoreRead, StoreOpen, Copy, BrickAppend, Sum, BrickScan, BrickCount, BrickKeep, ShardAppend, ShardScan, ShardBricks}
 use Rattle.measures.specs.declared.request.Request.{Request}
 
--- The path of a name among those over rounds and bricks.
+-- The path of a name among those over shards.
+abbrev pub shard_path_of : List ℕ → Option HotPath
+shard_path_of word =
+    if bytes_eq word (codes "shard_append") then Some ShardAppend
+    else if bytes_eq word (codes "shard_scan") then Some ShardScan
+    else if bytes_eq word (codes "shard_bricks") then Some ShardBricks
+    else None
+
+-- The path of a name among those over rounds, bricks and shards.
 abbrev pub row_path_of : List ℕ → Option HotPath
 row_path_of word =
     if bytes_eq word (codes "digest") then Some Digest
@@ -19,7 +27,7 @@ row_path_of word =
     else if bytes_eq word (codes "brick_scan") then Some BrickScan
     else if bytes_eq word (codes "brick_count") then Some BrickCount
     else if bytes_eq word (codes "brick_keep") then Some BrickKeep
-    else None
+    else shard_path_of word
 
 -- The path of a name.
 abbrev pub path_of : List ℕ → Option HotPath
@@ -67,6 +75,9 @@ most_of Sum = 1_000_000_000
 most_of BrickScan = 1_000_000_000
 most_of BrickCount = 1_000_000_000
 most_of BrickKeep = 1_000_000_000
+most_of ShardAppend = 1_000_000_000
+most_of ShardScan = 1_000_000_000
+most_of ShardBricks = 1_000_000
 
 -- What a path does with its items.
 abbrev pub done_of : HotPath → List ℕ
@@ -95,6 +106,9 @@ done_of Sum = codes "numbers summed"
 done_of BrickScan = codes "rows summed and counted in a brick"
 done_of BrickCount = codes "rows counted in a brick"
 done_of BrickKeep = codes "rows of columns kept or left out"
+done_of ShardAppend = codes "rows appended to a shard"
+done_of ShardScan = codes "rows summed and counted in a shard"
+done_of ShardBricks = codes "bricks of a shard summed and counted"
 
 -- A text spells a number below 2 ^ 32 in decimal digits, or none.
 abbrev pub IsItemCount : List ℕ → Option ℕ → Type 0

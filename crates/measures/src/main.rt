@@ -23,6 +23,7 @@ use measured_rows::{
     Copies, Count, Digest, Fold, Keep, ReadRound, Scan, Sum, measure_append, measure_store_open,
     measure_store_read, measure_write,
 };
+use measured_shards::{ShardBricks, ShardScan, measure_shard_append};
 use names::{Encode, Lookup};
 use request::{HotPath, Request, asked_for};
 use scripts::Split;
@@ -41,7 +42,8 @@ mod tests;
 
 const USAGE: &str = "usage: measures [--time] \
     split|encode|lookup|known|visible|plan|fold|mail|desk|lock|call|cells|records|load_step|\
-    digest|round_write|round_read|store_read|store_open|copy|brick_append|sum|brick_scan|brick_count|brick_keep N";
+    digest|round_write|round_read|store_read|store_open|copy|brick_append|sum|brick_scan|brick_count|brick_keep|\
+    shard_append|shard_scan|shard_bricks N";
 
 /// The words after the program's name, and none where a word is not UTF-8. The error is want of memory.
 fn words<R: Env + AllocGlobal>(rt: &R) -> io::Result<Vec<String>> {
@@ -84,6 +86,9 @@ fn ran<R: Clock + AllocGlobal + Threads + Wait + Sync>(
         HotPath::BrickScan => measure::<Scan, R>(rt, rt.alloc(), items),
         HotPath::BrickCount => measure::<Count, R>(rt, rt.alloc(), items),
         HotPath::BrickKeep => measure::<Keep, R>(rt, rt.alloc(), items),
+        HotPath::ShardAppend => measure_shard_append(rt, rt.alloc(), items),
+        HotPath::ShardScan => measure::<ShardScan, R>(rt, rt.alloc(), items),
+        HotPath::ShardBricks => measure::<ShardBricks, R>(rt, rt.alloc(), items),
     }
 }
 

@@ -1,7 +1,7 @@
 //! What the words ask for.
 
 ghost use Rattle.std.specs.Prelude.{◌≡◌, map, string_bytes};
-ghost use Rattle.measures.specs.Words.{Asks, AsksFor, IsItemCount, done_of, most_of, path_of, request_of, row_path_of};
+ghost use Rattle.measures.specs.Words.{Asks, AsksFor, IsItemCount, done_of, most_of, path_of, request_of, row_path_of, shard_path_of};
 
 /// A call whose time is measured.
 #[derive(Clone, Copy, Debug, PartialEq, Eq)]
@@ -56,6 +56,12 @@ pub(crate) enum HotPath {
     BrickCount,
     /// `Columns::keep` of half the rows, by chance.
     BrickKeep,
+    /// `Shard::append` of batches of 4,096 rows over 96 bricks.
+    ShardAppend,
+    /// `Shard::scan` of 96 bricks for the same sum and count as `BrickScan`.
+    ShardScan,
+    /// `Shard::scan` of many bricks of four rows each, for the same.
+    ShardBricks,
 }
 
 impl HotPath {
@@ -82,7 +88,7 @@ impl HotPath {
         }
     }
 
-    /// The path of this name among those over rounds and bricks.
+    /// The path of this name among those over rounds, bricks and shards.
     fn from_row_word(word: &str) -> Option<HotPath>
         ensures { result ≡ row_path_of word.now }
     {
@@ -98,6 +104,18 @@ impl HotPath {
             "brick_scan" => Some(HotPath::BrickScan),
             "brick_count" => Some(HotPath::BrickCount),
             "brick_keep" => Some(HotPath::BrickKeep),
+            _ => HotPath::from_shard_word(word),
+        }
+    }
+
+    /// The path of this name among those over shards.
+    fn from_shard_word(word: &str) -> Option<HotPath>
+        ensures { result ≡ shard_path_of word.now }
+    {
+        match word {
+            "shard_append" => Some(HotPath::ShardAppend),
+            "shard_scan" => Some(HotPath::ShardScan),
+            "shard_bricks" => Some(HotPath::ShardBricks),
             _ => None,
         }
     }
@@ -133,6 +151,9 @@ impl HotPath {
             HotPath::BrickScan => 1_000_000_000,
             HotPath::BrickCount => 1_000_000_000,
             HotPath::BrickKeep => 1_000_000_000,
+            HotPath::ShardAppend => 1_000_000_000,
+            HotPath::ShardScan => 1_000_000_000,
+            HotPath::ShardBricks => 1_000_000,
         }
     }
 
@@ -166,6 +187,9 @@ impl HotPath {
             HotPath::BrickScan => "rows summed and counted in a brick",
             HotPath::BrickCount => "rows counted in a brick",
             HotPath::BrickKeep => "rows of columns kept or left out",
+            HotPath::ShardAppend => "rows appended to a shard",
+            HotPath::ShardScan => "rows summed and counted in a shard",
+            HotPath::ShardBricks => "bricks of a shard summed and counted",
         }
     }
 }

@@ -1,4 +1,4 @@
-//! The words, the line, and each path on a thousand items. The checksums were computed apart, from PCG's
+//! The words, the line, and each path on a thousand items or some more. The checksums were computed apart, from PCG's
 //! numbers and plain loops over rows, marks and names.
 
 use crate::board::{measure_calls, measure_cells, measure_locks};
@@ -15,6 +15,7 @@ use measured_rows::{
     Copies, Count, Digest, Fold, Keep, ReadRound, Scan, Sum, measure_append, measure_store_open,
     measure_store_read, measure_write,
 };
+use measured_shards::{ShardBricks, ShardScan, measure_shard_append};
 use std::alloc::{AllocError, Global};
 use std::test::Fail;
 use timed_work::{Measured, Work};
@@ -98,7 +99,12 @@ fn lines(rt: HostRuntime) -> Result<(), Fail> {
 
 /// The checksum of a path on a thousand items.
 fn checksum<W: Work + Drop>(alloc: Global) -> Result<u64, AllocError> {
-    let mut data = W::prepared(alloc, 1_000)?;
+    checksum_over::<W>(alloc, 1_000)
+}
+
+/// The checksum of a path on so many items.
+fn checksum_over<W: Work + Drop>(alloc: Global, items: u32) -> Result<u64, AllocError> {
+    let mut data = W::prepared(alloc, items)?;
     data.work(alloc)
 }
 
@@ -132,5 +138,15 @@ fn checksums(rt: HostRuntime) -> Result<(), Fail> {
     assert_eq!(rt; measure_locks(&rt, 1_000)?.checksum, 1_000);
     assert_eq!(rt; measure_calls(&rt, rt.alloc(), 1_000)?.checksum, 1_000);
     assert_eq!(rt; measure_cells(&rt, rt.alloc(), 1_000)?.checksum, 4_000);
+    Ok(())
+}
+
+/// Ten thousand rows are two whole batches and a short one.
+#[test]
+fn shard_checksums(rt: HostRuntime) -> Result<(), Fail> {
+    let appended = measure_shard_append(&rt, rt.alloc(), 10_000)?.checksum;
+    assert_eq!(rt; appended, 10_000);
+    assert_eq!(rt; checksum_over::<ShardScan>(rt.alloc(), 10_000)?, 504_331);
+    assert_eq!(rt; checksum::<ShardBricks>(rt.alloc())?, 201_003);
     Ok(())
 }

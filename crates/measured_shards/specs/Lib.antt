@@ -1,0 +1,3 @@
+pub mod InBatches
+pub mod ManyBricks
+pub mod Scanned
