@@ -1,7 +1,8 @@
 # `make demo` runs the program on an example, unproved; `make compare` on a script whose text a model in Python works out; `make starve` with each
-# of its allocations refused in turn. `make program` proves the program and builds it as bin/cubrick. `make bench` proves and builds the program of
-# measures, and prints what each hot path costs per item.
-.PHONY: demo compare starve program bench
+# of its allocations refused in turn. `make starve_append` appends to a shard, unproved, with each allocation of the append refused in turn.
+# `make program` proves the program and builds it as bin/cubrick. `make bench` proves and builds the program of measures, and prints what each hot
+# path costs per item.
+.PHONY: demo compare starve starve_append program bench
 EXAMPLE = $(CURDIR)/examples
 demo:
 	@echo 'The program runs unproved here (rt try); make program proves and builds it.'
@@ -13,6 +14,8 @@ compare:
 	    > $$folder/written && cmp $$folder/written $$folder/text && echo 'The program, unproved, wrote the text of the model.'
 starve:
 	@python3 tools/starve
+starve_append:
+	@python3 tools/starve_append
 program:
 	@echo 'Every crate that the program stands on is proved first: from nothing that takes more than an hour on four processors.'
 	@cd crates/cubrick && rt run -- >/dev/null; test -x out/cubrick

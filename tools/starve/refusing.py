@@ -65,8 +65,9 @@ class Ended:
         self.status, self.output, self.errors, self.allocations = status, output, errors, allocations
 
 
-def run(path, places, words, folder, refused):
-    """Runs a program in a folder. `refused` tells of the number of an allocation, from 1, whether it is refused."""
+def run(path, places, words, folder, refused, last=None):
+    """Runs a program in a folder. `refused` tells of the number of an allocation, from 1, whether it is refused. Behind
+    the number `last` none is looked at or counted any more."""
 
     def trace_me():
         libc.personality(NO_RANDOM_PLACES)
@@ -79,8 +80,8 @@ def run(path, places, words, folder, refused):
         maps = open(f"/proc/{child.pid}/maps").read().splitlines()
         base = min(int(line.split("-")[0], 16) for line in maps if line.endswith(os.path.realpath(path)))
         traps = {base + place + 1: base + place for place in places}
-        for place in traps.values():
-            word = ptrace(PEEK_DATA, child.pid, place)
+        code = {place: ptrace(PEEK_DATA, child.pid, place) for place in traps.values()}
+        for place, word in code.items():
             ptrace(POKE_DATA, child.pid, place, word & ~0xFF | 0xCC)
         allocations, given = 0, 0
         while True:
@@ -96,6 +97,9 @@ def run(path, places, words, folder, refused):
                     return_no_memory(child.pid)
                 else:
                     ptrace(POKE_REGISTER, child.pid, RIP, traps[at] + len(FIRST_INSTRUCTION))
+                if allocations == last:
+                    for place, word in code.items():
+                        ptrace(POKE_DATA, child.pid, place, word)
         child.returncode = os.waitstatus_to_exitcode(state)
         for it in (output, errors):
             it.seek(0)
