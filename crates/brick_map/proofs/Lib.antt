@@ -2,6 +2,7 @@ pub mod Births
 pub mod Lists
 pub mod Counts
 pub mod BatchRuns
+pub mod Ranges
 pub mod Placed
 pub mod Content
 pub mod EachBrick

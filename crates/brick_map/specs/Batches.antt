@@ -1,12 +1,12 @@
 -- A batch of rows of one cube, cut where the brick changes.
 -- Source: this project's own.
-use Rattle.std.specs.Prelude.{◌≡◌, ℕ, ◌+◌, ◌-◌, ◌<◌, ◌≤◌, ◌==◌, Bool, List, [], ◌∷◌, length, All, slice_index_or, if◌then◌else◌}
+use Rattle.std.specs.Prelude.{◌≡◌, ℕ, ◌+◌, ◌-◌, ◌<◌, ◌≤◌, ◌/◌, ◌==◌, Bool, List, [], ◌∷◌, length, All, slice_index_or, if◌then◌else◌}
 use Rattle.std.specs.List.{list_any}
 use Rattle.cube_values.specs.declared.row.CodedRow.{CodedRow}
 use Rattle.cube_values.specs.declared.shape.CubeShape.{CubeShape}
 use Rattle.cube_values.specs.declared.shape.Size.{Size}
 use Rattle.cube_values.specs.Shapes.{bricks_of}
-use Rattle.brick_address.specs.Addresses.{brick_of, AreCoords}
+use Rattle.brick_address.specs.Addresses.{brick_of, coord_at, AreCoords}
 use Rattle.cube_values.specs.Batches.{rows_between}
 use Rattle.brick_map.specs.declared.runs.BatchRun.{BatchRun}
 
@@ -22,6 +22,11 @@ pub record IsRunFrom (sizes : List Size) (rows : List CodedRow) (from : ℕ) (ru
   pub within : run.to ≤ length rows
   pub brick : run.number < bricks_of sizes
   pub of_brick : All (λ row. brick_of sizes row.coords ≡ run.number) (rows_between run.from run.to rows)
+
+-- The starts of the ranges in which coordinates lie.
+abbrev pub range_starts : List Size → List ℕ → List ℕ
+range_starts (s ∷ sizes) (coord ∷ coords) = coord_at s (coord / s.range) 0 ∷ range_starts sizes coords
+range_starts sizes coords = []
 
 -- The runs have the rows of a batch from a place on, one after another.
 abbrev pub AreRuns : List Size → List CodedRow → ℕ → List BatchRun → Type 0

@@ -1,13 +1,13 @@
 //! A batch of rows, cut where the brick changes.
 
-ghost use Rattle.std.specs.Prelude.{◌≡◌, ◌^◌, ◌<◌, ◌≤◌, length, All, IsTrue, IfOk};
-ghost use Rattle.cube_values.specs.Shapes.{IsSoundShape, bricks_of};
+ghost use Rattle.std.specs.Prelude.{◌≡◌, ◌^◌, ◌<◌, ◌≤◌, ◌↔◌, length, All, IsTrue, IfOk};
+ghost use Rattle.cube_values.specs.Shapes.{IsSoundShape, IsSoundSize, bricks_of};
 ghost use Rattle.cube_values.specs.Batches.{coded_row_at};
 ghost use Rattle.brick_address.specs.Addresses.{brick_of, AreCoords};
-ghost use Rattle.brick_map.specs.Batches.{IsRunFrom, AreRuns, AreRunsOver, RunsRiseFrom, rows_for, run_at, runs_for};
+ghost use Rattle.brick_map.specs.Batches.{IsRunFrom, AreRuns, AreRunsOver, RunsRiseFrom, range_starts, rows_for, run_at, runs_for};
 
 use brick_address::brick_of;
-use cube_values::{CodedRows, Shape};
+use cube_values::{CodedRows, Shape, Size};
 use std::alloc::{AllocError, Global};
 
 /// Rows of a batch from one place up to another, all of one brick.
@@ -25,27 +25,51 @@ pub fn runs_of(alloc: Global, shape: &Shape, batch: &CodedRows) -> Result<Vec<Ba
     ensures { IfOk result (λ runs. AreRuns shape.now.sizes batch.now.rows 0 runs.items) }
 {
     let mut runs = Vec::new(alloc);
+    let mut starts = Vec::new(alloc);
     let mut from = 0;
     'runs: while from < batch.len() {
-        let run = run_from(shape, batch, from);
+        put_starts(shape.sizes.as_slice(), batch.coords_of(from), &mut starts)?;
+        let run = run_from(shape, batch, from, starts.as_slice());
         from = run.to;
         runs.push(run)?;
     }
     Ok(runs)
 }
 
-// The run that begins at a row.
-fn run_from(shape: &Shape, batch: &CodedRows, from: usize) -> BatchRun
+// Leaves the starts of the ranges in which coordinates lie.
+fn put_starts(sizes: &[Size], coords: &[u32], starts: &mut Vec<u32>) -> Result<(), AllocError>
+    requires sound { All IsSoundSize sizes.now }
+    ensures { IfOk result (λ _. starts.new.items ≡ range_starts sizes.now coords.now) }
+{
+    starts.clear();
+    let mut sizes_left = sizes;
+    let mut coords_left = coords;
+    'dims: while let [size, sizes_rest @ ..] = sizes_left {
+        let [coord, coords_rest @ ..] = coords_left else {
+            return Ok(());
+        };
+        starts.push(*coord - *coord % size.range)?;
+        sizes_left = sizes_rest;
+        coords_left = coords_rest;
+    }
+    Ok(())
+}
+
+// The run that begins at a row, by the starts of the ranges in which that row lies: a row needs no
+// division then to be seen in the same ranges.
+fn run_from(shape: &Shape, batch: &CodedRows, from: usize, starts: &[u32]) -> BatchRun
     requires shape { IsSoundShape shape.now }
     requires coords { All (λ row. AreCoords shape.now.sizes row.coords) batch.now.rows }
     requires there { from < length batch.now.rows }
+    requires starts { starts.now
+        ≡ range_starts shape.now.sizes (coded_row_at batch.now.rows from).coords }
     ensures { IsRunFrom shape.now.sizes batch.now.rows from result }
 {
     let number = number_at(shape, batch, from);
+    let sizes = shape.sizes.as_slice();
     let count = batch.len();
     'rows: for to in from + 1..count {
-        let other = number_at(shape, batch, to);
-        if other != number {
+        if !lie_in_ranges(sizes, starts, batch.coords_of(to)) {
             return BatchRun { number, from, to };
         }
     }
@@ -54,6 +78,33 @@ fn run_from(shape: &Shape, batch: &CodedRows, from: usize) -> BatchRun
         from,
         to: count,
     }
+}
+
+// Whether coordinates lie in the ranges that begin at these starts.
+fn lie_in_ranges(sizes: &[Size], starts: &[u32], coords: &[u32]) -> bool
+    requires sound { All IsSoundSize sizes.now }
+    requires starts { range_starts sizes.now starts.now ≡ starts.now }
+    requires coords { AreCoords sizes.now coords.now }
+    ensures { IsTrue result ↔ (range_starts sizes.now coords.now ≡ starts.now) }
+{
+    let mut sizes_left = sizes;
+    let mut starts_left = starts;
+    let mut coords_left = coords;
+    'dims: while let [size, sizes_rest @ ..] = sizes_left {
+        let [start, starts_rest @ ..] = starts_left else {
+            return false;
+        };
+        let [coord, coords_rest @ ..] = coords_left else {
+            return false;
+        };
+        if *coord < *start || *coord - *start >= size.range {
+            return false;
+        }
+        sizes_left = sizes_rest;
+        starts_left = starts_rest;
+        coords_left = coords_rest;
+    }
+    true
 }
 
 // The number of the brick of a row.

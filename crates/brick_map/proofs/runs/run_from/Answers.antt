@@ -1,9 +1,18 @@
-use Rattle.std.proofs.Common.{◌≡◌, refl, sym, subst, All, arith}
+use Rattle.std.proofs.Common.{◌≡◌, ◌∙◌, refl, sym, ap, subst, All, arith}
 use Rattle.cube_values.specs.declared.row.CodedRow.{CodedRow}
 use Rattle.cube_values.specs.Batches.{coded_row_at, rows_between}
 use Rattle.brick_address.specs.Addresses.{brick_of}
+use Rattle.brick_map.specs.Batches.{range_starts}
 use Rattle.brick_map.proofs.BatchRuns.{between_first, between_next}
+use Rattle.brick_map.proofs.Ranges.{one_brick, starts_of_starts}
 use Rattle.brick_map.proofs.runs.run_from.Goals as goal
+
+pub lie_in_ranges-requires-clause-starts : goal.lie_in_ranges-requires-clause-starts
+lie_in_ranges-requires-clause-starts c =
+    let sizes = c.args.shape.now.sizes in
+    rw c.as_slice-sizes.ensures (ap (range_starts sizes) c.requires.starts
+    ∙ starts_of_starts sizes (coded_row_at c.args.batch.now.rows c.args.from).coords c.requires.shape.sizes
+    ∙ sym c.requires.starts)
 
 pub rows-init : goal.rows-init
 rows-init c =
@@ -18,7 +27,10 @@ pub rows-preserved : goal.rows-preserved
 rows-preserved c =
     let l = c.rows in
     let rows = c.args.batch.now.rows in
-    let same : brick_of c.args.shape.now.sizes (coded_row_at rows l.to).coords ≡ c.number_at-number.result = cc in
+    let sizes = c.args.shape.now.sizes in
+    let here : range_starts sizes (coded_row_at rows l.to).coords ≡ c.args.starts.now = rw (c.as_slice-sizes.ensures, c.coords_of.ensures) at (c.lie_in_ranges.ensures.0 c.if-not-lie_in_ranges.false) in
+    let alike = one_brick sizes (coded_row_at rows l.to).coords (coded_row_at rows c.args.from).coords c.requires.shape.sizes (here ∙ c.requires.starts) in
+    let same : brick_of sizes (coded_row_at rows l.to).coords ≡ c.number_at-number.result = alike ∙ sym c.number_at-number.ensures.value in
     record {
       order = omega arith;
       within = omega arith;
