@@ -9,6 +9,8 @@ mod bytes;
 #[cfg(test)]
 mod creations;
 #[cfg(test)]
+mod names;
+#[cfg(test)]
 mod openings;
 #[cfg(test)]
 mod pairs;
