@@ -13,7 +13,7 @@ mod scans;
 mod stores;
 
 pub use bricks::measure_append;
-pub use groups::Fold;
+pub use groups::{Fold, table_sum};
 pub use kept::Keep;
 pub use plain::{Copies, Sum};
 pub use rounds::{Digest, ReadRound, measure_write};
