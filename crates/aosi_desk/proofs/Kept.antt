@@ -1,9 +1,9 @@
 -- One more entry of the journal agrees with the list of cubes.
-use Rattle.std.proofs.Common.{◌≡◌, ℕ, ◌<◌, ◌≤◌, ◌==◌, Bool, true, false, ◌||◌, cond, List, [], ◌∷◌, ◌++◌, length, None, Some, refl, sym, ap, ◌∙◌, subst, arith, length-append}
+use Rattle.std.proofs.Common.{◌≡◌, ℕ, ◌<◌, ◌≤◌, ◌==◌, Bool, true, false, ◌||◌, cond, List, [], ◌∷◌, ◌++◌, length, take, None, Some, refl, sym, ap, ◌∙◌, subst, arith, length-append}
 use Rattle.std.specs.List.{list_any, All}
 use Rattle.std.specs.Str.{bytes_eq}
 use Rattle.std.proofs.lemmas.Bool.Decides.{nat_tests, same_from_decides}
-use Rattle.std.proofs.lemmas.List.{map-append, length-map}
+use Rattle.std.proofs.lemmas.List.{map-append, length-map, take-append-le, take_all}
 use Rattle.std.proofs.lemmas.List.Elements.{All-append, All-nil, All-cons}
 use Rattle.std.proofs.lemmas.Slice.Eq.{bytes_eq-Decides}
 use Rattle.cube_language.specs.Cubes.{first_repeated, IsStorable}
@@ -40,18 +40,19 @@ cubes_after_all-more cubes [] (x ∷ journal) name e all = absurd all
 cubes_after_all-more cubes (n ∷ names) [] name e all = absurd all
 
 -- The register inside, as it is lent, and with the entry.
-pub keeps-more : (inside old new : RegisterState) (before after : List Decl) (name : List ℕ) (e : JournalEntry)
+pub keeps-more : (inside old new : RegisterState) (opening before after : List Decl) (name : List ℕ) (e : JournalEntry)
     → old ≡ inside → new ≡ with_entry old e → CubesAllow (decl_names before) name e
     → cubes_after (decl_names before) name e ≡ decl_names after
-    → KeepsCubes (record { register = inside; cubes = before }) → KeepsCubes (record { register = new; cubes = after })
-keeps-more inside old new before after name e lent is allows leads kept =
-    let keeps = subst (λ r. KeepsCubes (record { register = r; cubes = before })) (sym lent) kept in
+    → KeepsCubes (record { register = inside; cubes = before; opening = opening })
+    → KeepsCubes (record { register = new; cubes = after; opening = opening })
+keeps-more inside old new opening before after name e lent is allows leads kept =
+    let keeps = subst (λ r. KeepsCubes (record { register = r; cubes = before; opening = opening })) (sym lent) kept in
     let more = subst (λ cubes. CubesAllow cubes name e) (sym keeps.leads) allows in
-    subst (λ r. KeepsCubes (record { register = r; cubes = after })) (sym is) (record {
-      opening = keeps.opening;
+    let first = decl_names opening in
+    subst (λ r. KeepsCubes (record { register = r; cubes = after; opening = opening })) (sym is) (record {
       names = keeps.names ++ name ∷ [];
-      allowed = allowed-more keeps.opening keeps.names old.journal name e keeps.allowed more;
-      leads = cubes_after_all-more keeps.opening keeps.names old.journal name e keeps.allowed
+      allowed = allowed-more first keeps.names old.journal name e keeps.allowed more;
+      leads = cubes_after_all-more first keeps.names old.journal name e keeps.allowed
           ∙ ap (λ cubes. cubes_after cubes name e) keeps.leads ∙ leads;
     })
 
@@ -90,12 +91,13 @@ other_entry cubes (entry.Idle epoch) other = (tt, refl)
 other_entry cubes (entry.Safe epoch) other = (tt, refl)
 other_entry cubes (entry.RoundLost epoch cause) other = (tt, refl)
 
-pub keeps-other : (inside old new : RegisterState) (cubes : List Decl) (e : JournalEntry) → old ≡ inside
+pub keeps-other : (inside old new : RegisterState) (opening cubes : List Decl) (e : JournalEntry) → old ≡ inside
     → new ≡ with_entry old e → speaks_of_cubes e ≡ false
-    → KeepsCubes (record { register = inside; cubes = cubes }) → KeepsCubes (record { register = new; cubes = cubes })
-keeps-other inside old new cubes e lent is other keeps =
+    → KeepsCubes (record { register = inside; cubes = cubes; opening = opening })
+    → KeepsCubes (record { register = new; cubes = cubes; opening = opening })
+keeps-other inside old new opening cubes e lent is other keeps =
     let fits = other_entry (decl_names cubes) e other in
-    keeps-more inside old new cubes cubes [] e lent is fits.0 fits.1 keeps
+    keeps-more inside old new opening cubes cubes [] e lent is fits.0 fits.1 keeps
 
 bytes_eq-comm : (a b : List ℕ) → bytes_eq a b ≡ bytes_eq b a
 bytes_eq-comm a b =
@@ -128,10 +130,10 @@ end_entry-other epoch (Lost cause) = refl
 -- The empty journal.
 pub keeps-opening : (safe sessions : ℕ) (register : RegisterState) (cubes : List Decl)
     → register ≡ record { safe = safe; sessions = sessions; journal = [] }
-    → KeepsCubes (record { register = register; cubes = cubes })
+    → KeepsCubes (record { register = register; cubes = cubes; opening = cubes })
 keeps-opening safe sessions register cubes is =
-    subst (λ r. KeepsCubes (record { register = r; cubes = cubes })) (sym is)
-    (record { opening = decl_names cubes; names = []; allowed = tt; leads = refl })
+    subst (λ r. KeepsCubes (record { register = r; cubes = cubes; opening = cubes })) (sym is)
+    (record { names = []; allowed = tt; leads = refl })
 
 pub are_cubes-opening : (cubes decls : List Decl) → decls ≡ cubes → length cubes ≤ 16
     → first_repeated (decl_names cubes) ≡ None → All IsStorable decls → AreCubes decls
@@ -146,6 +148,35 @@ pub storable-more : (before after : List Decl) (d item : Decl) → after ≡ bef
 storable-more before after d item is same storable all =
     subst (All IsStorable) (sym is) (All-append IsStorable before (d ∷ []) all
     (All-cons IsStorable d [] (subst IsStorable (sym same) storable) (All-nil IsStorable)))
+
+-- The cubes of the opening are the same where a cube was added, and at the opening all cubes are.
+pub opening-more : (opened : ℕ) (before after : List Decl) (d : Decl) → after ≡ before ++ d ∷ []
+    → opened ≤ length before → take opened after ≡ take opened before
+opening-more opened before after d is within =
+    ap (take opened) is ∙ take-append-le opened before (d ∷ []) within
+
+pub keeps-made : (opened : ℕ) (register : RegisterState) (before after : List Decl) (d : Decl)
+    → after ≡ before ++ d ∷ [] → opened ≤ length before
+    → KeepsCubes (record { register = register; cubes = after; opening = take opened before })
+    → KeepsCubes (record { register = register; cubes = after; opening = take opened after })
+keeps-made opened register before after d is within =
+    subst (λ (first : List Decl). KeepsCubes (record { register = register; cubes = after; opening = first }))
+    (sym (opening-more opened before after d is within))
+
+pub within-more : (opened : ℕ) (before after : List Decl) (d : Decl) → after ≡ before ++ d ∷ []
+    → opened ≤ length before → opened ≤ length after
+within-more opened before after d is within =
+    omega (arith, within, ap length is, length-append before (d ∷ []))
+
+pub all-opened : (opened : ℕ) (cubes : List Decl) → opened ≡ length cubes → take opened cubes ≡ cubes
+all-opened opened cubes is = take_all opened cubes (omega (arith, is))
+
+pub keeps-opened : (opened : ℕ) (register : RegisterState) (cubes : List Decl) → opened ≡ length cubes
+    → KeepsCubes (record { register = register; cubes = cubes; opening = cubes })
+    → KeepsCubes (record { register = register; cubes = cubes; opening = take opened cubes })
+keeps-opened opened register cubes is =
+    subst (λ (first : List Decl). KeepsCubes (record { register = register; cubes = cubes; opening = first }))
+    (sym (all-opened opened cubes is))
 
 -- A cube of a new name is made.
 pub cube_allowed : (cubes : List Decl) (d : Decl) (session statement epoch : ℕ) → length cubes < 16
@@ -187,11 +218,11 @@ too_many_fits cubes name full none = record {
 }
 
 -- A journal that both the counters and the cubes allow.
-pub legal_desk : (inside lent : RegisterState) (cubes : List Decl) → lent ≡ inside
-    → CountersAllowAll lent.safe [] lent.journal → KeepsCubes (record { register = inside; cubes = cubes })
-    → IsLegalDesk (record { register = inside; cubes = cubes })
-legal_desk inside lent cubes lent_is legal keeps = record {
-  opening = keeps.opening;
+pub legal_desk : (inside lent : RegisterState) (opening cubes : List Decl) → lent ≡ inside
+    → CountersAllowAll lent.safe [] lent.journal
+    → KeepsCubes (record { register = inside; cubes = cubes; opening = opening })
+    → IsLegalDesk (record { register = inside; cubes = cubes; opening = opening })
+legal_desk inside lent opening cubes lent_is legal keeps = record {
   names = keeps.names;
   legal = record {
     by_counters = subst (λ (r : RegisterState). CountersAllowAll r.safe [] r.journal) lent_is legal;

@@ -20,11 +20,23 @@ use Rattle.aosi_desk.specs.declared.cube.CubeFound.TheVariants.{Found, Unknown}
 pub record DeskState : Type 0 where
   pub register : RegisterState
   pub cubes : List Decl
+  pub opening : List Decl
 
 -- A desk that opens.
 abbrev pub opening_desk : ℕ → ℕ → List Decl → DeskState
-opening_desk safe sessions cubes =
-    record { register = record { safe = safe; sessions = sessions; journal = [] }; cubes = cubes }
+opening_desk safe sessions cubes = record {
+  register = record { safe = safe; sessions = sessions; journal = [] };
+  cubes = cubes;
+  opening = cubes;
+}
+
+-- What stays of a desk as it opened: the safe epoch of its store, and the cubes of the opening.
+pub record DeskOpening : Type 0 where
+  pub safe : ℕ
+  pub cubes : List Decl
+
+abbrev pub opening_of : DeskState → DeskOpening
+opening_of desk = record { safe = desk.register.safe; cubes = desk.opening }
 
 -- The desk with another register.
 abbrev pub desk_over : DeskState → RegisterState → DeskState
@@ -66,7 +78,7 @@ cube_answer desk name =
 
 -- The desk after a cube is made.
 abbrev pub desk_with_cube : DeskState → ℕ → ℕ → ℕ → Decl → DeskState
-desk_with_cube desk session statement epoch decl = record {
+desk_with_cube desk session statement epoch decl = record desk {
   register = with_entry desk.register (entry.Cube session statement epoch);
   cubes = desk.cubes ++ decl ∷ [];
 }
@@ -94,19 +106,18 @@ abbrev pub cubes_after_all : List (List ℕ) → List (List ℕ) → List Journa
 cubes_after_all cubes (name ∷ names) (e ∷ later) = cubes_after_all (cubes_after cubes name e) names later
 cubes_after_all cubes names later = cubes
 
--- A run that began with cubes of some names can leave the desk's journal, which leads to the cubes of now.
+-- A run that began with the cubes of the opening, and whose statements speak of cubes of some names, can leave the desk's
+-- journal, which leads to the cubes of now.
 pub record IsLegalDesk (desk : DeskState) : Type 0 where
-  pub opening : List (List ℕ)
   pub names : List (List ℕ)
-  pub legal : IsLegal desk.register.safe opening names desk.register.journal
-  pub leads : cubes_after_all opening names desk.register.journal ≡ decl_names desk.cubes
+  pub legal : IsLegal desk.register.safe (decl_names desk.opening) names desk.register.journal
+  pub leads : cubes_after_all (decl_names desk.opening) names desk.register.journal ≡ decl_names desk.cubes
 
 -- The part of this that the list of cubes judges.
 pub record KeepsCubes (desk : DeskState) : Type 0 where
-  pub opening : List (List ℕ)
   pub names : List (List ℕ)
-  pub allowed : CubesAllowAll opening names desk.register.journal
-  pub leads : cubes_after_all opening names desk.register.journal ≡ decl_names desk.cubes
+  pub allowed : CubesAllowAll (decl_names desk.opening) names desk.register.journal
+  pub leads : cubes_after_all (decl_names desk.opening) names desk.register.journal ≡ decl_names desk.cubes
 
 -- There are few cubes, of different names, and each can be stored.
 pub record AreCubes (cubes : List Decl) : Type 0 where

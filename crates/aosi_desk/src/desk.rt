@@ -32,24 +32,37 @@ const TOO_MANY_CUBES: u32 = 21;
 /// Declarations in order.
 pub type Decls = Sequence<Decl>;
 
-/// The register and the list of cubes. Contracts see both. Each call takes constant time, but what gives the
-/// pending epochs, looks for a name or copies declarations. It lies on the heap, so it is cheap to move.
+/// The register and the list of cubes. Contracts see both, and the cubes of the opening. Each call takes constant
+/// time, but what gives the pending epochs, looks for a name or copies declarations. It lies on the heap, so it is
+/// cheap to move.
 #[derive(Drop)]
 pub struct Desk {
     register: Box<Register>,
     cubes: Vec<Decl>,
+    // How many of the cubes are of the opening.
+    opened: usize,
 }
 
 impl Model for Desk {
+    ghost use Rattle.std.specs.Prelude.{◌≤◌, length, take};
     ghost use Rattle.aosi_desk.specs.Desks.{DeskState, KeepsCubes, AreCubes};
 
     ghost Value = { DeskState };
 
-    ghost view = { λ d. record { register = d.register.value; cubes = d.cubes.items } };
+    ghost view = { λ d. record {
+      register = d.register.value;
+      cubes = d.cubes.items;
+      opening = take d.opened d.cubes.items;
+    } };
 
     ghost invariant = { λ d.
-        KeepsCubes (record { register = d.register.value; cubes = d.cubes.items })
-        × AreCubes d.cubes.items };
+        KeepsCubes (record {
+          register = d.register.value;
+          cubes = d.cubes.items;
+          opening = take d.opened d.cubes.items;
+        })
+        × AreCubes d.cubes.items
+        × (d.opened ≤ length d.cubes.items) };
 }
 
 impl Desk {
@@ -72,6 +85,7 @@ impl Desk {
         Ok(Desk {
             register: Box::new(alloc, register)?,
             cubes: decls_of(alloc, cubes)?,
+            opened: cubes.len(),
         })
     }
 

@@ -1,5 +1,5 @@
 -- How a run ends, by how its files were read and its script was run.
-use Rattle.std.proofs.Common.{◌≡◌, ◌∙◌, ℕ, Bool, true, List, [], ◌∷◌, map, take, Option, Some, None, Ok, Err, refl, sym, ap, subst, append-nil}
+use Rattle.std.proofs.Common.{◌≡◌, ◌∙◌, inl, inr, ℕ, Bool, true, List, [], ◌∷◌, map, take, Option, Some, None, Ok, Err, refl, sym, ap, subst, append-nil}
 use Rattle.std.specs.Bool.{OnTrue}
 use Rattle.cube_language.specs.declared.decl.Decl.{Decl}
 use Rattle.cube_journal.specs.WholeText.{whole_text}
@@ -40,8 +40,9 @@ left_if_whole whole text taken now (Some (NotBuilt built)) is h = absurd h
 
 -- ---- a script that was run
 
-pub nothing_is_legal : (journal : List JournalEntry) → journal ≡ [] → LeavesLegal journal
-nothing_is_legal journal is = subst LeavesLegal (sym is) (0, [], [], record { by_counters = tt; by_cubes = tt })
+pub nothing_is_legal : (cubes : List Decl) (journal : List JournalEntry) → journal ≡ [] → LeavesLegal cubes journal
+nothing_is_legal cubes journal is =
+    subst (LeavesLegal cubes) (sym is) ([], record { by_counters = tt; by_cubes = tt })
 
 -- What a script has left, and what of it was written.
 pub record LeftBy (seen : ShelfSeen) (cubes : List Decl) (said : List Said) (ran : Ran) (finish : Finish) : Type 0 where
@@ -49,7 +50,7 @@ pub record LeftBy (seen : ShelfSeen) (cubes : List Decl) (said : List Said) (ran
       (names_of ran.names) ran.journal.items)
   pub counted : OnTrue ran.whole (GainsReplies [] ran.replies.items seen.faults seen.new_faults seen.absences
       seen.new_absences)
-  pub legal : LeavesLegal ran.journal.items
+  pub legal : LeavesLegal cubes ran.journal.items
   pub journal : finish.journal.items ≡ ran.journal.items
   pub names : finish.names ≡ ran.names
 
@@ -78,7 +79,7 @@ script_ends seen cubes said ran taken now finish None h left =
 script_ends seen cubes said ran taken now finish (Some OutputFault) h left =
     (whole_text 0 (ran.replies.items ∷ []) ran.journal.items, has_text seen cubes said ran finish h left.0, left.1)
 script_ends seen cubes said ran taken now finish (Some NoMemory) h left =
-    (left, subst LeavesLegal (sym h.journal) h.legal)
+    (left, subst (LeavesLegal cubes) (sym h.journal) h.legal)
 script_ends seen cubes said ran taken now finish (Some Words) h left = absurd left
 script_ends seen cubes said ran taken now finish (Some (File bad)) h left = absurd left
 script_ends seen cubes said ran taken now finish (Some (NotBuilt built)) h left = absurd left
@@ -110,7 +111,7 @@ ends_before seen taken cubes_name script_name fault finish r is journal names = 
       (record { first = shown; calls = calls; faults = faults; absences = absences }, nothing)
   ends_by (NotBuilt part.Script) shown calls faults absences =
       (record { asks = shown; calls = calls; faults = faults; absences = absences }, nothing)
-  ends_by NoMemory shown calls faults absences = (refl, nothing_is_legal finish.journal.items journal)
+  ends_by NoMemory shown calls faults absences = (refl, inl journal)
   ends_by Words shown calls faults absences = absurd shown
   ends_by OutputFault shown calls faults absences = absurd shown
 
@@ -202,7 +203,15 @@ ends_after told later calls middle last faults some_faults all_faults absences s
       sink = e.0;
       ends =
           subst (Ends (seen_by told calls last faults all_faults absences all_absences) r.two cubes_name script_name
-          finish []) (sym is) (refl, e.1);
+          finish []) (sym is) (
+            refl,
+            inr (record {
+              cubes = input.cubes.items;
+              said = input.script.items;
+              input = r.shown;
+              legal = e.1;
+            }),
+          );
     }
     by_fault (Some Words) is e = absurd e
     by_fault (Some (File bad)) is e = absurd e

@@ -3,6 +3,7 @@
 use Rattle.std.specs.Prelude.{◌≡◌, ◌⊎◌, ℕ, ◌<◌, Bool, true, List, [], ◌∷◌, length, map, take, Option, Some, None}
 use Rattle.cube_language.specs.declared.decl.Decl.{Decl}
 use Rattle.cube_journal.specs.WholeText.{whole_text}
+use Rattle.cube_journal.specs.declared.journal_entry.JournalEntry.{JournalEntry}
 use Rattle.cube_journal.specs.declared.reply.Reply.{Reply}
 use Rattle.names_dict.specs.Dictionaries.{names_of}
 use Rattle.outside.specs.Files.{content_of}
@@ -81,6 +82,13 @@ pub record HasWatch (seen : ShelfSeen) (two : TwoReadings) (cubes_name script_na
   pub faults : seen.new_faults ≡ seen.faults
   pub absences : seen.new_absences ≡ seen.absences
 
+-- The files give a script over these cubes, which has left a legal journal.
+pub record HasLegalJournal (two : TwoReadings) (journal : List JournalEntry) : Type 0 where
+  pub cubes : List Decl
+  pub said : List Said
+  pub input : GiveInput two cubes said
+  pub legal : LeavesLegal cubes journal
+
 -- The run ended so, its sink having gained these bytes. Faults of the cubes file come before those of the script; in a
 -- file its absence comes before its size, that before what it holds, and what is not built last.
 abbrev pub Ends : ShelfSeen → TwoReadings → List ℕ → List ℕ → Finish → List ℕ → Option Fault → Type 0
@@ -93,7 +101,7 @@ Ends seen two cubes_name script_name finish gained (Some (NotBuilt part.Script))
 Ends seen two cubes_name script_name finish gained (Some OutputFault) =
     (text : List ℕ) × HasText seen two finish text × (n : ℕ) × (n < length text) × (gained ≡ take n text)
 Ends seen two cubes_name script_name finish gained (Some NoMemory) =
-    (gained ≡ []) × LeavesLegal finish.journal.items
+    (gained ≡ []) × ((finish.journal.items ≡ []) ⊎ HasLegalJournal two finish.journal.items)
 
 -- Both files were read as the shelf tells them, and the run ended so, its sink having gained some bytes.
 pub record Runs (seen : ShelfSeen) (taken now_taken : Option (List ℕ)) (cubes_name script_name : List ℕ)
@@ -150,5 +158,5 @@ ScriptEnds seen cubes said taken now finish None =
 ScriptEnds seen cubes said taken now finish (Some OutputFault) =
     (text : List ℕ) × HasScriptText seen cubes said finish text × GainedPrefix taken text now
 ScriptEnds seen cubes said taken now finish (Some NoMemory) =
-    Gained taken [] now × LeavesLegal finish.journal.items
+    Gained taken [] now × LeavesLegal cubes finish.journal.items
 ScriptEnds seen cubes said taken now finish (Some fault) = ⊥

@@ -4,7 +4,7 @@ ghost use Rattle.std.specs.Prelude.{◌≡◌, ◌≢◌, ◌+◌, ◌<◌, fals
 ghost use Rattle.cube_journal.specs.Refusals.{code};
 ghost use Rattle.cube_journal.specs.declared.reply.Reply.TheVariants as reply;
 ghost use Rattle.cube_run.specs.SessionStates.{Idle};
-ghost use Rattle.aosi_desk.specs.Desks.{is_cube_code};
+ghost use Rattle.aosi_desk.specs.Desks.{is_cube_code, opening_of};
 ghost use Rattle.session_replies.specs.Modes.{mode_of};
 ghost use Rattle.session_desk.specs.AtDesk.{IsAtDesk};
 ghost use Rattle.session_desk.specs.Executed.{IfReplied};
@@ -27,6 +27,7 @@ pub fn refuse_next(desk: &mut Desk, session: &mut Session, refusal: Refusal) -> 
     requires cubes { is_cube_code (code refusal) ≡ false }
     requires store { code refusal ≢ 17 }
     ensures at { IsAtDesk desk.new session.new }
+    ensures opening { opening_of desk.new ≡ opening_of desk.old }
     ensures number { session.new.statements ≡ session.old.statements + 1 }
     ensures no_file { SpeaksOfNoFile (reply.Refused refusal) → IfReplied result SpeaksOfNoFile }
     ensures unread { SpeaksOfNoFile (reply.Refused refusal) → IfReplied result IsRefusedUnread }
@@ -55,6 +56,7 @@ pub fn commit_alone(desk: &mut Desk, session: &mut Session) -> Result<Option<u64
     requires at { IsAtDesk desk.old session.old }
     requires few { session.old.statements < MOST_STATEMENTS }
     requires idle { mode_of session.old.mode ≡ Idle }
+    ensures opening { opening_of desk.new ≡ opening_of desk.old }
     ensures committed { IfOk result (HasCommittedAt desk.old session.old desk.new session.new) }
     ensures same_desk { OnErr result (desk.new ≡ desk.old) }
     ensures same_session { OnErr result (session.new ≡ session.old) }

@@ -1,6 +1,7 @@
 //! DELETE.
 
 ghost use Rattle.std.specs.Prelude.{◌≡◌, ◌+◌, ◌<◌, ◌≤◌, None, Some, length};
+ghost use Rattle.aosi_desk.specs.Desks.{opening_of};
 ghost use Rattle.cube_run.specs.RunRecords.{Says};
 ghost use Rattle.cube_run.specs.SessionStates.{Idle};
 ghost use Rattle.cube_run.specs.StepOutcomes.{refused_by_mode};
@@ -57,6 +58,7 @@ fn delete_alone(
     requires room { length (rows_at cubes.old.rows place).now
         ≤ (rows_at cubes.old.rows place).removable }
     ensures at { IsAtCubes desk.new session.new cubes.new }
+    ensures opening { opening_of desk.new ≡ opening_of desk.old }
     ensures number { session.new.statements ≡ session.old.statements + 1 }
     ensures no_file { IfReplied result SpeaksOfNoFile }
     ensures known { IfReplied result SpeaksOfItsCube }
@@ -122,6 +124,7 @@ fn delete_with_room(
     requires room { length (rows_at cubes.old.rows place).now
         ≤ (rows_at cubes.old.rows place).removable }
     ensures at { IsAtCubes desk.new session.new cubes.new }
+    ensures opening { opening_of desk.new ≡ opening_of desk.old }
     ensures number { session.new.statements ≡ session.old.statements + 1 }
     ensures no_file { IfReplied result SpeaksOfNoFile }
     ensures known { IfReplied result SpeaksOfItsCube }
@@ -151,6 +154,7 @@ fn delete_span(
     requires within { place < length cubes.old.schemas.items }
     requires span { IsDropSpanAt cubes.old statement.now place span.now }
     ensures at { IsAtCubes desk.new session.new cubes.new }
+    ensures opening { opening_of desk.new ≡ opening_of desk.old }
     ensures number { session.new.statements ≡ session.old.statements + 1 }
     ensures no_file { IfReplied result SpeaksOfNoFile }
     ensures known { IfReplied result SpeaksOfItsCube }
@@ -178,6 +182,7 @@ fn delete_bound(
     requires may { refused_by_mode (mode_of session.old.mode) statement.now ≡ None }
     requires plan { IsDropPlan cubes.old.schemas.items statement.now plan.now }
     ensures at { IsAtCubes desk.new session.new cubes.new }
+    ensures opening { opening_of desk.new ≡ opening_of desk.old }
     ensures number { session.new.statements ≡ session.old.statements + 1 }
     ensures no_file { IfReplied result SpeaksOfNoFile }
     ensures known { IfReplied result SpeaksOfItsCube }
@@ -207,6 +212,7 @@ pub fn delete(
     requires form { DeletesRows statement.now }
     requires may { refused_by_mode (mode_of session.old.mode) statement.now ≡ None }
     ensures at { IsAtCubes desk.new session.new cubes.new }
+    ensures opening { opening_of desk.new ≡ opening_of desk.old }
     ensures number { session.new.statements ≡ session.old.statements + 1 }
     ensures no_file { IfReplied result SpeaksOfNoFile }
     ensures known { IfReplied result (KnowsItsCube cubes.old cubes.new) }

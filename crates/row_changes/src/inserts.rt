@@ -1,6 +1,7 @@
 //! INSERT.
 
 ghost use Rattle.std.specs.Prelude.{◌≡◌, ◌+◌, ◌<◌, ◌≤◌, None, Some, length};
+ghost use Rattle.aosi_desk.specs.Desks.{opening_of};
 ghost use Rattle.cube_run.specs.RunRecords.{Says};
 ghost use Rattle.cube_run.specs.SessionStates.{Idle};
 ghost use Rattle.cube_run.specs.StepOutcomes.{refused_by_mode};
@@ -61,6 +62,7 @@ fn insert_alone(
     requires encoded { AreEncodedAt cubes.old statement.now place (Rows batch.now) }
     requires room { length batch.now.rows ≤ (rows_at cubes.old.rows place).spare }
     ensures at { IsAtCubes desk.new session.new cubes.new }
+    ensures opening { opening_of desk.new ≡ opening_of desk.old }
     ensures number { session.new.statements ≡ session.old.statements + 1 }
     ensures no_file { IfReplied result SpeaksOfNoFile }
     ensures known { IfReplied result SpeaksOfItsCube }
@@ -124,6 +126,7 @@ fn insert_with_room(
     requires encoded { AreEncodedAt cubes.old statement.now place (Rows batch.now) }
     requires room { length batch.now.rows ≤ (rows_at cubes.old.rows place).spare }
     ensures at { IsAtCubes desk.new session.new cubes.new }
+    ensures opening { opening_of desk.new ≡ opening_of desk.old }
     ensures number { session.new.statements ≡ session.old.statements + 1 }
     ensures no_file { IfReplied result SpeaksOfNoFile }
     ensures known { IfReplied result SpeaksOfItsCube }
@@ -153,6 +156,7 @@ fn insert_batch(
     requires within { place < length cubes.old.schemas.items }
     requires encoded { AreEncodedAt cubes.old statement.now place (Rows batch.now) }
     ensures at { IsAtCubes desk.new session.new cubes.new }
+    ensures opening { opening_of desk.new ≡ opening_of desk.old }
     ensures number { session.new.statements ≡ session.old.statements + 1 }
     ensures no_file { IfReplied result SpeaksOfNoFile }
     ensures known { IfReplied result SpeaksOfItsCube }
@@ -182,6 +186,7 @@ fn insert_encoded(
     requires within { place < length cubes.old.schemas.items }
     requires encoded { AreEncodedAt cubes.old statement.now place encoded }
     ensures at { IsAtCubes desk.new session.new cubes.new }
+    ensures opening { opening_of desk.new ≡ opening_of desk.old }
     ensures number { session.new.statements ≡ session.old.statements + 1 }
     ensures no_file { IfReplied result SpeaksOfNoFile }
     ensures known { IfReplied result SpeaksOfItsCube }
@@ -213,6 +218,7 @@ fn insert_bound(
     requires within { place < length cubes.old.schemas.items }
     requires bound { IsBoundAt cubes.old.schemas.items statement.now place }
     ensures at { IsAtCubes desk.new session.new cubes.new }
+    ensures opening { opening_of desk.new ≡ opening_of desk.old }
     ensures number { session.new.statements ≡ session.old.statements + 1 }
     ensures no_file { IfReplied result SpeaksOfNoFile }
     ensures known { IfReplied result SpeaksOfItsCube }
@@ -242,6 +248,7 @@ pub fn insert(
     requires form { InsertsRows statement.now }
     requires may { refused_by_mode (mode_of session.old.mode) statement.now ≡ None }
     ensures at { IsAtCubes desk.new session.new cubes.new }
+    ensures opening { opening_of desk.new ≡ opening_of desk.old }
     ensures number { session.new.statements ≡ session.old.statements + 1 }
     ensures no_file { IfReplied result SpeaksOfNoFile }
     ensures known { IfReplied result (KnowsItsCube cubes.old cubes.new) }

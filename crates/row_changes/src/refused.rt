@@ -1,6 +1,7 @@
 //! Statements that change rows and are refused, where names may have come.
 
 ghost use Rattle.std.specs.Prelude.{◌≡◌, ◌+◌, ◌<◌, None};
+ghost use Rattle.aosi_desk.specs.Desks.{opening_of};
 ghost use Rattle.cube_run.specs.RunRecords.{Says};
 ghost use Rattle.cube_run.specs.StepOutcomes.{refused_by_mode};
 ghost use Rattle.query_plan.specs.Bindings.{IsBindFault};
@@ -35,6 +36,7 @@ pub fn refuse_bind(
     requires may { refused_by_mode (mode_of session.old.mode) statement.now ≡ None }
     requires fault { IsBindFault cubes.now.schemas.items statement.now fault }
     ensures at { IsAtCubes desk.new session.new cubes.now }
+    ensures opening { opening_of desk.new ≡ opening_of desk.old }
     ensures number { session.new.statements ≡ session.old.statements + 1 }
     ensures no_file { IfReplied result SpeaksOfNoFile }
     ensures unread { IfReplied result IsRefusedUnread }
@@ -54,6 +56,7 @@ pub fn refuse_for_memory(
     requires at { IsAtCubes desk.old session.old cubes.now }
     requires few { session.old.statements < MOST_STATEMENTS }
     ensures at { IsAtCubes desk.new session.new cubes.now }
+    ensures opening { opening_of desk.new ≡ opening_of desk.old }
     ensures number { session.new.statements ≡ session.old.statements + 1 }
     ensures no_file { IfReplied result SpeaksOfNoFile }
     ensures known { IfReplied result SpeaksOfItsCube }
@@ -79,6 +82,7 @@ pub(crate) fn refuse_lacking(
     requires may { refused_by_mode (mode_of session.old.mode) statement.now ≡ None }
     requires lacking { AreEncodedAt cubes.now statement.now place (Lacking text) }
     ensures at { IsAtCubes desk.new session.new cubes.now }
+    ensures opening { opening_of desk.new ≡ opening_of desk.old }
     ensures number { session.new.statements ≡ session.old.statements + 1 }
     ensures no_file { IfReplied result SpeaksOfNoFile }
     ensures known { IfReplied result SpeaksOfItsCube }

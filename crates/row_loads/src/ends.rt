@@ -1,6 +1,7 @@
 //! How a LOAD ends at the desk, and for the rows that it brought.
 
 ghost use Rattle.std.specs.Prelude.{◌≡◌, ◌≢◌, ◌⊎◌, ◌+◌, ◌<◌, Some, OnOk, OnErr};
+ghost use Rattle.aosi_desk.specs.Desks.{opening_of};
 ghost use Rattle.cube_values.specs.declared.call_error.CallError.TheVariants.{Fault};
 ghost use Rattle.cube_journal.specs.declared.journal_entry.AbortCause.TheVariants as abort;
 ghost use Rattle.cube_run.specs.SessionStates.{Idle};
@@ -47,6 +48,7 @@ fn abort_alone(desk: &mut Desk, session: &mut Session, cause: AbortCause) -> Res
     requires at { IsAtDesk desk.old session.old }
     requires few { session.old.statements < MOST_STATEMENTS }
     requires idle { mode_of session.old.mode ≡ Idle }
+    ensures opening { opening_of desk.new ≡ opening_of desk.old }
     ensures aborted { OnOk result (AbortsAlone cause desk.old session.old desk.new session.new) }
     ensures same_desk { OnErr result (desk.new ≡ desk.old) }
     ensures same_session { OnErr result (session.new ≡ session.old) }
@@ -65,7 +67,8 @@ fn abort_open(desk: &mut Desk, session: &mut Session, epoch: u64, cause: AbortCa
     requires open { epoch_open_in (mode_of session.old.mode) ≡ Some epoch }
     requires not_asked { cause ≢ abort.Asked }
     requires not_at_end { cause ≢ abort.EndOfScript }
-    ensures { AbortsOpenAt epoch cause desk.old session.old desk.new session.new }
+    ensures opening { opening_of desk.new ≡ opening_of desk.old }
+    ensures aborts { AbortsOpenAt epoch cause desk.old session.old desk.new session.new }
 {
     session.statements += 1;
     desk.abort_end(SESSION, session.statements, cause);
@@ -92,6 +95,7 @@ pub(crate) fn forget_alone(desk: &mut Desk, session: &mut Session, cubes: &mut C
     requires at { IsAtCubes desk.old session.old cubes.old }
     requires few { session.old.statements < MOST_STATEMENTS }
     ensures at { IsAtCubes desk.new session.new cubes.new }
+    ensures opening { opening_of desk.new ≡ opening_of desk.old }
     ensures number { session.new.statements ≡ session.old.statements + 1 }
     ensures said { IfReplied result (ForgetsAlone
         desk.old session.old cubes.old desk.new session.new cubes.new) }
@@ -112,6 +116,7 @@ fn store_alone(
     requires few { session.old.statements < MOST_STATEMENTS }
     requires idle { mode_of session.old.mode ≡ Idle }
     ensures at { IsAtCubes desk.new session.new cubes.new }
+    ensures opening { opening_of desk.new ≡ opening_of desk.old }
     ensures number { session.new.statements ≡ session.old.statements + 1 }
     ensures said { IfReplied result (λ said.
         KeepsAlone rows bad desk.old session.old cubes.old desk.new session.new cubes.new said
@@ -138,6 +143,7 @@ fn reject_alone(
     requires few { session.old.statements < MOST_STATEMENTS }
     requires idle { mode_of session.old.mode ≡ Idle }
     ensures at { IsAtCubes desk.new session.new cubes.new }
+    ensures opening { opening_of desk.new ≡ opening_of desk.old }
     ensures number { session.new.statements ≡ session.old.statements + 1 }
     ensures said { IfReplied result (λ said.
         RejectsAlone rejected allowed desk.old session.old cubes.old
@@ -168,6 +174,7 @@ pub(crate) fn end_alone(
     requires few { session.old.statements < MOST_STATEMENTS }
     requires idle { mode_of session.old.mode ≡ Idle }
     ensures at { IsAtCubes desk.new session.new cubes.new }
+    ensures opening { opening_of desk.new ≡ opening_of desk.old }
     ensures number { session.new.statements ≡ session.old.statements + 1 }
     ensures said { IfReplied result (EndsAlone rows bad allowed
         desk.old session.old cubes.old desk.new session.new cubes.new) }
@@ -193,6 +200,7 @@ pub(crate) fn abort_inside(
     requires not_asked { cause ≢ abort.Asked }
     requires not_at_end { cause ≢ abort.EndOfScript }
     ensures at { IsAtCubes desk.new session.new cubes.new }
+    ensures opening { opening_of desk.new ≡ opening_of desk.old }
     ensures number { session.new.statements ≡ session.old.statements + 1 }
     ensures said { IfReplied result (AbortsInside epoch cause refusal
         desk.old session.old cubes.old desk.new session.new cubes.new) }
@@ -237,6 +245,7 @@ pub(crate) fn end_inside(
     requires few { session.old.statements < MOST_STATEMENTS }
     requires open { epoch_open_in (mode_of session.old.mode) ≡ Some epoch }
     ensures at { IsAtCubes desk.new session.new cubes.new }
+    ensures opening { opening_of desk.new ≡ opening_of desk.old }
     ensures number { session.new.statements ≡ session.old.statements + 1 }
     ensures said { IfReplied result (EndsInside rows bad allowed epoch
         desk.old session.old cubes.old desk.new session.new cubes.new) }
@@ -266,6 +275,7 @@ fn refuse_unread(desk: &mut Desk, session: &mut Session, cubes: &mut Cubes) -> A
     requires few { session.old.statements < MOST_STATEMENTS }
     requires live { IsLive (mode_of session.old.mode) }
     ensures at { IsAtCubes desk.new session.new cubes.new }
+    ensures opening { opening_of desk.new ≡ opening_of desk.old }
     ensures number { session.new.statements ≡ session.old.statements + 1 }
     ensures said { IfReplied result (EndsUnread
         desk.old session.old cubes.old desk.new session.new cubes.new) }
@@ -290,6 +300,7 @@ fn refuse_file(
     requires few { session.old.statements < MOST_STATEMENTS }
     requires live { IsLive (mode_of session.old.mode) }
     ensures at { IsAtCubes desk.new session.new cubes.new }
+    ensures opening { opening_of desk.new ≡ opening_of desk.old }
     ensures number { session.new.statements ≡ session.old.statements + 1 }
     ensures said { IfReplied result (EndsUnopened (Fault fault)
         desk.old session.old cubes.old desk.new session.new cubes.new) }
@@ -312,6 +323,7 @@ pub(crate) fn refuse_unopened(
     requires few { session.old.statements < MOST_STATEMENTS }
     requires live { IsLive (mode_of session.old.mode) }
     ensures at { IsAtCubes desk.new session.new cubes.new }
+    ensures opening { opening_of desk.new ≡ opening_of desk.old }
     ensures number { session.new.statements ≡ session.old.statements + 1 }
     ensures said { IfReplied result (EndsUnopened fault
         desk.old session.old cubes.old desk.new session.new cubes.new) }

@@ -1,6 +1,7 @@
 //! LOAD.
 
 ghost use Rattle.std.specs.Prelude.{◌≡◌, ◌+◌, ◌<◌, ◌≤◌, None, Some, length};
+ghost use Rattle.aosi_desk.specs.Desks.{opening_of};
 ghost use Rattle.cube_run.specs.RunRecords.{Says};
 ghost use Rattle.cube_run.specs.SessionStates.{Idle};
 ghost use Rattle.cube_run.specs.StepOutcomes.{refused_by_mode};
@@ -46,6 +47,7 @@ fn load_alone(
     requires idle { mode_of session.old.mode ≡ Idle }
     requires bound { IsBoundTo cubes.old.schemas.items statement.now place load.old.decl }
     ensures at { IsAtCubes desk.new session.new cubes.new }
+    ensures opening { opening_of desk.new ≡ opening_of desk.old }
     ensures number { session.new.statements ≡ session.old.statements + 1 }
     ensures records { IfReplied result IsOfRecords }
     ensures offers { IfReplied result (λ said.
@@ -78,6 +80,7 @@ fn load_inside(
     requires open { epoch_open_in (mode_of session.old.mode) ≡ Some epoch }
     requires bound { IsBoundTo cubes.old.schemas.items statement.now place load.old.decl }
     ensures at { IsAtCubes desk.new session.new cubes.new }
+    ensures opening { opening_of desk.new ≡ opening_of desk.old }
     ensures number { session.new.statements ≡ session.old.statements + 1 }
     ensures records { IfReplied result IsOfRecords }
     ensures offers { IfReplied result (λ said.
@@ -118,6 +121,7 @@ fn load_opened(
     requires live { IsLive (mode_of session.old.mode) }
     requires bound { IsBoundTo cubes.old.schemas.items statement.now place load.decl }
     ensures at { IsAtCubes desk.new session.new cubes.new }
+    ensures opening { opening_of desk.new ≡ opening_of desk.old }
     ensures number { session.new.statements ≡ session.old.statements + 1 }
     ensures records { IfReplied result IsOfRecords }
     ensures offers { IfReplied result (λ said.
@@ -158,6 +162,7 @@ fn load_from<S: Shelf>(
     requires bound { IsBoundAt cubes.old.schemas.items statement.now place }
     requires within { place < length cubes.old.schemas.items }
     ensures at { IsAtCubes desk.new session.new cubes.new }
+    ensures opening { opening_of desk.new ≡ opening_of desk.old }
     ensures number { session.new.statements ≡ session.old.statements + 1 }
     ensures same { S.told shelf.new ≡ S.told shelf.old }
     ensures later { S.fault_count shelf.old ≤ S.fault_count shelf.new }
@@ -194,6 +199,7 @@ fn load_bound<S: Shelf>(
     requires bound { IsBoundAt cubes.old.schemas.items statement.now place }
     requires within { place < length cubes.old.schemas.items }
     ensures at { IsAtCubes desk.new session.new cubes.new }
+    ensures opening { opening_of desk.new ≡ opening_of desk.old }
     ensures number { session.new.statements ≡ session.old.statements + 1 }
     ensures same { S.told shelf.new ≡ S.told shelf.old }
     ensures later { S.fault_count shelf.old ≤ S.fault_count shelf.new }
@@ -235,6 +241,7 @@ pub fn load<S: Shelf>(
     requires form { LoadsRows statement.now }
     requires may { refused_by_mode (mode_of session.old.mode) statement.now ≡ None }
     ensures at { IsAtCubes desk.new session.new cubes.new }
+    ensures opening { opening_of desk.new ≡ opening_of desk.old }
     ensures number { session.new.statements ≡ session.old.statements + 1 }
     ensures same { S.told shelf.new ≡ S.told shelf.old }
     ensures later { S.fault_count shelf.old ≤ S.fault_count shelf.new }

@@ -1,6 +1,7 @@
 //! SELECT of a session.
 
 ghost use Rattle.std.specs.Prelude.{◌≡◌, ◌+◌, ◌<◌, ◌≢◌, true, None, IfOk};
+ghost use Rattle.aosi_desk.specs.Desks.{opening_of};
 ghost use Rattle.cube_values.specs.Faults.{IfFault};
 ghost use Rattle.cube_language.specs.declared.statement.Statement.{Statement};
 ghost use Rattle.cube_run.specs.RunRecords.{Says};
@@ -49,6 +50,7 @@ fn answer_alone(desk: &mut Desk, session: &mut Session, cubes: &Cubes, table: Ta
     requires few { session.old.statements < MOST_STATEMENTS }
     requires idle { mode_of session.old.mode ≡ Idle }
     ensures at { IsAtCubes desk.new session.new cubes.now }
+    ensures opening { opening_of desk.new ≡ opening_of desk.old }
     ensures number { session.new.statements ≡ session.old.statements + 1 }
     ensures no_file { IfReplied result SpeaksOfNoFile }
     ensures executed { IfReplied result (λ said. (s : Statement)
@@ -109,6 +111,7 @@ fn answer_lines(
     requires may { refused_by_mode (mode_of session.old.mode) statement.now ≡ None }
     requires lines { AreItsLines cubes.now statement.now table }
     ensures at { IsAtCubes desk.new session.new cubes.now }
+    ensures opening { opening_of desk.new ≡ opening_of desk.old }
     ensures number { session.new.statements ≡ session.old.statements + 1 }
     ensures no_file { IfReplied result SpeaksOfNoFile }
     ensures executed { IfReplied result (ExecutesOnRows (Says statement.now)
@@ -134,6 +137,7 @@ fn refuse_lines(
     requires may { refused_by_mode (mode_of session.old.mode) statement.now ≡ None }
     requires fault { IsWhyUnbound cubes.now.schemas.items statement.now error }
     ensures at { IsAtCubes desk.new session.new cubes.now }
+    ensures opening { opening_of desk.new ≡ opening_of desk.old }
     ensures number { session.new.statements ≡ session.old.statements + 1 }
     ensures no_file { IfReplied result SpeaksOfNoFile }
     ensures executed { IfReplied result (ExecutesOnRows (Says statement.now)
@@ -160,6 +164,7 @@ pub fn select(
     requires form { is_select statement.now ≡ true }
     requires may { refused_by_mode (mode_of session.old.mode) statement.now ≡ None }
     ensures at { IsAtCubes desk.new session.new cubes.now }
+    ensures opening { opening_of desk.new ≡ opening_of desk.old }
     ensures number { session.new.statements ≡ session.old.statements + 1 }
     ensures no_file { IfReplied result SpeaksOfNoFile }
     ensures executed { IfReplied result (ExecutesOnRows (Says statement.now)

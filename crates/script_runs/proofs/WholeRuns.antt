@@ -19,7 +19,7 @@ use Rattle.played_scripts.proofs.Played.{merge_of_played, text_of_played}
 use Rattle.one_session.specs.Changes.{AreNamedApart}
 use Rattle.one_session.specs.Pasts.{Beginning, EndsWithMore, GoesOn, SessionPast}
 use Rattle.one_session.proofs.Ends.{has_played}
-use Rattle.aosi_desk.specs.Desks.{AreCubes, DeskState, IsLegalDesk}
+use Rattle.aosi_desk.specs.Desks.{AreCubes, DeskOpening, DeskState, IsLegalDesk, decl_names, opening_desk, opening_of}
 use Rattle.session_desk.specs.declared.session.Session.{Session}
 use Rattle.session_desk.specs.Ended.{EndsAtDesk, HasEnded}
 use Rattle.session_desk.specs.Standing.{StandsBehind, World, session_state}
@@ -224,11 +224,14 @@ counters_if_ended told declared script true replies last held journal told_last 
     ∙ ap (counters 0) (sym is)
 counters_if_ended told declared script false replies last held journal told_last h is are = tt
 
-pub legal_in_the_end : (last : DeskState) (journal : List JournalEntry) → IsLegalDesk last
-    → journal ≡ last.register.journal → LeavesLegal journal
-legal_in_the_end last journal legal is = (
-  last.register.safe,
-  legal.opening,
-  legal.names,
-  subst (IsLegal last.register.safe legal.opening legal.names) (sym is) legal.legal,
-)
+-- The desk has kept what it opened with, so its journal is legal over that.
+pub legal_in_the_end : (declared : List Decl) (first last : DeskState) (journal : List JournalEntry)
+    → first ≡ opening_desk 0 1 declared → opening_of last ≡ opening_of first → IsLegalDesk last
+    → journal ≡ last.register.journal → LeavesLegal declared journal
+legal_in_the_end declared first last journal opens kept legal is =
+    let same : opening_of last ≡ record { safe = 0; cubes = declared } = kept ∙ ap opening_of opens in (
+      legal.names,
+      subst (IsLegal 0 (decl_names declared) legal.names) (sym is)
+          (subst (λ (o : DeskOpening). IsLegal o.safe (decl_names o.cubes) legal.names last.register.journal) same
+          legal.legal),
+    )

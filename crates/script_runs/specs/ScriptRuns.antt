@@ -10,7 +10,7 @@ use Rattle.cube_run.specs.FinalNames.{FinalNamesFit}
 use Rattle.cube_run.specs.Merge.{IsMerge}
 use Rattle.cube_run.specs.RunRecords.{IsLegalRun, LoadedFile, RunRecord, Sentence}
 use Rattle.cube_run.specs.RunText.{IsText}
-use Rattle.aosi_desk.specs.Desks.{AreCubes, DeskState}
+use Rattle.aosi_desk.specs.Desks.{AreCubes, DeskState, decl_names}
 use Rattle.script_sentences.specs.declared.said.Said.{Said}
 use Rattle.session_desk.specs.Ended.{EndsAtDesk}
 use Rattle.session_desk.specs.declared.session.Session.{Session}
@@ -48,11 +48,10 @@ pub record RunsWhole (told : Option (List (List ℕ × List ℕ))) (cubes : List
   pub as_told : AreFilesTold told files 1 script replies
   pub whole : IsRunInFull (script_run cubes script files names journal) replies
 
--- A script has left a journal that is legal over a store that had kept epochs up to some safe one, for statements that
--- speak of some cubes.
-abbrev pub LeavesLegal : List JournalEntry → Type 0
-LeavesLegal journal =
-    (safe : ℕ) × (cubes : List (List ℕ)) × (names : List (List ℕ)) × IsLegal safe cubes names journal
+-- A script over these cubes has left a journal that is legal, for statements that speak of cubes of some names. No store
+-- is there.
+abbrev pub LeavesLegal : List Decl → List JournalEntry → Type 0
+LeavesLegal cubes journal = (names : List (List ℕ)) × IsLegal 0 (decl_names cubes) names journal
 
 -- Whatever the session has played before from this shelf, it has then played these texts as well, and its script has
 -- ended at the desk.

@@ -3,7 +3,7 @@
 ghost use Rattle.std.specs.Prelude.{◌≡◌, ◌+◌, ◌≤◌, [], IfOk, OnErr, length, map, vec_capacity, vec_len};
 ghost use Rattle.std.specs.Bool.{OnTrue};
 ghost use Rattle.std.specs.List.{AllByRecursion};
-ghost use Rattle.aosi_desk.specs.Desks.{AreCubes};
+ghost use Rattle.aosi_desk.specs.Desks.{AreCubes, opening_of};
 ghost use Rattle.cube_journal.specs.Counters.{counters};
 ghost use Rattle.names_dict.specs.Dictionaries.{names_of};
 ghost use Rattle.script_runs.specs.ScriptRuns.{LeavesLegal, PlaysToTheEnd, RunsWhole};
@@ -45,7 +45,8 @@ pub struct Ran {
 fn end_script(desk: &mut Desk, session: &mut Session) -> bool
     requires at { IsAtDesk desk.old session.old }
     requires few { session.old.statements ≤ MOST_STATEMENTS }
-    ensures { OnTrue result (EndsAtDesk desk.old session.old desk.new) }
+    ensures opening { opening_of desk.new ≡ opening_of desk.old }
+    ensures ended { OnTrue result (EndsAtDesk desk.old session.old desk.new) }
 {
     end(desk, session);
     match close(desk, session) {
@@ -68,6 +69,7 @@ fn play_whole<S: Shelf>(
     requires few { session.old.statements + length script.items ≤ MOST_STATEMENTS }
     requires forms { AllByRecursion IsRunnable script.items }
     requires room { vec_len replies.old + length script.items ≤ vec_capacity replies.old }
+    ensures opening { opening_of desk.new ≡ opening_of desk.old }
     ensures same { S.told shelf.new ≡ S.told shelf.old }
     ensures later { S.fault_count shelf.old ≤ S.fault_count shelf.new }
     ensures counted { OnTrue result (GainsReplies replies.old.items replies.new.items
@@ -106,7 +108,7 @@ pub fn run_script<S: Shelf>(
     ensures counted { IfOk result (λ ran. OnTrue ran.whole (GainsReplies [] ran.replies.items
         (S.fault_count shelf.old) (S.fault_count shelf.new)
         (S.absence_count shelf.old) (S.absence_count shelf.new))) }
-    ensures legal { IfOk result (λ ran. LeavesLegal ran.journal.items) }
+    ensures legal { IfOk result (λ ran. LeavesLegal declared.items ran.journal.items) }
     ensures unasked { OnErr result (S.call_list shelf.new ≡ S.call_list shelf.old) }
     ensures quiet { OnErr result (S.fault_count shelf.new ≡ S.fault_count shelf.old) }
     ensures none_absent { OnErr result (S.absence_count shelf.new ≡ S.absence_count shelf.old) }

@@ -28,6 +28,7 @@ desk_more desk es more =
     ap (λ (journal : List JournalEntry). record {
       register = record { safe = desk.register.safe; sessions = desk.register.sessions; journal = journal };
       cubes = desk.cubes;
+      opening = desk.opening;
     }) (append_assoc desk.register.journal es more)
 
 -- These entries leave served whom a desk served.

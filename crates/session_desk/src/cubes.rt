@@ -1,6 +1,7 @@
 //! CREATE CUBE.
 
 ghost use Rattle.std.specs.Prelude.{◌≡◌, ◌+◌, ◌<◌, None, Some, IfOk, length, vec_capacity};
+ghost use Rattle.aosi_desk.specs.Desks.{opening_of};
 ghost use Rattle.cube_language.specs.declared.statement.Statement.TheVariants as statement;
 ghost use Rattle.cube_language.specs.Cubes.{IsStorable, schema_fault};
 ghost use Rattle.cube_journal.specs.declared.refusal.Refusal.TheVariants as cause;
@@ -69,6 +70,7 @@ fn create_named(
     requires checked { schema ≡ decl }
     requires room { length cubes.old.items < vec_capacity cubes.old }
     ensures at { IsAtDesk desk.new session.new }
+    ensures opening { opening_of desk.new ≡ opening_of desk.old }
     ensures number { session.new.statements ≡ session.old.statements + 1 }
     ensures cubes { desk.new.cubes ≡ cubes_after_create desk.old.cubes decl result }
     ensures moves { MovesOn None desk.old desk.new }
@@ -102,6 +104,7 @@ fn refuse_create(desk: &mut Desk, session: &mut Session, decl: &Decl) -> Answere
     requires at { IsAtDesk desk.old session.old }
     requires few { session.old.statements < MOST_STATEMENTS }
     ensures at { IsAtDesk desk.new session.new }
+    ensures opening { opening_of desk.new ≡ opening_of desk.old }
     ensures number { session.new.statements ≡ session.old.statements + 1 }
     ensures cubes { desk.new.cubes ≡ desk.old.cubes }
     ensures moves { MovesOn None desk.old desk.new }
@@ -129,6 +132,7 @@ fn create_with_room(
     requires checked { schema ≡ decl }
     requires room { length cubes.old.items < vec_capacity cubes.old }
     ensures at { IsAtDesk desk.new session.new }
+    ensures opening { opening_of desk.new ≡ opening_of desk.old }
     ensures number { session.new.statements ≡ session.old.statements + 1 }
     ensures cubes { desk.new.cubes ≡ cubes_after_create desk.old.cubes decl result }
     ensures moves { MovesOn None desk.old desk.new }
@@ -160,6 +164,7 @@ fn create_storable(
     requires storable { IsStorable decl }
     requires checked { schema ≡ decl }
     ensures at { IsAtDesk desk.new session.new }
+    ensures opening { opening_of desk.new ≡ opening_of desk.old }
     ensures number { session.new.statements ≡ session.old.statements + 1 }
     ensures cubes { desk.new.cubes ≡ cubes_after_create desk.old.cubes decl result }
     ensures moves { MovesOn None desk.old desk.new }
@@ -184,6 +189,7 @@ fn refuse_fault(desk: &mut Desk, session: &mut Session, decl: &Decl, fault: Sche
     requires idle { mode_of session.old.mode ≡ Idle }
     requires fault { schema_fault decl.now ≡ Some fault }
     ensures at { IsAtDesk desk.new session.new }
+    ensures opening { opening_of desk.new ≡ opening_of desk.old }
     ensures number { session.new.statements ≡ session.old.statements + 1 }
     ensures cubes { desk.new.cubes ≡ desk.old.cubes }
     ensures moves { MovesOn None desk.old desk.new }
@@ -210,6 +216,7 @@ pub fn create_cube(
     requires few { session.old.statements < MOST_STATEMENTS }
     requires may { refused_by_mode (mode_of session.old.mode) (statement.CreateCube decl) ≡ None }
     ensures at { IsAtDesk desk.new session.new }
+    ensures opening { opening_of desk.new ≡ opening_of desk.old }
     ensures number { session.new.statements ≡ session.old.statements + 1 }
     ensures cubes { desk.new.cubes ≡ cubes_after_create desk.old.cubes decl result }
     ensures moves { MovesOn None desk.old desk.new }

@@ -1,6 +1,7 @@
 //! The end of the script, and the closing round.
 
 ghost use Rattle.std.specs.Prelude.{◌≡◌, ◌≤◌, OnOk, OnErr, None};
+ghost use Rattle.aosi_desk.specs.Desks.{opening_of};
 ghost use Rattle.one_session.specs.Pasts.{Beginning, SessionPast};
 ghost use Rattle.cube_run.specs.SessionStates.{SessionState};
 ghost use Rattle.aosi_register.specs.State.{state_of};
@@ -23,6 +24,7 @@ pub fn end(desk: &mut Desk, session: &mut Session)
     requires at { IsAtDesk desk.old session.old }
     requires few { session.old.statements ≤ MOST_STATEMENTS }
     ensures at { IsAtDesk desk.new session.new }
+    ensures opening { opening_of desk.new ≡ opening_of desk.old }
     ensures closed { IsOpen session.new.mode → ⊥ }
     ensures ended { EndsAtDesk desk.old session.old desk.new }
     ensures cubes { desk.new.cubes ≡ desk.old.cubes }
@@ -39,6 +41,7 @@ pub fn end(desk: &mut Desk, session: &mut Session)
 pub fn close(desk: &mut Desk, session: &Session) -> Result<(), AllocError>
     requires at { IsAtDesk desk.old session.now }
     ensures at { IsAtDesk desk.new session.now }
+    ensures opening { opening_of desk.new ≡ opening_of desk.old }
     ensures ended { OnOk result ((beginning : Beginning) (past : SessionPast) (state : SessionState)
         → HasEnded beginning past state desk.old → HasEnded beginning past state desk.new) }
     ensures made { OnOk result (desk.new

@@ -1,6 +1,7 @@
 //! Statements that are not looked at further.
 
 ghost use Rattle.std.specs.Prelude.{◌≡◌, ◌+◌, ◌<◌, Some, None};
+ghost use Rattle.aosi_desk.specs.Desks.{opening_of};
 ghost use Rattle.cube_language.specs.declared.statement.Statement.{Statement};
 ghost use Rattle.cube_journal.specs.declared.refusal.Refusal.TheVariants as cause;
 ghost use Rattle.cube_journal.specs.declared.reply.Reply.TheVariants as reply;
@@ -24,6 +25,7 @@ pub fn refuse_syntax(desk: &mut Desk, session: &mut Session, fault: Syntax) -> A
     requires at { IsAtDesk desk.old session.old }
     requires few { session.old.statements < MOST_STATEMENTS }
     ensures at { IsAtDesk desk.new session.new }
+    ensures opening { opening_of desk.new ≡ opening_of desk.old }
     ensures number { session.new.statements ≡ session.old.statements + 1 }
     ensures cubes { desk.new.cubes ≡ desk.old.cubes }
     ensures moves { MovesOn None desk.old desk.new }
@@ -44,6 +46,7 @@ pub fn refuse_by_mode(desk: &mut Desk, session: &mut Session, refusal: Refusal) 
     requires refused { (s : Statement)
         × (refused_by_mode (mode_of session.old.mode) s ≡ Some refusal) }
     ensures at { IsAtDesk desk.new session.new }
+    ensures opening { opening_of desk.new ≡ opening_of desk.old }
     ensures number { session.new.statements ≡ session.old.statements + 1 }
     ensures cubes { desk.new.cubes ≡ desk.old.cubes }
     ensures moves { MovesOn None desk.old desk.new }
@@ -64,6 +67,7 @@ pub fn refuse_memory(desk: &mut Desk, session: &mut Session) -> Answered
     requires at { IsAtDesk desk.old session.old }
     requires few { session.old.statements < MOST_STATEMENTS }
     ensures at { IsAtDesk desk.new session.new }
+    ensures opening { opening_of desk.new ≡ opening_of desk.old }
     ensures number { session.new.statements ≡ session.old.statements + 1 }
     ensures cubes { desk.new.cubes ≡ desk.old.cubes }
     ensures moves { MovesOn None desk.old desk.new }

@@ -4,7 +4,7 @@ ghost use Rattle.std.specs.Prelude.{◌≡◌, ◌≢◌, false, OnOk, OnErr, No
 ghost use Rattle.cube_journal.specs.Refusals.{code};
 ghost use Rattle.cube_journal.specs.declared.journal_entry.JournalEntry.TheVariants as entry;
 ghost use Rattle.cube_journal.specs.declared.reply.Reply.TheVariants as reply;
-ghost use Rattle.aosi_desk.specs.Desks.{desk_with_entry, is_cube_code};
+ghost use Rattle.aosi_desk.specs.Desks.{desk_with_entry, is_cube_code, opening_of};
 ghost use Rattle.session_desk.specs.Executed.{IfReplied, OnStopped};
 ghost use Rattle.session_desk.specs.FileReplies.{IsRefusedUnread, SpeaksOfNoFile};
 ghost use Rattle.session_desk.specs.Moves.{MovesOn};
@@ -20,6 +20,7 @@ use std::alloc::AllocError;
 pub(crate) fn note_refusal(desk: &mut Desk, statement: u32, code: u32) -> Result<(), AllocError>
     requires cubes { is_cube_code code ≡ false }
     requires store { code ≢ 17 }
+    ensures opening { opening_of desk.new ≡ opening_of desk.old }
     ensures desk { OnOk result (desk.new
         ≡ desk_with_entry desk.old (entry.Refused 1 statement code)) }
     ensures same { OnErr result (desk.new ≡ desk.old) }
@@ -37,6 +38,7 @@ pub(crate) fn note_refusal(desk: &mut Desk, statement: u32, code: u32) -> Result
 pub fn refuse(desk: &mut Desk, statement: u32, refusal: Refusal) -> Answered
     requires cubes { is_cube_code (code refusal) ≡ false }
     requires store { code refusal ≢ 17 }
+    ensures opening { opening_of desk.new ≡ opening_of desk.old }
     ensures said { IfReplied result (λ said. said ≡ reply.Refused refusal) }
     ensures desk { IfReplied result (λ said. desk.new
         ≡ desk_with_entry desk.old (entry.Refused 1 statement (code refusal))) }

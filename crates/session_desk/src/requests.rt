@@ -8,7 +8,7 @@ ghost use Rattle.cube_journal.specs.Legal.{WasFlushed};
 ghost use Rattle.cube_journal.specs.declared.journal_entry.JournalEntry.TheVariants as entry;
 ghost use Rattle.cube_journal.specs.declared.reply.Reply.TheVariants as reply;
 ghost use Rattle.aosi_register.specs.State.{state_of};
-ghost use Rattle.aosi_desk.specs.Desks.{desk_with_entry};
+ghost use Rattle.aosi_desk.specs.Desks.{desk_with_entry, opening_of};
 ghost use Rattle.session_desk.specs.Executed.{ExecutesAtDesk, IfReplied, OnStopped};
 ghost use Rattle.session_desk.specs.FileReplies.{SpeaksOfNoFile};
 ghost use Rattle.session_desk.specs.Moves.{MovesOn, OpenStays};
@@ -24,6 +24,7 @@ use cube_language::MOST_STATEMENTS;
 /// Notes a FLUSH, once its round is made, and answers it with the latest safe epoch.
 fn note_flush(desk: &mut Desk, statement: u32) -> Answered
     requires { WasFlushed 1 desk.old.register.journal }
+    ensures opening { opening_of desk.new ≡ opening_of desk.old }
     ensures desk { IfReplied result (λ said. desk.new
         ≡ desk_with_entry desk.old (entry.Flushed 1 statement)) }
     ensures said { IfReplied result (λ said. said
@@ -50,6 +51,7 @@ pub fn flush(desk: &mut Desk, session: &mut Session) -> Answered
     requires at { IsAtDesk desk.old session.old }
     requires few { session.old.statements < MOST_STATEMENTS }
     ensures at { IsAtDesk desk.new session.new }
+    ensures opening { opening_of desk.new ≡ opening_of desk.old }
     ensures number { session.new.statements ≡ session.old.statements + 1 }
     ensures cubes { desk.new.cubes ≡ desk.old.cubes }
     ensures moves { MovesOn None desk.old desk.new }
@@ -70,6 +72,7 @@ pub fn purge(desk: &mut Desk, session: &mut Session) -> Answered
     requires at { IsAtDesk desk.old session.old }
     requires few { session.old.statements < MOST_STATEMENTS }
     ensures at { IsAtDesk desk.new session.new }
+    ensures opening { opening_of desk.new ≡ opening_of desk.old }
     ensures number { session.new.statements ≡ session.old.statements + 1 }
     ensures cubes { desk.new.cubes ≡ desk.old.cubes }
     ensures moves { MovesOn None desk.old desk.new }
@@ -96,6 +99,7 @@ pub fn show_epochs(desk: &mut Desk, session: &mut Session) -> Answered
     requires at { IsAtDesk desk.old session.old }
     requires few { session.old.statements < MOST_STATEMENTS }
     ensures at { IsAtDesk desk.new session.new }
+    ensures opening { opening_of desk.new ≡ opening_of desk.old }
     ensures number { session.new.statements ≡ session.old.statements + 1 }
     ensures cubes { desk.new.cubes ≡ desk.old.cubes }
     ensures moves { MovesOn None desk.old desk.new }

@@ -5,7 +5,7 @@ ghost use Rattle.std.specs.Bool.{OnTrue};
 ghost use Rattle.cube_journal.specs.Legal.{MayAskRound, WasFlushed, WasSafe};
 ghost use Rattle.aosi_register.specs.State.{state_of};
 ghost use Rattle.cube_journal.specs.declared.journal_entry.JournalEntry.TheVariants as entry;
-ghost use Rattle.aosi_desk.specs.Desks.{desk_with_entry};
+ghost use Rattle.aosi_desk.specs.Desks.{desk_with_entry, opening_of};
 ghost use Rattle.session_desk.specs.AtDesk.{KeepsServing, desk_with_entries};
 ghost use Rattle.session_desk.specs.Entries.{HasFollowed, HasNotes, round_entries};
 ghost use Rattle.session_desk.specs.Moves.{MovesOn};
@@ -19,6 +19,7 @@ use std::alloc::AllocError;
 /// Makes a round up to the target, if there is anything to keep. The only error is out of memory.
 pub(crate) fn make_round(desk: &mut Desk) -> Result<(), AllocError>
     requires { MayAskRound (state_of desk.old.register) }
+    ensures opening { opening_of desk.new ≡ opening_of desk.old }
     ensures made { OnOk result (desk.new
         ≡ desk_with_entries desk.old (round_entries (state_of desk.old.register))) }
     ensures same { OnErr result (desk.new ≡ desk.old) }
@@ -34,6 +35,7 @@ pub(crate) fn make_round(desk: &mut Desk) -> Result<(), AllocError>
 
 /// Notes the refusal for want of memory. False where the journal has no memory for that.
 fn note_no_memory(desk: &mut Desk, statement: u32) -> bool
+    ensures opening { opening_of desk.new ≡ opening_of desk.old }
     ensures noted { OnTrue result (desk.new
         ≡ desk_with_entry desk.old (entry.Refused 1 statement 16)) }
     ensures kept { KeepsServing desk.old desk.new }
@@ -48,6 +50,7 @@ fn note_no_memory(desk: &mut Desk, statement: u32) -> bool
 /// Notes a purge at the latest safe epoch. False where the journal has no memory for it.
 fn note_purge(desk: &mut Desk, statement: u32, epoch: u64) -> bool
     requires { WasSafe desk.old.register.safe 1 epoch desk.old.register.journal }
+    ensures opening { opening_of desk.new ≡ opening_of desk.old }
     ensures noted { OnTrue result (desk.new
         ≡ desk_with_entry desk.old (entry.Purged 1 statement epoch)) }
     ensures kept { KeepsServing desk.old desk.new }
@@ -67,6 +70,7 @@ fn note_purge(desk: &mut Desk, statement: u32, epoch: u64) -> bool
 /// Notes what FLUSH and then PURGE note, once a round is made. False where the journal has no memory for it.
 fn note_round(desk: &mut Desk, statement: u32) -> bool
     requires { WasFlushed 1 desk.old.register.journal }
+    ensures opening { opening_of desk.new ≡ opening_of desk.old }
     ensures noted { OnTrue result (HasNotes statement desk.old desk.new) }
     ensures kept { KeepsServing desk.old desk.new }
     ensures moves { MovesOn None desk.old desk.new }
@@ -84,6 +88,7 @@ fn note_round(desk: &mut Desk, statement: u32) -> bool
 /// Does what FLUSH and then PURGE do, after a commit. False where the journal has no memory for a note.
 fn round_after_commit(desk: &mut Desk, statement: u32) -> bool
     requires { MayAskRound (state_of desk.old.register) }
+    ensures opening { opening_of desk.new ≡ opening_of desk.old }
     ensures followed { OnTrue result (HasFollowed statement true desk.old desk.new) }
     ensures kept { KeepsServing desk.old desk.new }
     ensures moves { MovesOn None desk.old desk.new }
@@ -97,6 +102,7 @@ fn round_after_commit(desk: &mut Desk, statement: u32) -> bool
 /// Does so where a round is due. False where the journal has no memory for a note.
 pub fn follow_commit(desk: &mut Desk, statement: u32, is_due: bool) -> bool
     requires { MayAskRound (state_of desk.old.register) }
+    ensures opening { opening_of desk.new ≡ opening_of desk.old }
     ensures followed { OnTrue result (HasFollowed statement is_due desk.old desk.new) }
     ensures kept { KeepsServing desk.old desk.new }
     ensures moves { MovesOn None desk.old desk.new }

@@ -1,6 +1,7 @@
 //! BEGIN, COMMIT and ROLLBACK.
 
 ghost use Rattle.std.specs.Prelude.{◌≡◌, ◌+◌, ◌<◌, None};
+ghost use Rattle.aosi_desk.specs.Desks.{opening_of};
 ghost use Rattle.cube_language.specs.declared.statement.Statement.TheVariants as statement;
 ghost use Rattle.cube_run.specs.RunRecords.{Says};
 ghost use Rattle.cube_run.specs.StepOutcomes.{refused_by_mode};
@@ -26,6 +27,7 @@ pub fn begin(desk: &mut Desk, session: &mut Session) -> Answered
     requires few { session.old.statements < MOST_STATEMENTS }
     requires may { refused_by_mode (mode_of session.old.mode) statement.Begin ≡ None }
     ensures at { IsAtDesk desk.new session.new }
+    ensures opening { opening_of desk.new ≡ opening_of desk.old }
     ensures number { session.new.statements ≡ session.old.statements + 1 }
     ensures cubes { desk.new.cubes ≡ desk.old.cubes }
     ensures moves { MovesOn None desk.old desk.new }
@@ -62,6 +64,7 @@ pub fn commit(desk: &mut Desk, session: &mut Session) -> Answered
     requires few { session.old.statements < MOST_STATEMENTS }
     requires may { refused_by_mode (mode_of session.old.mode) statement.Commit ≡ None }
     ensures at { IsAtDesk desk.new session.new }
+    ensures opening { opening_of desk.new ≡ opening_of desk.old }
     ensures number { session.new.statements ≡ session.old.statements + 1 }
     ensures cubes { desk.new.cubes ≡ desk.old.cubes }
     ensures moves { MovesOn (epoch_open_in (mode_of session.old.mode)) desk.old desk.new }
@@ -89,6 +92,7 @@ fn roll_back_open(desk: &mut Desk, session: &mut Session) -> Answered
     requires few { session.old.statements < MOST_STATEMENTS }
     requires open { IsOpen session.old.mode }
     ensures at { IsAtDesk desk.new session.new }
+    ensures opening { opening_of desk.new ≡ opening_of desk.old }
     ensures number { session.new.statements ≡ session.old.statements + 1 }
     ensures cubes { desk.new.cubes ≡ desk.old.cubes }
     ensures moves { MovesOn None desk.old desk.new }
@@ -110,6 +114,7 @@ fn clear(desk: &mut Desk, session: &mut Session, epoch: u64) -> Answered
     requires few { session.old.statements < MOST_STATEMENTS }
     requires aborted { session.old.mode ≡ variant.Aborted epoch }
     ensures at { IsAtDesk desk.new session.new }
+    ensures opening { opening_of desk.new ≡ opening_of desk.old }
     ensures number { session.new.statements ≡ session.old.statements + 1 }
     ensures cubes { desk.new.cubes ≡ desk.old.cubes }
     ensures moves { MovesOn None desk.old desk.new }
@@ -139,6 +144,7 @@ pub fn rollback(desk: &mut Desk, session: &mut Session) -> Answered
     requires few { session.old.statements < MOST_STATEMENTS }
     requires may { refused_by_mode (mode_of session.old.mode) statement.Rollback ≡ None }
     ensures at { IsAtDesk desk.new session.new }
+    ensures opening { opening_of desk.new ≡ opening_of desk.old }
     ensures number { session.new.statements ≡ session.old.statements + 1 }
     ensures cubes { desk.new.cubes ≡ desk.old.cubes }
     ensures moves { MovesOn None desk.old desk.new }

@@ -5,7 +5,7 @@ ghost use Rattle.cube_journal.specs.declared.journal_entry.JournalEntry.TheVaria
 ghost use Rattle.cube_run.specs.RunRecords.{Says, cube_called};
 ghost use Rattle.cube_run.specs.StepOutcomes.{refused_by_mode};
 ghost use Rattle.query_plan.specs.Bindings.{FailsOnCube, IsBindFault, LacksCube};
-ghost use Rattle.aosi_desk.specs.Desks.{desk_with_entry};
+ghost use Rattle.aosi_desk.specs.Desks.{desk_with_entry, opening_of};
 ghost use Rattle.session_replies.specs.Modes.{mode_of};
 ghost use Rattle.session_desk.specs.AtDesk.{IsAtDesk};
 ghost use Rattle.session_desk.specs.Entries.{HasRefusal};
@@ -26,6 +26,7 @@ use std::alloc::AllocError;
 /// Adds the entry which says that no cube has a name. The only error is out of memory.
 fn note_unknown(desk: &mut Desk, statement: u32, name: &str) -> Result<(), AllocError>
     requires { cube_called desk.old.cubes name.now ≡ None }
+    ensures opening { opening_of desk.new ≡ opening_of desk.old }
     ensures desk { OnOk result (desk.new
         ≡ desk_with_entry desk.old (entry.Refused 1 statement 2)) }
     ensures same { OnErr result (desk.new ≡ desk.old) }
@@ -48,6 +49,7 @@ fn refuse_unknown(
     requires may { refused_by_mode (mode_of session.old.mode) statement.now ≡ None }
     requires lacks { LacksCube desk.old.cubes statement.now name }
     ensures at { IsAtDesk desk.new session.new }
+    ensures opening { opening_of desk.new ≡ opening_of desk.old }
     ensures number { session.new.statements ≡ session.old.statements + 1 }
     ensures cubes { desk.new.cubes ≡ desk.old.cubes }
     ensures counted { session.new
@@ -82,6 +84,7 @@ fn refuse_unfit(
     requires may { refused_by_mode (mode_of session.old.mode) statement.now ≡ None }
     requires fails { FailsOnCube desk.old.cubes statement.now misfit }
     ensures at { IsAtDesk desk.new session.new }
+    ensures opening { opening_of desk.new ≡ opening_of desk.old }
     ensures number { session.new.statements ≡ session.old.statements + 1 }
     ensures cubes { desk.new.cubes ≡ desk.old.cubes }
     ensures counted { session.new
@@ -113,6 +116,7 @@ pub fn refuse_unbound(
     requires may { refused_by_mode (mode_of session.old.mode) statement.now ≡ None }
     requires fault { IsBindFault desk.old.cubes statement.now fault }
     ensures at { IsAtDesk desk.new session.new }
+    ensures opening { opening_of desk.new ≡ opening_of desk.old }
     ensures number { session.new.statements ≡ session.old.statements + 1 }
     ensures cubes { desk.new.cubes ≡ desk.old.cubes }
     ensures counted { session.new

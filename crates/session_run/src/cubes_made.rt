@@ -1,6 +1,7 @@
 //! CREATE CUBE.
 
 ghost use Rattle.std.specs.Prelude.{◌≡◌, ◌+◌, ◌<◌, None};
+ghost use Rattle.aosi_desk.specs.Desks.{opening_of};
 ghost use Rattle.cube_language.specs.declared.statement.Statement.TheVariants as statement;
 ghost use Rattle.cube_run.specs.RunRecords.{Says};
 ghost use Rattle.cube_run.specs.StepOutcomes.{refused_by_mode};
@@ -41,6 +42,7 @@ pub fn create_cube(
     requires few { session.old.statements < MOST_STATEMENTS }
     requires may { refused_by_mode (mode_of session.old.mode) (statement.CreateCube decl) ≡ None }
     ensures at { IsAtCubes desk.new session.new cubes.new }
+    ensures opening { opening_of desk.new ≡ opening_of desk.old }
     ensures number { session.new.statements ≡ session.old.statements + 1 }
     ensures no_file { IfReplied result SpeaksOfNoFile }
     ensures names { cubes.new.names ≡ cubes.old.names }

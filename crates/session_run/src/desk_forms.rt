@@ -1,6 +1,7 @@
 //! Statements that end nothing and touch no rows.
 
 ghost use Rattle.std.specs.Prelude.{◌≡◌, ◌+◌, ◌<◌, Some, None};
+ghost use Rattle.aosi_desk.specs.Desks.{opening_of};
 ghost use Rattle.cube_language.specs.declared.statement.Statement.{Statement};
 ghost use Rattle.cube_language.specs.declared.statement.Statement.TheVariants as statement;
 ghost use Rattle.cube_run.specs.RunRecords.{Says, SaysNone, Sentence};
@@ -22,6 +23,7 @@ pub fn begin(desk: &mut Desk, session: &mut Session, cubes: &Cubes) -> Answered
     requires few { session.old.statements < MOST_STATEMENTS }
     requires may { refused_by_mode (mode_of session.old.mode) statement.Begin ≡ None }
     ensures at { IsAtCubes desk.new session.new cubes.now }
+    ensures opening { opening_of desk.new ≡ opening_of desk.old }
     ensures number { session.new.statements ≡ session.old.statements + 1 }
     ensures no_file { IfReplied result SpeaksOfNoFile }
     ensures executed { IfReplied result (ExecutesOnRows (Says statement.Begin)
@@ -35,6 +37,7 @@ pub fn flush(desk: &mut Desk, session: &mut Session, cubes: &Cubes) -> Answered
     requires at { IsAtCubes desk.old session.old cubes.now }
     requires few { session.old.statements < MOST_STATEMENTS }
     ensures at { IsAtCubes desk.new session.new cubes.now }
+    ensures opening { opening_of desk.new ≡ opening_of desk.old }
     ensures number { session.new.statements ≡ session.old.statements + 1 }
     ensures no_file { IfReplied result SpeaksOfNoFile }
     ensures executed { IfReplied result (ExecutesOnRows (Says statement.Flush)
@@ -48,6 +51,7 @@ pub fn purge(desk: &mut Desk, session: &mut Session, cubes: &Cubes) -> Answered
     requires at { IsAtCubes desk.old session.old cubes.now }
     requires few { session.old.statements < MOST_STATEMENTS }
     ensures at { IsAtCubes desk.new session.new cubes.now }
+    ensures opening { opening_of desk.new ≡ opening_of desk.old }
     ensures number { session.new.statements ≡ session.old.statements + 1 }
     ensures no_file { IfReplied result SpeaksOfNoFile }
     ensures executed { IfReplied result (ExecutesOnRows (Says statement.Purge)
@@ -61,6 +65,7 @@ pub fn show_epochs(desk: &mut Desk, session: &mut Session, cubes: &Cubes) -> Ans
     requires at { IsAtCubes desk.old session.old cubes.now }
     requires few { session.old.statements < MOST_STATEMENTS }
     ensures at { IsAtCubes desk.new session.new cubes.now }
+    ensures opening { opening_of desk.new ≡ opening_of desk.old }
     ensures number { session.new.statements ≡ session.old.statements + 1 }
     ensures no_file { IfReplied result SpeaksOfNoFile }
     ensures executed { IfReplied result (ExecutesOnRows (Says statement.ShowEpochs)
@@ -79,6 +84,7 @@ pub fn refuse_syntax(
     requires at { IsAtCubes desk.old session.old cubes.now }
     requires few { session.old.statements < MOST_STATEMENTS }
     ensures at { IsAtCubes desk.new session.new cubes.now }
+    ensures opening { opening_of desk.new ≡ opening_of desk.old }
     ensures number { session.new.statements ≡ session.old.statements + 1 }
     ensures no_file { IfReplied result SpeaksOfNoFile }
     ensures executed { IfReplied result (ExecutesOnRows (SaysNone fault.at)
@@ -99,6 +105,7 @@ pub fn refuse_by_mode(
     requires refused { (s : Statement)
         × (refused_by_mode (mode_of session.old.mode) s ≡ Some refusal) }
     ensures at { IsAtCubes desk.new session.new cubes.now }
+    ensures opening { opening_of desk.new ≡ opening_of desk.old }
     ensures number { session.new.statements ≡ session.old.statements + 1 }
     ensures no_file { IfReplied result SpeaksOfNoFile }
     ensures unread { IfReplied result IsRefusedUnread }
@@ -115,6 +122,7 @@ pub fn refuse_memory(desk: &mut Desk, session: &mut Session, cubes: &Cubes) -> A
     requires at { IsAtCubes desk.old session.old cubes.now }
     requires few { session.old.statements < MOST_STATEMENTS }
     ensures at { IsAtCubes desk.new session.new cubes.now }
+    ensures opening { opening_of desk.new ≡ opening_of desk.old }
     ensures number { session.new.statements ≡ session.old.statements + 1 }
     ensures no_file { IfReplied result SpeaksOfNoFile }
     ensures executed { IfReplied result (λ said. (sentence : Sentence)

@@ -1,6 +1,7 @@
 //! A statement, by its form.
 
 ghost use Rattle.std.specs.Prelude.{◌≡◌, ◌+◌, ◌<◌, ◌≤◌, None};
+ghost use Rattle.aosi_desk.specs.Desks.{opening_of};
 ghost use Rattle.cube_run.specs.RunRecords.{Says};
 ghost use Rattle.cube_run.specs.StepOutcomes.{refused_by_mode};
 ghost use Rattle.session_replies.specs.Modes.{mode_of};
@@ -39,6 +40,7 @@ fn exec_on_rows<S: Shelf>(
     requires form { IsOnRows statement.now }
     requires may { refused_by_mode (mode_of session.old.mode) statement.now ≡ None }
     ensures at { IsAtCubes desk.new session.new cubes.new }
+    ensures opening { opening_of desk.new ≡ opening_of desk.old }
     ensures number { session.new.statements ≡ session.old.statements + 1 }
     ensures same { S.told shelf.new ≡ S.told shelf.old }
     ensures later { S.fault_count shelf.old ≤ S.fault_count shelf.new }
@@ -73,6 +75,7 @@ fn exec_allowed<S: Shelf>(
     requires form { IsWatching statement → ⊥ }
     requires may { refused_by_mode (mode_of session.old.mode) statement ≡ None }
     ensures at { IsAtCubes desk.new session.new cubes.new }
+    ensures opening { opening_of desk.new ≡ opening_of desk.old }
     ensures number { session.new.statements ≡ session.old.statements + 1 }
     ensures same { S.told shelf.new ≡ S.told shelf.old }
     ensures later { S.fault_count shelf.old ≤ S.fault_count shelf.new }
@@ -110,6 +113,7 @@ pub fn exec<S: Shelf>(
     requires few { session.old.statements < MOST_STATEMENTS }
     requires form { IsWatching statement → ⊥ }
     ensures at { IsAtCubes desk.new session.new cubes.new }
+    ensures opening { opening_of desk.new ≡ opening_of desk.old }
     ensures number { session.new.statements ≡ session.old.statements + 1 }
     ensures same { S.told shelf.new ≡ S.told shelf.old }
     ensures later { S.fault_count shelf.old ≤ S.fault_count shelf.new }

@@ -1,6 +1,7 @@
 //! What the text of a statement says, and is executed.
 
 ghost use Rattle.std.specs.Prelude.{◌≡◌, ◌+◌, ◌<◌, ◌≤◌};
+ghost use Rattle.aosi_desk.specs.Desks.{opening_of};
 ghost use Rattle.session_desk.specs.Executed.{IfReplied};
 ghost use Rattle.session_rows.specs.CubesAtDesk.{IsAtCubes};
 ghost use Rattle.session_run.specs.Counted.{CountsAbsence, CountsFault};
@@ -31,6 +32,7 @@ pub fn exec_said<S: Shelf>(
     requires few { session.old.statements < MOST_STATEMENTS }
     requires form { IsRunnable said }
     ensures at { IsAtCubes desk.new session.new cubes.new }
+    ensures opening { opening_of desk.new ≡ opening_of desk.old }
     ensures number { session.new.statements ≡ session.old.statements + 1 }
     ensures same { S.told shelf.new ≡ S.told shelf.old }
     ensures later { S.fault_count shelf.old ≤ S.fault_count shelf.new }

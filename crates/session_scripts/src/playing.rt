@@ -1,6 +1,7 @@
 //! A script, statement by statement.
 
 ghost use Rattle.std.specs.Prelude.{◌≡◌, ◌+◌, ◌≤◌, length, vec_capacity, vec_len};
+ghost use Rattle.aosi_desk.specs.Desks.{opening_of};
 ghost use Rattle.std.specs.Bool.{OnTrue};
 ghost use Rattle.std.specs.List.{AllByRecursion};
 ghost use Rattle.session_rows.specs.CubesAtDesk.{IsAtCubes};
@@ -34,6 +35,7 @@ pub fn play<S: Shelf>(
     requires forms { AllByRecursion IsRunnable script.items }
     requires room { vec_len replies.old + length script.items ≤ vec_capacity replies.old }
     ensures at { IsAtCubes desk.new session.new cubes.new }
+    ensures opening { opening_of desk.new ≡ opening_of desk.old }
     ensures few { session.new.statements ≤ MOST_STATEMENTS }
     ensures same { S.told shelf.new ≡ S.told shelf.old }
     ensures later { S.fault_count shelf.old ≤ S.fault_count shelf.new }

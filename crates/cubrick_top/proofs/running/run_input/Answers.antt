@@ -47,5 +47,5 @@ returns-in-Err-clause-ended g c =
     c.args.input.cubes.items c.args.input.script.items (g.K.Sink.taken c.args.sink.now)
     (g.K.Sink.taken c.args.sink.now) c.finish.result) (sym c.finish.ensures.fault) (
       gained_none (g.K.Sink.taken c.args.sink.now),
-      nothing_is_legal c.finish.result.journal.items c.finish.ensures.journal,
+      nothing_is_legal c.args.input.cubes.items c.finish.result.journal.items c.finish.ensures.journal,
     )

@@ -81,5 +81,6 @@ returns-clause-counters g c =
 
 pub returns-clause-legal : goal.returns-clause-legal
 returns-clause-legal g c =
-    legal_in_the_end c.play_whole-whole.new.desk c.into_journal.result.items c.journal-legal.ensures.legal
-    c.into_journal.ensures
+    legal_in_the_end c.args.declared.items c.in_ok-desk.desk c.play_whole-whole.new.desk c.into_journal.result.items
+    (c.in_ok-desk.ensures ∙ ap (opening_desk 0 1) c.as_slice.ensures.value) c.play_whole-whole.ensures.opening
+    c.journal-legal.ensures.legal c.into_journal.ensures

@@ -52,6 +52,7 @@ script-preserved g c =
           let gone = c.in-Some.ensures.steps.1 in
           let short = ap (λ (left : List Said). length left) c.in-Some.ensures.steps.0 in
           omega (arith, was, gone, short),
+      c.exec_said.ensures.opening ∙ c.script.invariant.4,
     )
 
 pub returns-clause-played : goal.returns-clause-played

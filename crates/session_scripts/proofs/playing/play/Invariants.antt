@@ -1,5 +1,6 @@
 use Rattle.std.proofs.Common.{◌≡◌, length, vec_capacity}
 use Rattle.std.specs.Vec.Iter.{into_iter_items, into_iter_len}
+use Rattle.aosi_desk.specs.Desks.{opening_of}
 use Rattle.session_scripts.proofs.PlayedTexts.{StandsInScript}
 use Rattle.session_scripts.proofs.playing.play.Given as goal
 
@@ -21,3 +22,4 @@ invariant-script g l =
     })
     (record { desk = l.desk; session = l.session; cubes = l.cubes })
     × (into_iter_len l.said-iterator ≡ length (into_iter_items l.said-iterator))
+    × (opening_of l.desk ≡ opening_of l.fn.desk)

@@ -3,7 +3,8 @@ use Rattle.aosi_desk.proofs.desk.Desk.round_open.Goals as goal
 
 pub invariant_of-self-2 : goal.invariant_of-self-2
 invariant_of-self-2 c = (
-  keeps-other _ _ _ c.self.inside.cubes.items _ c.deref_mut.ensures.value
+  keeps-other _ _ _ _ c.self.inside.cubes.items _ c.deref_mut.ensures.value
       c.in_ok-answer.ensures.journal (answer_entry-other c.in_ok-answer.answer) c.self.invariant.0,
   c.self.invariant.1,
+  c.self.invariant.2,
 )
