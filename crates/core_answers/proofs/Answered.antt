@@ -1,7 +1,8 @@
 -- Each call on a cell has an answer that it may have, and so has each call of a history.
-use Rattle.std.proofs.Common.{◌≡◌, ℕ, ◌<◌, eqb, Bool, true, false, cond, List, [], ◌∷◌, ◌++◌, length, filter, refl, subst}
+use Rattle.std.proofs.Common.{◌≡◌, ◌∙◌, ℕ, ◌<◌, eqb, Bool, true, false, cond, List, [], ◌∷◌, ◌++◌, length, filter, refl, sym, ap, subst}
 use Rattle.std.proofs.lemmas.Bool.{eqb-false}
 use Rattle.std.specs.List.{AllByRecursion}
+use Rattle.cube_values.specs.declared.snapshot.Snapshot.{Snapshot}
 use Rattle.aosi_desk.specs.Desks.{DeskState}
 use Rattle.board_callers.specs.Callers.{HasHistoryOf}
 use Rattle.core_answers.specs.AnswersOfCalls.{DeskAnswers, NamesAnswers, MailAnswers, CoreAnswers, HaveAnswers}
@@ -20,6 +21,7 @@ use Rattle.core_cells.specs.declared.names.NamesAnswer.{NamesAnswer}
 use Rattle.core_cells.specs.declared.names.NamesAnswer.TheVariants as told
 use Rattle.core_cells.specs.declared.names.NamesCall.{NamesCall}
 use Rattle.core_cells.specs.declared.names.NamesCall.TheVariants as names
+use Rattle.core_events.specs.Clients.{reader_up_to, writer_at}
 use Rattle.core_events.specs.Events.{Opening}
 use Rattle.core_events.specs.Jobs.{CoreJob, JobOutcome}
 use Rattle.core_events.specs.ShardView.{ShardView}
@@ -41,9 +43,11 @@ use Rattle.turn_board.proofs.Places.{there as place-there}
 use Rattle.turn_board.specs.History.{of_cell, is_by_caller, LeadsTo, AllFitAfter}
 
 desk-answers : (d : DeskState) (c : DeskCall) (a : DeskAnswer) (new : DeskState) → DeskStep d c a new → DeskAnswers c a
-desk-answers d (desk.OpenWrite session statement) (said.Opened snapshot) new step = tt
+desk-answers d (desk.OpenWrite session statement) (said.Opened snapshot) new step =
+    step.0 ∙ ap (λ (s : Snapshot). writer_at s.epoch s.deps) (sym step.0)
 desk-answers d (desk.OpenWrite session statement) said.NoMemory new step = tt
-desk-answers d (desk.OpenRead number statement) (said.Opened snapshot) new step = tt
+desk-answers d (desk.OpenRead number statement) (said.Opened snapshot) new step =
+    step.0 ∙ ap (λ (s : Snapshot). reader_up_to s.epoch) (sym step.0)
 desk-answers d (desk.OpenRead number statement) said.NoMemory new step = tt
 desk-answers d (desk.Commit session statement) said.Done new step = tt
 desk-answers d (desk.AbortEnd session statement cause) said.Done new step = tt

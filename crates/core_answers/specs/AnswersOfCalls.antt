@@ -1,6 +1,6 @@
 -- Which answers a call on a cell may have.
 -- Source: this project's own.
-use Rattle.std.specs.Prelude.{List}
+use Rattle.std.specs.Prelude.{◌≡◌, List}
 use Rattle.std.specs.List.{AllByRecursion}
 use Rattle.core_cells.specs.declared.desk.DeskAnswer.{DeskAnswer}
 use Rattle.core_cells.specs.declared.desk.DeskAnswer.TheVariants as said
@@ -14,6 +14,7 @@ use Rattle.core_cells.specs.declared.names.NamesAnswer.{NamesAnswer}
 use Rattle.core_cells.specs.declared.names.NamesAnswer.TheVariants as told
 use Rattle.core_cells.specs.declared.names.NamesCall.{NamesCall}
 use Rattle.core_cells.specs.declared.names.NamesCall.TheVariants as names
+use Rattle.core_events.specs.Clients.{reader_up_to, writer_at}
 use Rattle.core_program.specs.CoreFits.{CoreEntry}
 use Rattle.cube_core.specs.declared.cell.CoreAnswer.{CoreAnswer}
 use Rattle.cube_core.specs.declared.cell.CoreAnswer.TheVariants as answer
@@ -22,11 +23,13 @@ use Rattle.cube_core.specs.declared.cell.CoreCall.TheVariants as call
 use Rattle.cube_core.specs.declared.jobs.Job.{Job}
 use Rattle.cube_core.specs.declared.jobs.JobAnswer.{JobAnswer}
 
--- The desk: where it has no memory, it says so of what asks for some.
+-- The desk: where it has no memory, it says so of what asks for some. It opens writers as writers, and readers as
+-- readers.
 abbrev pub DeskAnswers : DeskCall → DeskAnswer → Type 0
-DeskAnswers (desk.OpenWrite session statement) (said.Opened snapshot) = Unit {0}
+DeskAnswers (desk.OpenWrite session statement) (said.Opened snapshot) =
+    snapshot ≡ writer_at snapshot.epoch snapshot.deps
 DeskAnswers (desk.OpenWrite session statement) said.NoMemory = Unit {0}
-DeskAnswers (desk.OpenRead number statement) (said.Opened snapshot) = Unit {0}
+DeskAnswers (desk.OpenRead number statement) (said.Opened snapshot) = snapshot ≡ reader_up_to snapshot.epoch
 DeskAnswers (desk.OpenRead number statement) said.NoMemory = Unit {0}
 DeskAnswers (desk.Commit session statement) said.Done = Unit {0}
 DeskAnswers (desk.AbortEnd session statement cause) said.Done = Unit {0}

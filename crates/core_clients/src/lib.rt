@@ -3,4 +3,7 @@
 
 mod law;
 
-pub use law::{clients_fit_by_what_they_know, clients_learn_by_each_call};
+pub use law::{
+    clients_fit_by_what_they_know, clients_know_their_runs, clients_learn_by_each_call,
+    own_calls_go_on,
+};

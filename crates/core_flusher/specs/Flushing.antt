@@ -1,12 +1,14 @@
--- What the flusher knows by its own calls, and the calls that then fit: it is a client, and serves its own mail.
+-- What the flusher knows by its own calls as the worker of its own mail, and the calls that then fit. It is a client
+-- besides.
 -- Source: this project's own.
-use Rattle.std.specs.Prelude.{◌≡◌, ℕ, List, ◌∷◌, Some}
+use Rattle.std.specs.Prelude.{◌≡◌, ℕ, List, [], ◌∷◌, Some}
 use Rattle.core_board.specs.Links.{AreEventsOf}
 use Rattle.core_board_cells.specs.BoardCells.{AnswerSays, FlusherPart, IsEntryEvent, flusher_part, server_of}
+use Rattle.core_clients.specs.Knowing.{IsLaterRun}
 use Rattle.core_events.specs.Cells.{Free}
 use Rattle.core_events.specs.Clients.{state_from_calls}
-use Rattle.core_events.specs.Events.{Opening, flusher, flush_mail, Reply, CoreEvent}
-use Rattle.core_events.specs.Fitting.{FitsWork}
+use Rattle.core_events.specs.Events.{Opening, flusher, flush_mail, ClientCall, Reply, CoreEvent}
+use Rattle.core_events.specs.Fitting.{FitsWork, progress_after_call}
 use Rattle.core_events.specs.Jobs.{CoreJob, JobOutcome}
 use Rattle.core_events.specs.ShardView.{ShardView}
 use Rattle.core_mails.specs.Histories.{job_served}
@@ -34,6 +36,14 @@ pub record MayReplyTo (says : CoreJob → ShardAnswer → JobOutcome → Type 0)
   pub fits : FitsWork part.progress (state_from_calls o (flusher o) part.calls).store_lost part.worker
       (Reply client outcome)
 
+-- What its own calls tell after one more as a client, and after some, the newest first: they leave its job.
+abbrev pub part_with_call : ClientCall → FlusherPart → FlusherPart
+part_with_call c part = record part { calls = c ∷ part.calls; progress = progress_after_call c part.progress }
+
+abbrev pub part_with_calls : List ClientCall → FlusherPart → FlusherPart
+part_with_calls [] part = part
+part_with_calls (c ∷ calls) part = part_with_call c (part_with_calls calls part)
+
 module _ {S : Type 0} (fits : Opening → ℕ → ShardCall → Type 0) (stands : Opening → ℕ → ℕ → S → ShardView → Type 0)
     (says : CoreJob → ShardAnswer → JobOutcome → Type 0) (cells : List (CoreCell S)) where
   -- The caller is the flusher, in whatever way a run opens with the cells: as a client it has this number, and its mail
@@ -46,10 +56,21 @@ module _ {S : Type 0} (fits : Opening → ℕ → ShardCall → Type 0) (stands 
     pub mail_is : (o : Opening) (log : List CoreEntry) → OpensCells fits stands says o cells log
         → shards ≡ flush_mail o
 
-  -- The flusher knows a claim by its own calls: it holds whatever events these are.
-  abbrev pub KnowsPart : List CoreEntry → PartClaim → Type 0
-  KnowsPart own P = (o : Opening) (log : List CoreEntry) (es : List CoreEvent) → OpensCells fits stands says o cells log
-      → AreEventsOf (IsEntryEvent fits stands says o) own es → P o (flusher_part o es)
+  -- The flusher knows a claim by its own calls: it holds in each run in which they begin with these, whatever events
+  -- these are.
+  abbrev pub KnowsPart : ℕ → List CoreEntry → PartClaim → Type 0
+  KnowsPart caller own P =
+      (o : Opening) (log : List CoreEntry) (run es : List CoreEvent)
+      → IsLaterRun fits stands says cells o caller own log run → AreEventsOf (IsEntryEvent fits stands says o) own es
+      → P o (flusher_part o es)
+
+  -- A history is that of such a run, which tells of the flusher what its own entries tell.
+  pub record HasRunOfFlusher (o : Opening) (caller : ℕ) (own log : List CoreEntry) : Type 0 where
+    pub run : List CoreEvent
+    pub is_later : IsLaterRun fits stands says cells o caller own log run
+    pub es : List CoreEvent
+    pub events : AreEventsOf (IsEntryEvent fits stands says o) own es
+    pub part : flusher_part o run ≡ flusher_part o es
 
   -- Its own calls are events of which this is the newest.
   pub record GoOnByEvent (o : Opening) (own : List CoreEntry) (es : List CoreEvent)

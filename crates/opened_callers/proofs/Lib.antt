@@ -1,1 +1,2 @@
 pub mod ToldSizes
+pub mod ToldCubes

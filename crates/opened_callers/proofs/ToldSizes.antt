@@ -1,9 +1,11 @@
 -- The cells of an opened core tell how many shards and sessions it has.
-use Rattle.std.proofs.Common.{◌≡◌, ◌∙◌, ℕ, ◌+◌, ◌<◌, ◌≤◌, List, [], sym, ap, arith}
+use Rattle.std.proofs.Common.{◌≡◌, ◌∙◌, ℕ, ◌+◌, ◌<◌, ◌≤◌, ◌==◌, Bool, true, false, true≢false, List, [], inl, sym, ap, arith, ne_eqb, if◌then◌else◌}
 use Rattle.aosi_desk.specs.Desks.{DeskState}
 use Rattle.core_board_cells.specs.BoardCells.{StandsInCell}
-use Rattle.core_clients.specs.Knowing.{IsClientOf, IsMailAt}
-use Rattle.core_events.specs.Events.{Opening}
+use Rattle.core_board_cells.proofs.OwnEntries.{client-low}
+use Rattle.core_clients.specs.Knowing.{IsClientOf, IsSessionOf, IsMailAt, ServesClient}
+use Rattle.core_events.specs.Events.{Opening, flush_mail}
+use Rattle.core_flusher.proofs.FlusherCalls.{is-client}
 use Rattle.core_flusher.specs.Flushing.{IsFlusherOf}
 use Rattle.core_program.specs.CoreFits.{CoreEntry, OpensCells}
 use Rattle.core_workers.specs.Workers.{IsWorkerOf}
@@ -28,8 +30,16 @@ desk-tells kept shards sessions o (cell.Names names) is stand = absurd (omega (a
 desk-tells kept shards sessions o (cell.Shard s) is stand = absurd (omega (arith, is.1))
 desk-tells kept shards sessions o (cell.Mail m) is stand = absurd (omega (arith, is.1))
 
+served : (client sessions : ℕ) (b : Bool) → client ≤ sessions → client < (if b then sessions + 1 else sessions + 2)
+served client sessions true low = omega (arith, low)
+served client sessions false low = omega (arith, low)
+
+served-of-shard : (client sessions : ℕ) (b : Bool) → client ≤ sessions + 1 → b ≡ false → client < (if b then sessions + 1 else sessions + 2)
+served-of-shard client sessions true low other = absurd (true≢false other)
+served-of-shard client sessions false low other = omega (arith, low)
+
 module _ (kept : Kept) (shards sessions : ℕ) (cells : List (CoreCell CoreShard)) (over : AreCellsOver kept shards sessions cells) where
-  sessions-told : (o : Opening) (log : List CoreEntry) → Opens o cells log → o.sessions ≡ sessions
+  pub sessions-told : (o : Opening) (log : List CoreEntry) → Opens o cells log → o.sessions ≡ sessions
   sessions-told o log opens =
       let long = over.long in
       let first = place-there cells 0 (omega (arith, long)) in
@@ -44,15 +54,39 @@ module _ (kept : Kept) (shards sessions : ℕ) (cells : List (CoreCell CoreShard
     cell_is = λ o log opens. let same = shards-told o log opens in omega (arith, same);
   }
 
-  pub mails-are : AreShardMails FitsShard CoreShardStands ShardAnswerSays cells shards (2 + shards)
-  mails-are number lt = mail-is number (omega (arith, lt))
+  pub session-is : (session : ℕ) → 1 ≤ session → session ≤ sessions
+      → IsSessionOf FitsShard CoreShardStands ShardAnswerSays cells session
+  session-is session some le o log opens =
+      let same = sessions-told o log opens in record { first = some; last = omega (arith, same, le) }
+
+  -- A mail serves main and the sessions, and a shard's mail the flusher besides.
+  pub serves-low : (client number : ℕ) → client ≤ sessions → ServesClient FitsShard CoreShardStands ShardAnswerSays cells client number
+  serves-low client number le o log opens =
+      let same = sessions-told o log opens in served client o.sessions (number == flush_mail o) (omega (arith, same, le))
+
+  serves-shard : (client number : ℕ) → client ≤ sessions + 1 → number < shards
+      → ServesClient FitsShard CoreShardStands ShardAnswerSays cells client number
+  serves-shard client number le lt o log opens =
+      let one = sessions-told o log opens in
+      let two = shards-told o log opens in
+      served-of-shard client o.sessions (number == flush_mail o) (omega (arith, one, le))
+      (ne_eqb number (flush_mail o) (λ same. absurd (omega (arith, same, two, lt))))
+
+  pub mails-are : (client : ℕ) → client ≤ sessions + 1 → AreShardMails FitsShard CoreShardStands ShardAnswerSays cells client shards (2 + shards)
+  mails-are client le = record {
+    each = λ number lt. mail-is number (omega (arith, lt));
+    serve = λ number lt. serves-shard client number le lt;
+  }
 
   module _ (opened : OpenOver kept shards sessions cells) where
-    pub client-is : (caller : ℕ) → caller ≤ sessions → IsClientOf FitsShard CoreShardStands ShardAnswerSays cells caller
+    pub client-is : (caller : ℕ) → caller ≤ sessions → IsClientOf FitsShard CoreShardStands ShardAnswerSays cells caller caller
     client-is caller le = record {
       opening = λ log. (opening_over kept shards sessions log, opened log);
-      client = λ o log opens. let same = sessions-told o log opens in omega (arith, same, le);
-    }
+      acts = λ o log opens. inl (low o log opens);
+      client_is = λ o log opens. sym (client-low o caller (low o log opens));
+    } where
+      low : (o : Opening) (log : List CoreEntry) → Opens o cells log → caller ≤ o.sessions
+      low o log opens = let same = sessions-told o log opens in omega (arith, same, le)
 
     pub worker-is : (number : ℕ) → number < shards
         → IsWorkerOf FitsShard CoreShardStands ShardAnswerSays cells (sessions + 1 + number) number (2 + shards + number)
@@ -70,3 +104,6 @@ module _ (kept : Kept) (shards sessions : ℕ) (cells : List (CoreCell CoreShard
       client_is = λ o log opens. let one = sessions-told o log opens in omega (arith, one);
       mail_is = λ o log opens. let two = shards-told o log opens in omega (arith, two);
     }
+
+    pub flusher-client : IsClientOf FitsShard CoreShardStands ShardAnswerSays cells (sessions + 1 + shards) (sessions + 1)
+    flusher-client = is-client FitsShard CoreShardStands ShardAnswerSays cells (sessions + 1 + shards) (sessions + 1) shards flusher-is
