@@ -20,13 +20,14 @@ pub fn call_desk_cell<S: LinkedShard, R: Wait, P: CellCaller<CoreCells<S>>>(
     rt: &R,
     board: &Board<CoreCells<S>>,
     caller: &mut P,
+    client: u32,
     call: DeskCall,
 ) -> DeskAnswer
     requires board { P.calls_on board.now caller.old }
     requires client { IsClientOf S.fits S.stands S.says (P.opening caller.old)
-        (P.number caller.old) }
-    requires may { Knows S.fits S.stands S.says (P.opening caller.old) (P.number caller.old)
-        (P.own caller.old) (MayCallDesk (P.number caller.old) call) }
+        (P.number caller.old) client }
+    requires may { Knows S.fits S.stands S.says (P.opening caller.old) (P.number caller.old) client
+        (P.own caller.old) (MayCallDesk client call) }
     ensures board { P.calls_on board.now caller.new }
     ensures opening { P.opening caller.new ≡ P.opening caller.old }
     ensures number { P.number caller.new ≡ P.number caller.old }
@@ -45,13 +46,14 @@ pub fn call_names_cell<S: LinkedShard, R: Wait, P: CellCaller<CoreCells<S>>>(
     rt: &R,
     board: &Board<CoreCells<S>>,
     caller: &mut P,
+    client: u32,
     call: NamesCall,
 ) -> NamesAnswer
     requires board { P.calls_on board.now caller.old }
     requires client { IsClientOf S.fits S.stands S.says (P.opening caller.old)
-        (P.number caller.old) }
-    requires may { Knows S.fits S.stands S.says (P.opening caller.old) (P.number caller.old)
-        (P.own caller.old) (MayCallNames (P.number caller.old) call) }
+        (P.number caller.old) client }
+    requires may { Knows S.fits S.stands S.says (P.opening caller.old) (P.number caller.old) client
+        (P.own caller.old) (MayCallNames client call) }
     ensures board { P.calls_on board.now caller.new }
     ensures opening { P.opening caller.new ≡ P.opening caller.old }
     ensures number { P.number caller.new ≡ P.number caller.old }

@@ -1,4 +1,4 @@
-//! The calls of a client of the core, main or a session, each with what it adds to the client's own calls.
+//! The calls of a client of the core, each with what it adds to the client's own calls.
 #![tactic(auto)]
 
 mod answers;

@@ -1,7 +1,10 @@
 //! Calls on a mail: a job is posted and its answer fetched, and main closes.
 ghost use Rattle.std.specs.Prelude.{◌≡◌, ◌+◌, ◌≤◌, [], ◌∷◌, ◌++◌};
+ghost use Rattle.board_callers.specs.Callers.{HasHistoryOf};
 ghost use Rattle.client_calls.specs.ClientCalls.{HasFetched, LearnsByFetch, ask_entry, close_entry, post_entry};
-ghost use Rattle.core_clients.specs.Knowing.{IsClientOf, IsMailAt, Knows, MayFetchFrom, MayPostJob};
+ghost use Rattle.core_clients.specs.Knowing.{IsClientOf, IsMailAt, Knows, MayFetchFrom, MayPostJob, ServesClient};
+ghost use Rattle.core_program.specs.CoreFits.{FitsOwnCalls};
+ghost use Rattle.cube_core.specs.CoreSteps.{CoreStep};
 ghost use Rattle.turn_board.specs.Passes.{callers_of};
 
 use crate::answers::{expect_closed, expect_posted, fetched_in};
@@ -29,19 +32,18 @@ pub fn post_job<S: LinkedShard, R: Wait, P: CellCaller<CoreCells<S>>>(
     requires board { P.calls_on board.now caller.old }
     requires callers { size.now.sessions + 2 + size.now.shards ≤ callers_of board.now }
     requires there { number ≤ size.now.shards }
-    requires itself { client ≡ P.number caller.old }
     requires client { IsClientOf S.fits S.stands S.says (P.opening caller.old)
-        (P.number caller.old) }
+        (P.number caller.old) client }
     requires mail { IsMailAt S.fits S.stands S.says (P.opening caller.old) number
         (2 + size.now.shards + number) }
-    requires may { Knows S.fits S.stands S.says (P.opening caller.old) (P.number caller.old)
-        (P.own caller.old) (MayPostJob S.fits (P.number caller.old) number job) }
+    requires may { Knows S.fits S.stands S.says (P.opening caller.old) (P.number caller.old) client
+        (P.own caller.old) (MayPostJob S.fits client number job) }
     ensures board { P.calls_on board.now caller.new }
     ensures opening { P.opening caller.new ≡ P.opening caller.old }
     ensures number { P.number caller.new ≡ P.number caller.old }
     ensures others { P.others caller.new ≡ P.others caller.old }
     ensures own { P.own caller.new ≡ P.own caller.old
-        ++ post_entry (P.number caller.old) (2 + size.now.shards + number) job ∷ [] }
+        ++ post_entry (P.number caller.old) client (2 + size.now.shards + number) job ∷ [] }
 {
     clients_fit_by_what_they_know::<S>();
     answers_fit_their_calls::<S>();
@@ -62,19 +64,21 @@ fn ask_for_answer<S: LinkedShard, R: Wait, P: CellCaller<CoreCells<S>>>(
 ) -> Fetched<JobAnswer>
     requires board { P.calls_on board.now caller.old }
     requires there { number ≤ size.now.shards }
-    requires itself { client ≡ P.number caller.old }
     requires client { IsClientOf S.fits S.stands S.says (P.opening caller.old)
-        (P.number caller.old) }
+        (P.number caller.old) client }
     requires mail { IsMailAt S.fits S.stands S.says (P.opening caller.old) number
         (2 + size.now.shards + number) }
-    requires may { Knows S.fits S.stands S.says (P.opening caller.old) (P.number caller.old)
-        (P.own caller.old) (MayFetchFrom (P.number caller.old) number) }
+    requires serves { ServesClient S.fits S.stands S.says (P.opening caller.old) client number }
+    requires may { Knows S.fits S.stands S.says (P.opening caller.old) (P.number caller.old) client
+        (P.own caller.old) (MayFetchFrom client number) }
     ensures board { P.calls_on board.now caller.new }
     ensures opening { P.opening caller.new ≡ P.opening caller.old }
     ensures number { P.number caller.new ≡ P.number caller.old }
     ensures others { P.others caller.new ≡ P.others caller.old }
     ensures own { P.own caller.new ≡ P.own caller.old
-        ++ ask_entry (P.number caller.old) (2 + size.now.shards + number) result ∷ [] }
+        ++ ask_entry (P.number caller.old) client (2 + size.now.shards + number) result ∷ [] }
+    ensures history { HasHistoryOf (CoreStep S.step) (FitsOwnCalls S.fits S.stands S.says)
+        (P.opening caller.new) (P.number caller.new) (P.own caller.new) }
 {
     clients_fit_by_what_they_know::<S>();
     answers_fit_their_calls::<S>();
@@ -94,21 +98,23 @@ pub fn fetch_answer<S: LinkedShard, R: Wait, P: CellCaller<CoreCells<S>>>(
 ) -> JobAnswer
     requires board { P.calls_on board.now caller.old }
     requires there { number ≤ size.now.shards }
-    requires itself { client ≡ P.number caller.old }
     requires client { IsClientOf S.fits S.stands S.says (P.opening caller.old)
-        (P.number caller.old) }
+        (P.number caller.old) client }
     requires mail { IsMailAt S.fits S.stands S.says (P.opening caller.old) number
         (2 + size.now.shards + number) }
-    requires may { Knows S.fits S.stands S.says (P.opening caller.old) (P.number caller.old)
-        (P.own caller.old) (MayFetchFrom (P.number caller.old) number) }
+    requires serves { ServesClient S.fits S.stands S.says (P.opening caller.old) client number }
+    requires may { Knows S.fits S.stands S.says (P.opening caller.old) (P.number caller.old) client
+        (P.own caller.old) (MayFetchFrom client number) }
     ensures board { P.calls_on board.now caller.new }
     ensures opening { P.opening caller.new ≡ P.opening caller.old }
     ensures number { P.number caller.new ≡ P.number caller.old }
     ensures others { P.others caller.new ≡ P.others caller.old }
-    ensures fetched { HasFetched (P.number caller.old) (2 + size.now.shards + number) result
-        (P.own caller.old) (P.own caller.new) }
-    ensures learns { LearnsByFetch S.fits S.stands S.says (P.opening caller.old)
-        (P.number caller.old) number result (P.own caller.old) (P.own caller.new) }
+    ensures fetched { HasFetched (P.number caller.old) client (2 + size.now.shards + number)
+        result (P.own caller.old) (P.own caller.new) }
+    ensures learns { LearnsByFetch S.fits S.stands S.says (P.opening caller.old) client number
+        result (P.own caller.old) (P.own caller.new) }
+    ensures history { HasHistoryOf (CoreStep S.step) (FitsOwnCalls S.fits S.stands S.says)
+        (P.opening caller.new) (P.number caller.new) (P.own caller.new) }
 {
     clients_learn_by_each_call::<S>();
     'asks: for _ in rt.forever() {
@@ -132,7 +138,7 @@ pub fn close_mail<S: LinkedShard, R: Wait, P: CellCaller<CoreCells<S>>>(
     requires callers { size.now.sessions + 2 + size.now.shards ≤ callers_of board.now }
     requires there { number ≤ size.now.shards }
     requires main { P.number caller.old ≡ 0 }
-    requires client { IsClientOf S.fits S.stands S.says (P.opening caller.old) 0 }
+    requires client { IsClientOf S.fits S.stands S.says (P.opening caller.old) 0 0 }
     requires mail { IsMailAt S.fits S.stands S.says (P.opening caller.old) number
         (2 + size.now.shards + number) }
     ensures board { P.calls_on board.now caller.new }

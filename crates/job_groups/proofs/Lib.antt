@@ -1,3 +1,4 @@
 pub mod Waits
 pub mod GroupSteps
 pub mod GroupLoops
+pub mod Ended

@@ -1,17 +1,17 @@
 -- A group of jobs, one for each shard: what a client has to know before it, and what it then knows.
 -- Source: Cubrick (VLDB 2016), one request that goes to all shards; the rest is this project's own.
-use Rattle.std.specs.Prelude.{◌≡◌, ℕ, ◌+◌, ◌<◌, true, List, [], ◌∷◌, ◌++◌, length, slice_get, Some}
+use Rattle.std.specs.Prelude.{◌≡◌, ℕ, ◌+◌, ◌<◌, true, List, [], ◌∷◌, ◌++◌, length, map, slice_get, Some}
 use Rattle.std.specs.List.{AllByRecursion}
 use Rattle.core_board.specs.Links.{AreEventsOf}
 use Rattle.core_board_cells.specs.BoardCells.{AnswerSays, IsEntryEvent, call_job}
-use Rattle.core_clients.specs.Knowing.{IsMailAt}
+use Rattle.core_clients.specs.Knowing.{IsMailAt, ServesClient}
 use Rattle.core_events.specs.Clients.{ClientState, calls_of, state_from_calls}
-use Rattle.core_events.specs.Events.{Opening, Post, Fetch, NoChange, ClientCall, CoreEvent}
+use Rattle.core_events.specs.Events.{Opening, Post, Fetch, NoChange, ClientCall, CoreEvent, By}
 use Rattle.core_events.specs.Fitting.{Bears}
 use Rattle.core_events.specs.Groups.{GroupKind, NoGroup, JobGroup, Received, has_ended, kind_of, may_begin}
 use Rattle.core_events.specs.Jobs.{CoreJob, JobOutcome}
 use Rattle.core_events.specs.ShardView.{ShardView}
-use Rattle.core_program.specs.CoreFits.{CoreEntry, OpensCells}
+use Rattle.core_program.specs.CoreFits.{CoreEntry}
 use Rattle.cube_core.specs.declared.cell.CoreCell.{CoreCell}
 use Rattle.cube_core.specs.declared.jobs.JobAnswer.{JobAnswer}
 use Rattle.cube_core.specs.declared.shard.ShardAnswer.{ShardAnswer}
@@ -30,20 +30,20 @@ AreOfOneKind calls = (number : ℕ) (c : ShardCall) → slice_get calls number �
 abbrev pub with_group : JobGroup → ClientState → ClientState
 with_group g k = record k { group = g }
 
-module _ (fits : Opening → ℕ → ShardCall → Type 0) (caller : ℕ) where
+module _ (fits : Opening → ℕ → ShardCall → Type 0) (client : ℕ) where
   -- The call fits the shard of the number, its job bears what the client holds, in whatever group that is, and may begin
   -- one.
   pub record MayAskShard (o : Opening) (k : ClientState) (number : ℕ) (c : ShardCall) : Type 0 where
     pub suits : fits o number c
-    pub bears : (g : JobGroup) → Bears o caller number (call_job c) (with_group g k)
+    pub bears : (g : JobGroup) → Bears o client number (call_job c) (with_group g k)
     pub begins : may_begin o.shards (call_job c) k.group ≡ true
 
   -- The client's last group has ended, and it may ask each shard by one of the calls.
   pub record MayAskEach (calls : List ShardCall) (o : Opening) (past : List ClientCall) : Type 0 where
     pub shards : length calls ≡ o.shards
-    pub ended : has_ended o.shards (state_from_calls o caller past).group ≡ true
+    pub ended : has_ended o.shards (state_from_calls o client past).group ≡ true
     pub each : (number : ℕ) (c : ShardCall) → slice_get calls number ≡ Some c
-        → MayAskShard o (state_from_calls o caller past) number c
+        → MayAskShard o (state_from_calls o client past) number c
 
 -- A post, a fetch, or a call that changes nothing.
 abbrev pub IsGroupCall : ClientCall → Type 0
@@ -69,10 +69,10 @@ pub record HasMore (own now : List CoreEntry) : Type 0 where
 
 module _ {S : Type 0} (fits : Opening → ℕ → ShardCall → Type 0) (stands : Opening → ℕ → ℕ → S → ShardView → Type 0)
     (says : CoreJob → ShardAnswer → JobOutcome → Type 0) where
-  -- The cells from one on are the mails of the shards.
-  abbrev pub AreShardMails : List (CoreCell S) → ℕ → ℕ → Type 0
-  AreShardMails cells shards first =
-      (number : ℕ) → number < shards → IsMailAt fits stands says cells number (first + number)
+  -- The cells from one on are the mails of the shards, and the client is one of their clients.
+  pub record AreShardMails (cells : List (CoreCell S)) (client shards first : ℕ) : Type 0 where
+    pub each : (number : ℕ) → number < shards → IsMailAt fits stands says cells number (first + number)
+    pub serve : (number : ℕ) → number < shards → ServesClient fits stands says cells client number
 
   -- Each answer stands for an outcome of the call of its shard.
   abbrev pub StandForEach : List ShardCall → List JobAnswer → List JobOutcome → Type 0
@@ -80,23 +80,21 @@ module _ {S : Type 0} (fits : Opening → ℕ → ShardCall → Type 0) (stands 
       → slice_get calls number ≡ Some c → slice_get answers number ≡ Some said
       → slice_get outcomes number ≡ Some outcome → AnswerSays says (call_job c) said outcome
 
-  -- In a run the client's calls go on by those of the group alone, and it then has the answer of each shard.
-  pub record HasAskedEach (o : Opening) (caller : ℕ) (calls : List ShardCall) (answers : List JobAnswer)
-      (own : List CoreEntry) (es : List CoreEvent) : Type 0 where
+  -- In a run the client's calls go on by those of a group alone, and it then has an answer to each call.
+  pub record HasAskedShards (group_of : List JobOutcome → JobGroup) (o : Opening) (client : ℕ) (calls : List ShardCall)
+      (answers : List JobAnswer) (own : List CoreEntry) (es : List CoreEvent) : Type 0 where
     pub before : List CoreEvent
     pub events : AreEventsOf (IsEntryEvent fits stands says o) own before
     pub added : List ClientCall
-    pub past : calls_of caller es ≡ added ++ calls_of caller before
+    pub whole : es ≡ map (λ c. By client c) added ++ before
+    pub past : calls_of client es ≡ added ++ calls_of client before
     pub only : AllByRecursion IsGroupCall added
     pub outcomes : List JobOutcome
     pub each : length outcomes ≡ length calls
     pub stand : StandForEach calls answers outcomes
-    pub group : state_from_calls o caller (calls_of caller es)
-        ≡ with_group (whole_group calls outcomes) (state_from_calls o caller (calls_of caller before))
+    pub group : state_from_calls o client (calls_of client es)
+        ≡ with_group (group_of outcomes) (state_from_calls o client (calls_of client before))
 
-  -- So it is in each run with its own calls.
-  abbrev pub LearnsOfEach : List (CoreCell S) → ℕ → List ShardCall → List JobAnswer → List CoreEntry → List CoreEntry
-      → Type 0
-  LearnsOfEach cells caller calls answers own now =
-      (o : Opening) (log : List CoreEntry) (es : List CoreEvent) → OpensCells fits stands says o cells log
-      → AreEventsOf (IsEntryEvent fits stands says o) now es → HasAskedEach o caller calls answers own es
+  -- One of each shard.
+  abbrev pub HasAskedEach : Opening → ℕ → List ShardCall → List JobAnswer → List CoreEntry → List CoreEvent → Type 0
+  HasAskedEach o client calls answers own es = HasAskedShards (whole_group calls) o client calls answers own es

@@ -1,1 +1,3 @@
 pub mod AskedEach
+pub mod AskedSome
+pub mod EachPosted

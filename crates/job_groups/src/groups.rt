@@ -1,7 +1,11 @@
 //! One call for each shard.
 ghost use Rattle.std.specs.Prelude.{◌≡◌, ◌+◌, ◌≤◌, [], length, vec_capacity};
+ghost use Rattle.board_callers.specs.Callers.{HasHistoryOf};
 ghost use Rattle.core_clients.specs.Knowing.{IsClientOf, Knows};
-ghost use Rattle.job_groups.specs.AskedEach.{AreOfOneKind, AreShardMails, HasMore, LearnsOfEach, MayAskEach};
+ghost use Rattle.core_program.specs.CoreFits.{FitsOwnCalls};
+ghost use Rattle.cube_core.specs.CoreSteps.{CoreStep};
+ghost use Rattle.job_groups.specs.AskedEach.{AreOfOneKind, AreShardMails, HasMore, MayAskEach};
+ghost use Rattle.job_groups.specs.EachPosted.{LearnsOfEach};
 ghost use Rattle.turn_board.specs.Passes.{callers_of};
 
 use board_callers::CellCaller;
@@ -28,15 +32,14 @@ pub fn ask_each_shard<S: LinkedShard, R: Wait, P: CellCaller<CoreCells<S>>>(
     requires board { P.calls_on board.now caller.old }
     requires callers { size.now.sessions + 2 + size.now.shards ≤ callers_of board.now }
     requires some { 1 ≤ size.now.shards }
-    requires itself { client ≡ P.number caller.old }
     requires client { IsClientOf S.fits S.stands S.says (P.opening caller.old)
-        (P.number caller.old) }
-    requires mails { AreShardMails S.fits S.stands S.says (P.opening caller.old) size.now.shards
-        (2 + size.now.shards) }
+        (P.number caller.old) client }
+    requires mails { AreShardMails S.fits S.stands S.says (P.opening caller.old) client
+        size.now.shards (2 + size.now.shards) }
     requires each { length calls.items ≡ size.now.shards }
     requires kind { AreOfOneKind calls.items }
-    requires may { Knows S.fits S.stands S.says (P.opening caller.old) (P.number caller.old)
-        (P.own caller.old) (MayAskEach S.fits (P.number caller.old) calls.items) }
+    requires may { Knows S.fits S.stands S.says (P.opening caller.old) (P.number caller.old) client
+        (P.own caller.old) (MayAskEach S.fits client calls.items) }
     requires empty { answers.items ≡ [] }
     requires room { size.now.shards ≤ vec_capacity answers }
     ensures board { P.calls_on board.now caller.new }
@@ -46,7 +49,10 @@ pub fn ask_each_shard<S: LinkedShard, R: Wait, P: CellCaller<CoreCells<S>>>(
     ensures answers { length result.items ≡ size.now.shards }
     ensures more { HasMore (P.own caller.old) (P.own caller.new) }
     ensures learns { LearnsOfEach S.fits S.stands S.says (P.opening caller.old)
-        (P.number caller.old) calls.items result.items (P.own caller.old) (P.own caller.new) }
+        (P.number caller.old) client calls.items result.items (P.own caller.old)
+        (P.own caller.new) }
+    ensures history { HasHistoryOf (CoreStep S.step) (FitsOwnCalls S.fits S.stands S.says)
+        (P.opening caller.new) (P.number caller.new) (P.own caller.new) }
 {
     clients_learn_by_each_call::<S>();
     let mut calls = calls;

@@ -7,12 +7,12 @@ use Rattle.client_calls.proofs.calls.call_names_cell.Goals as goal
 
 pub call-requires-clause-there : goal.call-requires-clause-there
 call-requires-clause-there g c =
-    (c.clients_fit_by_what_they_know.ensures.names (g.P.CellCaller.opening c.args.caller.now) (g.P.CellCaller.number c.args.caller.now)
+    (c.clients_fit_by_what_they_know.ensures.names (g.P.CellCaller.opening c.args.caller.now) (g.P.CellCaller.number c.args.caller.now) c.args.client
     (g.P.CellCaller.own c.args.caller.now) c.args.call c.requires.client c.requires.may).there
 
 pub call-requires-clause-fits : goal.call-requires-clause-fits
 call-requires-clause-fits g c =
-    c.clients_fit_by_what_they_know.ensures.names (g.P.CellCaller.opening c.args.caller.now) (g.P.CellCaller.number c.args.caller.now)
+    c.clients_fit_by_what_they_know.ensures.names (g.P.CellCaller.opening c.args.caller.now) (g.P.CellCaller.number c.args.caller.now) c.args.client
     (g.P.CellCaller.own c.args.caller.now) c.args.call c.requires.client c.requires.may
 
 pub names_answer_in-requires : goal.names_answer_in-requires

@@ -8,11 +8,11 @@ use Rattle.client_calls.proofs.mails.ask_for_answer.Goals as goal
 
 pub call-requires-clause-there : goal.call-requires-clause-there
 call-requires-clause-there g c =
-    rw c.mail_cell-cell.ensures ((c.clients_fit_by_what_they_know.ensures.fetch (g.P.CellCaller.opening c.args.caller.now) (g.P.CellCaller.number c.args.caller.now) c.args.number (2 + c.args.size.now.shards + c.args.number) (g.P.CellCaller.own c.args.caller.now) c.requires.client c.requires.mail c.requires.may).there)
+    rw c.mail_cell-cell.ensures ((c.clients_fit_by_what_they_know.ensures.fetch (g.P.CellCaller.opening c.args.caller.now) (g.P.CellCaller.number c.args.caller.now) c.args.client c.args.number (2 + c.args.size.now.shards + c.args.number) (g.P.CellCaller.own c.args.caller.now) c.requires.client c.requires.mail c.requires.serves c.requires.may).there)
 
 pub call-requires-clause-fits : goal.call-requires-clause-fits
 call-requires-clause-fits g c =
-    rw c.mail_cell-cell.ensures (rw c.requires.itself (c.clients_fit_by_what_they_know.ensures.fetch (g.P.CellCaller.opening c.args.caller.now) (g.P.CellCaller.number c.args.caller.now) c.args.number (2 + c.args.size.now.shards + c.args.number) (g.P.CellCaller.own c.args.caller.now) c.requires.client c.requires.mail c.requires.may))
+    rw c.mail_cell-cell.ensures (c.clients_fit_by_what_they_know.ensures.fetch (g.P.CellCaller.opening c.args.caller.now) (g.P.CellCaller.number c.args.caller.now) c.args.client c.args.number (2 + c.args.size.now.shards + c.args.number) (g.P.CellCaller.own c.args.caller.now) c.requires.client c.requires.mail c.requires.serves c.requires.may)
 
 pub fetched_in-requires : goal.fetched_in-requires
 fetched_in-requires g c =
