@@ -1,0 +1,2 @@
+pub mod KnownCubes
+pub mod KnownNames
