@@ -1,0 +1,2 @@
+pub mod HoldStates
+pub mod GroupEnds

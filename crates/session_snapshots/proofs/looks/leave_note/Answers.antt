@@ -1,0 +1,29 @@
+use Rattle.std.specs.Option.{option_map_or}
+use Rattle.core_cells.specs.declared.desk.DeskAnswer.TheVariants as answer
+use Rattle.core_cells.specs.declared.desk.DeskCall.TheVariants as call
+use Rattle.core_events.specs.Clients.{calls_of, state_from_calls}
+use Rattle.session_holds.proofs.Looking.{may-note}
+use Rattle.session_snapshots.proofs.KnownSteps.{holds-on, ready-by-note}
+use Rattle.session_snapshots.proofs.looks.leave_note.Goals as goal
+
+pub call_desk_cell-requires-clause-may : goal.call_desk_cell-requires-clause-may
+call_desk_cell-requires-clause-may g c = λ o log run es later are.
+    may-note o c.args.session c.args.note c.requires.ready.0
+    (state_from_calls o c.args.session (calls_of c.args.session es))
+    (c.requires.session o log later.opens) (c.requires.ready.1 o log run es later are)
+    (c.requires.may o log run es later are)
+
+pub returns-clause-same : goal.returns-clause-same
+returns-clause-same g c =
+    let own = g.P.CellCaller.own in
+    let opening = g.P.CellCaller.opening in
+    let number = g.P.CellCaller.number in
+    let before = c.args.caller.now in
+    let after = c.call_desk_cell.new.caller in
+    let did = c.call_desk_cell.ensures in
+    holds-on g.S.LinkedShard.fits g.S.LinkedShard.stands g.S.LinkedShard.says (opening before) (number before)
+    c.args.session c.requires.client c.requires.session (own before) (own after)
+    (call.Note c.args.note)
+    (opening after) (number after) did.opening did.number c.call_desk_cell.result did.own
+    (option_map_or answer.Counted c.noted_in.result answer.NoMemory) c.noted_in.ensures
+    (ready-by-note c.args.session c.args.note c.noted_in.result)
