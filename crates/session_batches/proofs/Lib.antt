@@ -1,0 +1,4 @@
+pub mod Refusing
+pub mod Appending
+pub mod Posting
+pub mod Putting

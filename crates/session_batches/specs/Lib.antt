@@ -1,0 +1,4 @@
+pub mod BatchCalls
+pub mod Refusals
+pub mod RowPosts
+pub mod PutRows

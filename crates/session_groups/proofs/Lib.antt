@@ -1,0 +1,7 @@
+pub mod MergedPartials
+pub mod InTurn
+pub mod DoneRollbacks
+pub mod CubesInRuns
+pub mod Knowing
+pub mod FoundFolds
+pub mod AddedOperations

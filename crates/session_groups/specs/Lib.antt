@@ -1,0 +1,3 @@
+pub mod AnswersInTurn
+pub mod ShardGroups
+pub mod GroupOperations

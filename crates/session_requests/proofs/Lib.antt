@@ -1,0 +1,4 @@
+pub mod Outcomes
+pub mod AskedRounds
+pub mod AskedPurges
+pub mod ShownCounters

@@ -1,0 +1,6 @@
+use Rattle.std.proofs.Common.{◌≡◌, replicate}
+use Rattle.cube_core.specs.declared.shard.ShardCall.TheVariants as call
+use Rattle.session_requests.proofs.calls.purge_calls.Given as goal
+
+abbrev pub invariant-each : goal.invariant-each
+invariant-each l = l.calls.items ≡ replicate l.counter (call.Purge l.epoch)

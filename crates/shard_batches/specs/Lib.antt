@@ -1,0 +1,2 @@
+pub mod ShardBatches
+pub mod Counted
