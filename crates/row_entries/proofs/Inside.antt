@@ -45,6 +45,7 @@ no_more desk new_desk same =
     ∙ ap (λ (journal : List JournalEntry). record {
       register = record { safe = desk.register.safe; sessions = desk.register.sessions; journal = journal };
       cubes = desk.cubes;
+      opening = desk.opening;
     }) (sym (append-nil desk.register.journal))
 
 pub leaves_nothing : (writer : Snapshot) (sentence : Sentence) (desk : DeskState) (session : Session)
