@@ -1,3 +1,4 @@
 pub mod EndedRuns
 pub mod StartedRuns
 pub mod WholeRuns
+pub mod ClosingRounds

@@ -32,7 +32,7 @@ use Rattle.session_rows.specs.declared.cubes.Cubes.{Cubes}
 use Rattle.session_rows.proofs.EndingNames.{ends_with_dictionaries}
 use Rattle.session_rows.proofs.NamesFit.{names_fit}
 use Rattle.session_scripts.specs.PlayedFromShelf.{AreFilesTold, HasPlayedFromShelf}
-use Rattle.script_runs.specs.ScriptRuns.{IsRunInFull, LeavesLegal, PlaysToTheEnd, RunsWhole, script_run}
+use Rattle.script_runs.specs.ScriptRuns.{HasClosingRound, IsRunInFull, LeavesLegal, PlaysToTheEnd, RunsWhole, script_run}
 use Rattle.script_sentences.specs.Sentences.{sentence_of}
 use Rattle.script_sentences.specs.declared.said.Said.{Said}
 use Rattle.cube_language.specs.declared.piece.TheConstants.{MOST_STATEMENTS}
@@ -85,8 +85,9 @@ pub has_run_whole : (told : Option (List (List ℕ × List ℕ))) (cubes : List 
     (replies : List Reply) (desk : DeskState) (session : Session) (held : Cubes) (last : DeskState)
     → HasPlayedFromShelf told (beginning_with cubes) script replies desk session held
     → IsAtCubes desk session held → AreCubes desk.cubes → EndsAtDesk desk session last → IsLegalDesk last
+    → HasClosingRound last.register.safe last.register.journal
     → RunsWhole told cubes script replies (names_of held.names) last.register.journal
-has_run_whole told cubes script replies desk session held last p at all ends legal =
+has_run_whole told cubes script replies desk session held last p at all ends legal closed =
     let beginning = beginning_with cubes in
     let past = p.played.past in
     let now : World = world_of (row_world desk session held p.played.coded) in
@@ -131,6 +132,7 @@ has_run_whole told cubes script replies desk session held last p at all ends leg
       whole =
           subst (λ (r : RunRecord). IsRunInFull r replies)
           (is_script_run cubes past script held.names last.register.journal p.played.says stands.names) whole;
+      closed = subst (λ (safe : ℕ). HasClosingRound safe last.register.journal) ended.safe closed;
     }
 
 -- ---- from the beginning
@@ -161,7 +163,7 @@ pub runs_from_the_start : (told : Option (List (List ℕ × List ℕ))) (declare
     → RunsWhole told declared (map sentence_of script) replies (names_of held.names) last.register.journal
 runs_from_the_start told declared script replies desk session cubes last held start p legal =
     has_run_whole told declared (map sentence_of script) replies p.middle p.now held last
-    (p.plays (beginning_with declared) [] start) p.at p.cubes_are p.ended legal
+    (p.plays (beginning_with declared) [] start) p.at p.cubes_are p.ended legal p.closed
 
 -- The desk ends with the safe epoch from which it began.
 safe_in_the_end : (told : Option (List (List ℕ × List ℕ))) (declared : List Decl) (script : List Said)

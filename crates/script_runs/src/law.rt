@@ -11,17 +11,17 @@ ghost use Rattle.session_desk.specs.Ended.{EndsAtDesk};
 ghost use Rattle.session_rows.specs.CubesAtDesk.{IsAtCubes};
 ghost use Rattle.session_rows.specs.declared.cubes.Cubes.{Cubes};
 ghost use Rattle.session_scripts.specs.PlayedFromShelf.{HasPlayedFromShelf};
-ghost use Rattle.script_runs.specs.ScriptRuns.{RunsWhole};
+ghost use Rattle.script_runs.specs.ScriptRuns.{HasClosingRound, RunsWhole};
 ghost use Rattle.script_runs.specs.Starts.{beginning_with};
 
-/// Where a session has played a script from the beginning, and its end has left its entries at the desk, the script was
-/// run whole.
+/// Where a session has played a script from the beginning, and its end has left its entries at the desk with the closing
+/// round, the script was run whole.
 pub fn an_ended_session_has_run_whole()
     ensures { (told : Option (List (List ℕ × List ℕ))) (cubes : List Decl) (script : List Sentence)
         (replies : List Reply) (desk : DeskState) (session : Session) (held : Cubes)
         (last : DeskState)
         → HasPlayedFromShelf told (beginning_with cubes) script replies desk session held
         → IsAtCubes desk session held → AreCubes desk.cubes → EndsAtDesk desk session last
-        → IsLegalDesk last
+        → IsLegalDesk last → HasClosingRound last.register.safe last.register.journal
         → RunsWhole told cubes script replies (names_of held.names) last.register.journal }
 {}

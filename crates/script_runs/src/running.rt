@@ -6,7 +6,7 @@ ghost use Rattle.std.specs.List.{AllByRecursion};
 ghost use Rattle.aosi_desk.specs.Desks.{AreCubes, opening_of};
 ghost use Rattle.cube_journal.specs.Counters.{counters};
 ghost use Rattle.names_dict.specs.Dictionaries.{names_of};
-ghost use Rattle.script_runs.specs.ScriptRuns.{LeavesLegal, PlaysToTheEnd, RunsWhole};
+ghost use Rattle.script_runs.specs.ScriptRuns.{HasClosingRound, LeavesLegal, PlaysToTheEnd, RunsWhole};
 ghost use Rattle.script_sentences.specs.Sentences.{IsRunnable, sentence_of};
 ghost use Rattle.session_desk.specs.AtDesk.{IsAtDesk};
 ghost use Rattle.session_desk.specs.Ended.{EndsAtDesk};
@@ -47,6 +47,8 @@ fn end_script(desk: &mut Desk, session: &mut Session) -> bool
     requires few { session.old.statements ≤ MOST_STATEMENTS }
     ensures opening { opening_of desk.new ≡ opening_of desk.old }
     ensures ended { OnTrue result (EndsAtDesk desk.old session.old desk.new) }
+    ensures closed { OnTrue result (HasClosingRound desk.new.register.safe
+        desk.new.register.journal) }
 {
     end(desk, session);
     match close(desk, session) {
