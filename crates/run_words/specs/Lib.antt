@@ -1,0 +1,5 @@
+pub mod Numbers
+pub mod CommandLine
+pub mod Commands
+pub mod Words
+pub mod Laws
