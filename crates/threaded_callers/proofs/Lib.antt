@@ -1,0 +1,5 @@
+mod Elements
+mod Hands
+mod Tasks
+mod SideEnds
+mod WholeRuns

@@ -1,0 +1,4 @@
+pub mod Hands
+pub mod Tasks
+pub mod Ends
+pub mod Sides
