@@ -1,0 +1,3 @@
+pub mod PostsForOperations
+pub mod ScriptedRuns
+pub mod NamedQueries

@@ -1,0 +1,4 @@
+pub mod CoreRecords
+pub mod OwnEntries
+pub mod ScriptedCalls
+pub mod OpeningNames
