@@ -1,0 +1,3 @@
+pub mod LongerPasts
+pub mod CallEntries
+pub mod PlayedOut

@@ -1,0 +1,4 @@
+pub mod CorePasts
+pub mod RunsFrom
+pub mod OwnCalls
+pub mod Endings

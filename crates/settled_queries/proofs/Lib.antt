@@ -1,0 +1,4 @@
+pub mod Openers
+pub mod SettledRows
+pub mod Moments
+pub mod StayingScans

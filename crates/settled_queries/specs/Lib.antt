@@ -1,0 +1,3 @@
+pub mod OwnSoFar
+pub mod Moments
+pub mod FoundSoFar
