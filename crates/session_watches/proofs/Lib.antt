@@ -1,0 +1,4 @@
+pub mod HolderSteps
+pub mod KeptHolders
+pub mod MergedChanges
+pub mod AskedShards

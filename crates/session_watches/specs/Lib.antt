@@ -1,0 +1,3 @@
+pub mod KnownReaders
+pub mod DeltaAnswers
+pub mod ComparedShards

@@ -1,0 +1,4 @@
+pub mod OtherHolds
+pub mod HolderCalls
+pub mod HolderGroups
+pub mod HolderStaying
