@@ -1,0 +1,3 @@
+pub mod MainSteps
+pub mod MainPurges
+pub mod PurgeLoops

@@ -1,0 +1,4 @@
+pub mod OwnRounds
+pub mod ServedFlushes
+pub mod FlushTurning
+pub mod OpenedAndClosed

@@ -1,0 +1,4 @@
+pub mod RoundResults
+pub mod MadeRounds
+pub mod FlushTurns
+pub mod PlainRounds

@@ -1,0 +1,14 @@
+//! The law of the flusher before its first call.
+
+ghost use Rattle.std.specs.Prelude.{ℕ, List, [], false};
+ghost use Rattle.core_flusher.specs.Flushing.{KnowsPart};
+ghost use Rattle.cube_core.specs.declared.cell.CoreCell.{CoreCell};
+ghost use Rattle.flusher_mail.specs.FlusherMail.{HasNoFlush};
+
+use core_board_cells::LinkedShard;
+
+/// Before its first call the flusher has no FLUSH in hand and no round, and has not lost the store.
+pub fn the_flusher_begins_free<S: LinkedShard>()
+    ensures { (cells : List (CoreCell S)) (caller : ℕ)
+        → KnowsPart S.fits S.stands S.says cells caller [] (HasNoFlush false) }
+{}

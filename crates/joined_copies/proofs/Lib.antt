@@ -1,0 +1,3 @@
+pub mod BrickFilters
+pub mod CopiesInTurn
+pub mod Ordered
