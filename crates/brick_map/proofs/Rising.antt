@@ -1,5 +1,5 @@
 -- The parts that a round has of bricks, number by number.
-use Rattle.std.proofs.Common.{◌≡◌, ℕ, suc, ◌+◌, ◌<◌, ◌≤◌, ◌==◌, Bool, true, false, cond, List, [], ◌∷◌, ◌++◌, length, slice_get, ◌||◌, Option, Some, None, option_map, refl, sym, ap, ◌∙◌, arith, subst, inl, inr, append_assoc}
+use Rattle.std.proofs.Common.{◌≡◌, ℕ, suc, ◌+◌, ◌<◌, ◌≤◌, ◌==◌, Bool, true, false, cond, List, [], ◌∷◌, ◌++◌, length, slice_get, ◌||◌, Option, Some, None, option_map, IfSome, All, refl, sym, ap, ◌∙◌, arith, subst, inl, inr, append_assoc}
 use Rattle.std.specs.BTreeMap.{is_at}
 use Rattle.std.specs.List.{flat_map, list_any}
 use Rattle.std.specs.Option.{option_map_or}
@@ -17,8 +17,9 @@ use Rattle.brick_store.specs.Copies.{round_part}
 use Rattle.brick_map.specs.declared.deletion.Deletion.{Deletion}
 use Rattle.brick_map.specs.Births.{BrickContent, brick_numbered, content_among, content_of_brick, newborn}
 use Rattle.brick_map.specs.Copied.{IsCopied, round_part_with, part_numbered, part_with_entries, parts_at}
+use Rattle.brick_map.specs.Lists.{HasNumberBelow}
 use Rattle.brick_map.specs.Places.{brick_place}
-use Rattle.brick_map.proofs.Counts.{numbered_at}
+use Rattle.brick_map.proofs.Counts.{numbered_at, numbered_holds}
 use Rattle.brick_map.proofs.Lists.{absent}
 
 -- from one number on, and so from each below it
@@ -192,3 +193,16 @@ copied_among from to number sizes recent bricks found e =
       by_option : (o : Option BrickState) → brick_numbered number bricks ≡ o → IsCopied (round_part_with from to number (option_map_or content_of_brick o born)) (option_map_or content_of_brick o born).rows (slice_get (option_map_or (λ b. part_with_entries (round_part from to b)) o []) 0)
       by_option None g = inr refl
       by_option (Some b) g = there b (numbered_at number bricks b g)
+
+-- each is of a brick that the cube has
+pub copied_there : (from to most number : ℕ) (bricks : List BrickState) (found : Option BrickPart) → All (HasNumberBelow most) bricks → found ≡ slice_get (parts_at from to bricks number) 0 → IfSome found (λ part. number < most)
+copied_there from to most number bricks found all e = subst (λ (o : Option BrickPart). IfSome o (λ part. number < most)) (sym e) (by_option (brick_numbered number bricks) refl) where
+  where_some : (o : Option BrickPart) → number < most → IfSome o (λ part. number < most)
+  where_some None low = tt
+  where_some (Some part) low = low
+
+  by_option : (o : Option BrickState) → brick_numbered number bricks ≡ o → IfSome (slice_get (option_map_or (λ b. part_with_entries (round_part from to b)) o []) 0) (λ part. number < most)
+  by_option None g = tt
+  by_option (Some b) g =
+      let held = numbered_holds (HasNumberBelow most) number bricks b all g in
+      where_some (slice_get (part_with_entries (round_part from to b)) 0) (subst (λ n. n < most) held.1 held.0)

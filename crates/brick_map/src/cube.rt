@@ -1,8 +1,8 @@
 //! The bricks of one cube, with births.
 
-ghost use Rattle.std.specs.Prelude.{◌≡◌, ℕ, ◌+◌, ◌^◌, ◌<◌, ◌≤◌, ◌∷◌, [], ◌++◌, length, filter, All, IfOk, OnOk, OnErr, if◌then◌else◌};
+ghost use Rattle.std.specs.Prelude.{◌≡◌, ℕ, ◌+◌, ◌^◌, ◌<◌, ◌≤◌, ◌∷◌, [], ◌++◌, length, filter, All, IfOk, IfSome, OnOk, OnErr, if◌then◌else◌};
 ghost use Rattle.cube_values.specs.Queries.{IsSoundQuery};
-ghost use Rattle.cube_values.specs.Shapes.{IsSoundCube};
+ghost use Rattle.cube_values.specs.Shapes.{IsSoundCube, bricks_of};
 ghost use Rattle.cube_values.specs.Spans.{IsSoundPart};
 ghost use Rattle.agg_fold.specs.Standing.{Gains, HasRoom};
 ghost use Rattle.brick_store.specs.Deltas.{rows_apart};
@@ -231,6 +231,9 @@ impl CubeBricks {
         ensures parts { IfOk result (λ parts. (number : ℕ)
             → IsCopied (round_part_with from to number (brick_in self.now number))
             (brick_in self.now number).rows (part_numbered number parts)) }
+        ensures there { IfOk result (λ parts. (number : ℕ)
+            → IfSome (part_numbered number parts)
+            (λ part. number < bricks_of (cube_sizes self.now))) }
     {
         let parts = self.list.copy(from, to)?;
         Ok(RoundBrickList::from_vec(parts))

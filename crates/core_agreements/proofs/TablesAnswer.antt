@@ -31,7 +31,7 @@ use Rattle.core_events.specs.Clients.{calls_of, client_state}
 use Rattle.core_events.specs.Events.{Opening, IsSession, CoreEvent}
 use Rattle.core_events.specs.Runs.{IsCoreRun, rows_in_span}
 use Rattle.core_events.specs.Serial.{operations_of}
-use Rattle.core_runs.specs.Queries.{HasAnswered, rows_fetched}
+use Rattle.core_serial.specs.Queries.{HasAnswered, rows_fetched}
 use Rattle.core_rows.proofs.RowsOfRuns.{serial-rows-of}
 use Rattle.core_serial.specs.CubeRows.{rows_of_serial_run, rows_to_find}
 use Rattle.core_serial.specs.OwnOperations.{operations_by_calls}

@@ -13,7 +13,7 @@ ghost use Rattle.core_events.specs.Clients.{client_state};
 ghost use Rattle.core_events.specs.Events.{CoreEvent, Opening};
 ghost use Rattle.core_events.specs.Serial.{CubeOperation, operations_of, rows_after_transaction};
 ghost use Rattle.core_records.specs.CoreRecords.{RunScripts, record_of};
-ghost use Rattle.core_runs.specs.Queries.{HasAnswered, rows_fetched};
+ghost use Rattle.core_serial.specs.Queries.{HasAnswered, rows_fetched};
 ghost use Rattle.core_serial.specs.CubeRows.{rows_of_serial_run, rows_to_find};
 ghost use Rattle.cube_journal.specs.Counters.{held_by};
 ghost use Rattle.cube_language.specs.ResolvedNames.{resolved_query};

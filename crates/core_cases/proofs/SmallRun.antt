@@ -12,7 +12,7 @@ use Rattle.core_events.specs.Clients.{ClientState, client_state}
 use Rattle.core_events.specs.Cells.{brick_after_move, rows_of_brick}
 use Rattle.core_events.specs.Fitting.{MayPutRow}
 use Rattle.core_events.specs.Runs.{IsCoreRun, AreByBrick, rows_in_span}
-use Rattle.core_runs.specs.Queries.{HasAnswered, rows_asked, rows_fetched}
+use Rattle.core_serial.specs.Queries.{HasAnswered, rows_asked, rows_fetched}
 use Rattle.brick_address.specs.Addresses.{AreCoords}
 use Rattle.core_cases.specs.SmallRun.{small_shape, small_opening, small_row, small_query, small_reader, small_put, small_scan, small_write, small_events}
 

@@ -1,21 +1,34 @@
 -- The whole run is a run.
-use Rattle.std.proofs.Common.{◌≡◌, ◌∙◌, ℕ, ◌%◌, ◌<◌, ◌==◌, Bool, true, false, List, [], ◌∷◌, inl, inr, refl, sym, ap, arith, eq-eqb, if◌then◌else◌}
+use Rattle.std.proofs.Common.{◌≡◌, ◌∙◌, ℕ, ◌%◌, ◌<◌, ◌≤◌, ◌==◌, Bool, true, false, List, [], ◌∷◌, inl, inr, refl, sym, ap, arith, eq-eqb, ne_eqb, if◌then◌else◌}
+use Rattle.std.specs.List.{Contains}
 use Rattle.std.proofs.lemmas.Bool.{false≢true}
 use Rattle.std.proofs.lemmas.List.Elements.{All-cons, All-nil}
 use Rattle.cube_values.specs.declared.query.BoundItem.TheVariants.{Count}
 use Rattle.cube_values.specs.declared.row.CodedRow.{CodedRow}
 use Rattle.cube_values.specs.Queries.{IsSoundItem, IsSoundQuery}
+use Rattle.cube_language.specs.Grammar.{IsProperColumn}
+use Rattle.cube_language.specs.Keywords.{keyword_of}
+use Rattle.cube_language.specs.declared.decl.Column.TheVariants as column
 use Rattle.brick_address.specs.Addresses.{AreCoords}
-use Rattle.core_events.specs.ShardView.{BrickEntry, RowRun, brick_rows_seen, rows_where}
+use Rattle.core_events.specs.ShardView.{BrickEntry, RowRun, brick_rows_seen, entries_of_round, rows_appended, rows_over_kept, rows_where}
 use Rattle.core_events.specs.Events.{CoreEvent, By, At}
-use Rattle.core_events.specs.Clients.{ClientState, client_state}
+use Rattle.core_events.specs.Clients.{ClientState, client_state, reader_up_to}
 use Rattle.core_events.specs.Cells.{brick_after_move, rows_of_brick, shard_view_of, counters_of_run}
-use Rattle.core_events.specs.Fitting.{MayPutRow}
-use Rattle.core_events.specs.Runs.{IsCoreRun, AreByBrick, rows_in_span, rows_shown_besides, sight_of_reader}
-use Rattle.core_runs.specs.Queries.{HasAnswered, rows_fetched}
+use Rattle.core_events.specs.Fitting.{CanBeMade, MayPutRow}
+use Rattle.core_events.specs.Runs.{IsCoreRun, AreByBrick, IsBrickCopy, rows_in_span, rows_shown_besides, sight_of_reader}
+use Rattle.core_events.proofs.RoundEntries.{IsOfRound, all-of-round, rows-of-round}
+use Rattle.core_serial.specs.Queries.{HasAnswered, rows_fetched}
 use Rattle.core_cases.specs.SmallRun.{small_shape, small_row, small_query}
-use Rattle.core_cases.specs.WholeRun.{whole_opening, whole_reader, whole_opened, whole_written, whole_asked, whole_watched, whole_round, whole_saved, whole_purged, whole_reads, whole_events}
+use Rattle.core_cases.specs.WholeRun.{whole_cube, whole_opening, whole_reader, whole_opened, whole_written, whole_asked, whole_watched, whole_rows, whole_round, whole_saved, whole_purged, whole_reads, whole_events}
 use Rattle.core_cases.proofs.SmallRun.{flushes, no-texts, one-shard}
+
+-- Its cube can be made.
+can-be-made : CanBeMade whole_cube
+unfolding keyword_of
+can-be-made = record {
+  proper = (refl, (omega arith, All-cons IsProperColumn (column.Dim (record { name = 100 ∷ []; text = false; cardinality = 4; range = 2 })) (column.Metric (109 ∷ []) ∷ []) (record { name = refl; cardinality = omega arith; range = omega arith }) (All-cons IsProperColumn (column.Metric (109 ∷ [])) [] refl (All-nil IsProperColumn))));
+  storable = refl;
+}
 
 put-row : (k : ClientState) → MayPutRow whole_opening 0 0 k small_row
 put-row k = record {
@@ -67,7 +80,7 @@ opened = (
         rows = λ cube. All-nil (λ row. AreCoords small_shape.shape.sizes row.coords);
         none = λ begins cube. refl;
       },
-      record { fits = (record { session = record { first = omega arith; last = omega arith }; under = inl refl; free = refl; ready = refl }, refl); says = refl },
+      record { fits = (record { session = record { first = omega arith; last = omega arith }; under = inl refl; free = refl; ready = refl }, can-be-made); says = refl },
     ),
     record { fits = record { session = record { first = omega arith; last = omega arith }; under = inr (inl refl); free = refl; ready = refl }; says = refl },
   ),
@@ -154,6 +167,52 @@ round = (
   record { there = omega arith; fits = tt; says = refl },
 )
 
+-- What the shard has of a brick: the cube is the one that was made, and the brick is that of the row, or not.
+abbrev view_where : Bool → Bool → List BrickEntry
+view_where cube brick = if cube then RowRun 2 (if brick then small_row ∷ [] else []) ∷ RowRun 0 [] ∷ [] else RowRun 0 [] ∷ []
+
+abbrev own_view : ℕ → List CoreEvent → ℕ → List BrickEntry
+own_view cube [] brick = RowRun 0 [] ∷ []
+own_view cube (By client call ∷ es) brick = own_view cube es brick
+own_view cube (At mail move ∷ es) brick = brick_after_move whole_opening (mail == 0) cube brick move (own_view cube es brick)
+
+own : (cube : ℕ) (es : List CoreEvent) (brick : ℕ) → shard_view_of whole_opening es cube brick ≡ own_view cube es brick
+own cube [] brick = refl
+own cube (By client call ∷ es) brick = own cube es brick
+own cube (At mail move ∷ es) brick = λ i. brick_after_move whole_opening (mail == one-shard brick i) cube brick move (own cube es brick i)
+
+view-is : (cube brick : ℕ) → shard_view_of whole_opening whole_round cube brick ≡ view_where (0 == cube) (1 == brick)
+view-is cube brick = own cube whole_round brick
+
+nothing-copied : (entries : List BrickEntry)
+    → rows_over_kept 0 (brick_rows_seen (reader_up_to 0) entries) []
+    ≡ rows_over_kept 0 (brick_rows_seen (reader_up_to 0) entries) (entries_of_round 0 2 entries) → IsBrickCopy 0 2 entries []
+nothing-copied entries shows = record {
+  epochs = All-nil (IsOfRound 0 2);
+  rows = All-nil (Contains (rows_appended entries));
+  shows = shows;
+}
+
+copied-where : (cube brick : Bool) → let entries = view_where cube brick in
+    IsBrickCopy 0 2 entries (if brick then entries_of_round 0 2 entries else [])
+copied-where cube true = record {
+  epochs = all-of-round 0 2 (view_where cube true);
+  rows = rows-of-round 0 2 (view_where cube true);
+  shows = refl;
+}
+copied-where true false = nothing-copied (view_where true false) refl
+copied-where false false = nothing-copied (view_where false false) refl
+
+whole-copied : (cube brick : ℕ) → IsBrickCopy 0 2 (shard_view_of whole_opening whole_round cube brick) (whole_rows cube brick)
+whole-copied cube brick =
+    coe 1 0 (i. IsBrickCopy 0 2 (view-is cube brick i) (if 1 == brick then entries_of_round 0 2 (view-is cube brick i) else []))
+    (copied-where (0 == cube) (1 == brick))
+
+none-copied : (cube brick : ℕ) → 2 ≤ brick → whole_rows cube brick ≡ []
+none-copied cube brick past =
+    ap (λ (b : Bool). if b then entries_of_round 0 2 (shard_view_of whole_opening whole_round cube brick) else [])
+    (ne_eqb 1 brick (λ same. omega (arith, past, same)))
+
 saved : IsCoreRun whole_opening whole_saved
 saved = (
   (
@@ -164,7 +223,7 @@ saved = (
             (
               (
                 round,
-                record { there = omega arith; fits = (refl, λ e. false≢true (ap flushes e)); says = λ cube brick own. refl },
+                record { there = omega arith; fits = (refl, λ e. false≢true (ap flushes e)); says = record { own = λ cube brick own. whole-copied cube brick; others = none-copied } },
               ),
               record { there = omega arith; fits = (refl, refl); says = tt },
             ),

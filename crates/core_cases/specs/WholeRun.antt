@@ -1,6 +1,6 @@
 -- A run with all that the core has: a session makes a cube, opens the reader of a watch, puts a row and commits, asks
 -- what changed for the watch, has a round saved and purges, and then reads. One shard, one session, and the flusher.
-use Rattle.std.specs.Prelude.{ℕ, List, [], ◌∷◌, false}
+use Rattle.std.specs.Prelude.{ℕ, ◌==◌, List, [], ◌∷◌, false, if◌then◌else◌}
 use Rattle.cube_values.specs.declared.snapshot.Snapshot.{Snapshot}
 use Rattle.cube_language.specs.declared.decl.Decl.{Decl}
 use Rattle.cube_journal.specs.declared.counters.Counters.{Counters}
@@ -14,11 +14,11 @@ use Rattle.core_events.specs.Events.{Opening, OnDesk, OpenWrite, OpenRead, Commi
 use Rattle.core_events.specs.Cells.{shard_view_of}
 use Rattle.core_cases.specs.SmallRun.{small_shape, small_row, small_query}
 
--- A cube with a dimension of numbers, and a metric m.
+-- A cube c with a dimension d of numbers, and a metric m.
 abbrev pub whole_cube : Decl
 whole_cube = record {
-  name = [];
-  dims = record { name = []; text = false; cardinality = 4; range = 2 } ∷ [];
+  name = 99 ∷ [];
+  dims = record { name = 100 ∷ []; text = false; cardinality = 4; range = 2 } ∷ [];
   metrics = (109 ∷ []) ∷ [];
 }
 
@@ -95,9 +95,10 @@ whole_round = posted_and_taken 2 whole_copy (
     By 2 (OnDesk (RoundOpen (Target 0 2))) ∷ At 1 (Take 1 Flush) ∷ By 1 (Post 1 Flush) ∷ whole_watched
     )
 
--- What the shard has for it.
+-- What the shard has for it, of the brick that has a row.
 abbrev pub whole_rows : ShardView
-whole_rows cube brick = entries_of_round 0 2 (shard_view_of whole_opening whole_round cube brick)
+whole_rows cube brick =
+    if 1 == brick then entries_of_round 0 2 (shard_view_of whole_opening whole_round cube brick) else []
 
 -- The round is saved, and the session is told.
 abbrev pub whole_saved : List CoreEvent

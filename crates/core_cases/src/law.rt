@@ -12,7 +12,7 @@ ghost use Rattle.core_cases.specs.WholeRun.{whole_opening, whole_reader, whole_e
 ghost use Rattle.core_events.specs.Cells.{counters_of_run};
 ghost use Rattle.core_events.specs.Clients.{client_state};
 ghost use Rattle.core_events.specs.Runs.{IsCoreRun};
-ghost use Rattle.core_runs.specs.Queries.{HasAnswered, rows_fetched};
+ghost use Rattle.core_serial.specs.Queries.{HasAnswered, rows_fetched};
 
 /// The small run is a run of the core: a session puts a row and commits, and reads it with a query that every
 /// shard has answered.

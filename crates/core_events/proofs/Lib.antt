@@ -1,2 +1,3 @@
 pub mod Knowledge
 pub mod Names
+pub mod RoundEntries

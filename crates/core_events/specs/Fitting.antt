@@ -8,7 +8,10 @@ use Rattle.cube_values.specs.declared.snapshot.Snapshot.{Snapshot}
 use Rattle.cube_values.specs.declared.span.Span.{Span}
 use Rattle.cube_values.specs.Queries.{IsSoundQuery}
 use Rattle.cube_values.specs.Spans.{span_has}
+use Rattle.cube_language.specs.declared.decl.Decl.{Decl}
+use Rattle.cube_language.specs.declared.statement.Statement.TheVariants as asked
 use Rattle.cube_language.specs.Cubes.{IsStorable}
+use Rattle.cube_language.specs.Grammar.{IsProper}
 use Rattle.cube_journal.specs.declared.note.Note.{Note}
 use Rattle.cube_journal.specs.declared.note.Note.TheVariants as note
 use Rattle.cube_run.specs.SessionStates.{first_holder, second_holder}
@@ -198,6 +201,11 @@ pub record MayCloseRoundCall (o : Opening) (a epoch : ℕ) (k : ClientState) : T
   pub round : IsSomeAnd k.round (λ r. r.epoch ≡ epoch)
   pub fetched : is_empty k.group.waits ≡ true
 
+-- A cube that can be made: a statement can declare it, and it can be stored.
+pub record CanBeMade (decl : Decl) : Type 0 where
+  pub proper : IsProper (asked.CreateCube decl)
+  pub storable : IsStorable decl
+
 abbrev pub FitsDesk : Opening → ℕ → DeskEvent → ClientState → Type 0
 FitsDesk o a (OpenWrite statement epoch deps) k = MayOpen o a a k
 FitsDesk o a (OpenRead number statement epoch) k = MayOpen o a number k
@@ -205,7 +213,7 @@ FitsDesk o a (Commit statement epoch) k = MayCommit o a epoch k
 FitsDesk o a (AbortEnd statement epoch cause) k = MayAbort o a epoch k
 FitsDesk o a (CloseRead number statement) k = MayClose o a number k
 FitsDesk o a (TakeNote note counters) k = MayTakeNote o a note k
-FitsDesk o a (CreateCube statement decl answer) k = MayOpen o a a k × IsStorable decl
+FitsDesk o a (CreateCube statement decl answer) k = MayOpen o a a k × CanBeMade decl
 FitsDesk o a (FindCube statement name answer) k = IsSession o a × (is_ready o.shards k.group ≡ true)
 FitsDesk o a (CubesFrom place cubes) k = (place ≤ k.cubes) × IfSome k.round (HasCopies o.shards k.group)
 FitsDesk o a (CountersNow counters) k = Unit {0}

@@ -1,21 +1,22 @@
 -- Runs of the core: each call and each move fitted, and each answer is that of its cell.
 -- Source: this project's own; linearizability (Herlihy and Wing, 1990).
-use Rattle.std.specs.Prelude.{◌≡◌, ℕ, ◌%◌, ◌≤◌, Bool, not, ◌&&◌, ◌==◌, List, [], ◌∷◌, ◌++◌, drop, filter, Some}
+use Rattle.std.specs.Prelude.{◌≡◌, ℕ, ◌%◌, ◌≤◌, Bool, true, not, ◌&&◌, ◌==◌, List, [], ◌∷◌, ◌++◌, drop, filter, Some, All, Contains}
 use Rattle.cube_values.specs.declared.query.BoundQuery.{BoundQuery}
 use Rattle.cube_values.specs.declared.row.CodedRow.{CodedRow}
 use Rattle.cube_values.specs.declared.snapshot.Snapshot.{Snapshot}
 use Rattle.cube_values.specs.declared.span.Span.{Span}
 use Rattle.cube_values.specs.Sees.{sees}
+use Rattle.cube_values.specs.Shapes.{bricks_of}
 use Rattle.cube_values.specs.Spans.{span_has}
 use Rattle.cube_journal.specs.Counters.{lce, counters_in}
 use Rattle.aosi_register.specs.State.{state_of, round_answer}
 use Rattle.aosi_desk.specs.Desks.{DeskState, cube_answer, IsFound}
 use Rattle.names_dict.specs.Dictionaries.{code_of, number_of}
-use Rattle.core_events.specs.ShardView.{BrickEntry, RowRun, RowMark, ShardView, EpochSet, is_below_mark, epochs_before_mark, rows_where, brick_rows_seen, entries_of_round, rows_over_kept}
+use Rattle.core_events.specs.ShardView.{BrickEntry, RowRun, RowMark, ShardView, EpochSet, is_below_mark, epochs_before_mark, rows_where, brick_rows_seen, entries_of_round, epoch_of_entry, is_within_round, rows_appended, rows_over_kept}
 use Rattle.core_events.specs.Jobs.{CoreJob, Append, DropBox, Scan, Delta, Rollback, Purge, CopyRound, JobOutcome, Done, ShardFull, Found, Compared, Copied, OutOfMemory}
 use Rattle.core_events.specs.Events.{Opening, IsOpening, DeskEvent, OpenWrite, OpenRead, TakeNote, CreateCube, FindCube, CubesFrom, CountersNow, RoundOpen, StoreFailed, NamesEvent, Encode, FindName, CopyFrom, ClientCall, OnDesk, OnNames, Fetch, WorkerMove, Take, NoJob, Work, Reply, CoreEvent, By, At}
 use Rattle.core_events.specs.Clients.{client_state, reader_up_to}
-use Rattle.core_events.specs.Cells.{desk_of, dictionary_of, Letter, letter, queue_of, reply_for, is_mail_closed, shard_view_of, rows_of_brick}
+use Rattle.core_events.specs.Cells.{desk_of, dictionary_of, Letter, letter, queue_of, reply_for, is_mail_closed, shard_view_of, rows_of_brick, sizes_of_cube}
 use Rattle.core_events.specs.Fitting.{FitsCall, FitsMove}
 
 -- The answers of the desk.
@@ -90,17 +91,18 @@ pub record IsDeltaOf (o : Opening) (mail : ℕ) (view : ShardView) (query : Boun
   pub goes : AreByBrick o mail query.cube went (λ brick. rows_in_span query.span
       (rows_shown_besides (sight_of_reader from) (sight_of_reader to) (view query.cube brick)))
 
--- A copy of a brick shows, over the rows that a reader up to the round's first epoch sees, what the brick's runs and
--- marks of the round's epochs show over them.
-abbrev pub IsBrickCopy : ℕ → ℕ → List BrickEntry → List BrickEntry → Type 0
-IsBrickCopy from to entries copy =
-    let kept = brick_rows_seen (reader_up_to from) entries in
-    rows_over_kept from kept copy ≡ rows_over_kept from kept (entries_of_round from to entries)
+-- A copy of a brick has entries of the round's epochs and rows of the brick. It shows, over the rows that a reader up to
+-- the round's first epoch sees, what the brick's runs and marks of these epochs show over them.
+pub record IsBrickCopy (from to : ℕ) (entries copy : List BrickEntry) : Type 0 where
+  pub epochs : All (λ e. is_within_round from to (epoch_of_entry e) ≡ true) copy
+  pub rows : All (Contains (rows_appended entries)) (rows_appended copy)
+  pub shows : let kept = brick_rows_seen (reader_up_to from) entries in
+      rows_over_kept from kept copy ≡ rows_over_kept from kept (entries_of_round from to entries)
 
--- So is that of each brick of a shard.
-abbrev pub IsCopyOf : Opening → ℕ → ShardView → ℕ → ℕ → ShardView → Type 0
-IsCopyOf o mail view from to copy = (cube brick : ℕ) → brick % o.shards ≡ mail
-    → IsBrickCopy from to (view cube brick) (copy cube brick)
+-- A shard copies each of its bricks so, and nothing of bricks that the cube has not.
+pub record IsCopyOf (o : Opening) (mail : ℕ) (view : ShardView) (from to : ℕ) (copy : ShardView) : Type 0 where
+  pub own : (cube brick : ℕ) → brick % o.shards ≡ mail → IsBrickCopy from to (view cube brick) (copy cube brick)
+  pub others : (cube brick : ℕ) → bricks_of (sizes_of_cube o cube) ≤ brick → copy cube brick ≡ []
 
 -- The answers of a shard. Rollback and purge take no memory.
 abbrev pub ShardSays : Opening → ℕ → ShardView → CoreJob → JobOutcome → Type 0

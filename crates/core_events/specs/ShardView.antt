@@ -101,6 +101,17 @@ entries_of_round from to (RowMark epoch ∷ older) =
     if is_within_round from to epoch then RowMark epoch ∷ entries_of_round from to older
     else entries_of_round from to older
 
+-- The epoch that made an entry.
+abbrev pub epoch_of_entry : BrickEntry → ℕ
+epoch_of_entry (RowRun epoch rows) = epoch
+epoch_of_entry (RowMark epoch) = epoch
+
+-- All rows of entries, in the order in which they were appended.
+abbrev pub rows_appended : List BrickEntry → List CodedRow
+rows_appended [] = []
+rows_appended (RowRun epoch rows ∷ older) = rows_appended older ++ rows
+rows_appended (RowMark epoch ∷ older) = rows_appended older
+
 -- The rows that a store shows of a brick: what it kept up to an epoch, below the runs and marks of later rounds.
 abbrev pub rows_over_kept : ℕ → List CodedRow → List BrickEntry → List CodedRow
 rows_over_kept epoch kept entries = rows_shown_to every_epoch every_epoch (entries ++ RowRun epoch kept ∷ [])

@@ -17,11 +17,11 @@ use Rattle.core_events.specs.Clients.{client_state}
 use Rattle.core_events.specs.Events.{Opening, IsSession, OpenWrite, OpenRead, Commit, AbortEnd, TakeNote, CreateCube, ClientCall, OnDesk, OnNames, Post, Fetch, CloseMail, NoChange, CoreEvent, By, At}
 use Rattle.core_events.specs.Fitting.{IsNumberOf}
 use Rattle.core_events.specs.Runs.{IsCoreRun}
-use Rattle.core_desk.proofs.Agreement.{opening-of, agree}
-use Rattle.core_desk.proofs.DeskSteps.{register_with, register-step, desk_entry}
-use Rattle.core_desk.proofs.KnownCubes.{known-cubes}
-use Rattle.core_desk.proofs.MayCalls.{may-write, may-read, may-commit, may-abort, may-close, may-create, may-round, may-end}
-use Rattle.core_journal.proofs.NoteCalls.{note-allowed, note-silent}
+use Rattle.core_parts.proofs.Agreement.{opening-of, agree}
+use Rattle.core_parts.proofs.DeskSteps.{register_with, register-step, desk_entry}
+use Rattle.core_parts.proofs.KnownCubes.{known-cubes}
+use Rattle.core_parts.proofs.MayCalls.{may-write, may-read, may-commit, may-abort, may-close, may-create, may-round, may-end}
+use Rattle.core_outputs.proofs.NoteCalls.{note-allowed, note-silent}
 use Rattle.core_links.specs.DeskEvents.{own_epoch, desk_event, FitsDeskCall, is_on_desk}
 
 -- The desk has the sessions of the opening.
@@ -104,7 +104,7 @@ can o a (call.CreateCube session statement decl) es run may =
     let made = cube_answer (desk_of o es) decl.name in
     let fits = may.event (answer.Created made) in
     let next : IsCoreRun o (By a (OnDesk (CreateCube statement decl made)) ∷ es) = (run, record { fits = fits; says = refl }) in
-    (ap (held_by (counters_of_run o es).snapshots) may.number ∙ may-create o a statement decl made es next, fits.1)
+    (ap (held_by (counters_of_run o es).snapshots) may.number ∙ may-create o a statement decl made es next, fits.1.storable)
 can o a (call.FindCube session statement name) es run may = tt
 can o a (call.CubesFrom place) es run may =
     let fits = (may.event (answer.Cubes [])).0 in

@@ -1,9 +1,9 @@
 //! The laws of what is behind a session of the core.
 
 ghost use Rattle.std.specs.Prelude.{◌≡◌, ℕ, ◌+◌, List, [], filter};
-ghost use Rattle.core_clients.specs.Knowing.{IsLaterRun};
+ghost use Rattle.core_callers.specs.Knowing.{IsLaterRun};
 ghost use Rattle.core_events.specs.Events.{CoreEvent, Opening};
-ghost use Rattle.core_journal.specs.Journals.{journal_of};
+ghost use Rattle.core_outputs.specs.Journals.{journal_of};
 ghost use Rattle.core_pasts.specs.CorePasts.{CorePast, IsInTurn, IsNumberBehind, IsOneMore, last_number, last_step, nothing_behind};
 ghost use Rattle.core_pasts.specs.RunsFrom.{GoesOn, IsRunFrom};
 ghost use Rattle.core_program.specs.CoreFits.{CoreEntry};

@@ -20,11 +20,11 @@ use Rattle.core_rows.specs.RowsOfCubes.{IsCubeRow}
 
 -- Facts on all rows of a list.
 
-all-append : (P : CodedRow → Type 0) (xs ys : List CodedRow) → AllByRecursion P xs → AllByRecursion P ys → AllByRecursion P (xs ++ ys)
+pub all-append : (P : CodedRow → Type 0) (xs ys : List CodedRow) → AllByRecursion P xs → AllByRecursion P ys → AllByRecursion P (xs ++ ys)
 all-append P [] ys f g = g
 all-append P (x ∷ xs) ys f g = (f.0, all-append P xs ys f.1 g)
 
-all-filter : (P : CodedRow → Type 0) (test : CodedRow → Bool) (xs : List CodedRow) → AllByRecursion P xs → AllByRecursion P (filter test xs)
+pub all-filter : (P : CodedRow → Type 0) (test : CodedRow → Bool) (xs : List CodedRow) → AllByRecursion P xs → AllByRecursion P (filter test xs)
 all-filter P test [] f = tt
 all-filter P test (x ∷ xs) f = at (test x) (all-filter P test xs f.1)
   where
@@ -32,7 +32,7 @@ all-filter P test (x ∷ xs) f = at (test x) (all-filter P test xs f.1)
     at true rest = (f.0, rest)
     at false rest = rest
 
-all-as : (P Q : CodedRow → Type 0) (xs : List CodedRow) → ((x : CodedRow) → P x → Q x) → AllByRecursion P xs → AllByRecursion Q xs
+pub all-as : (P Q : CodedRow → Type 0) (xs : List CodedRow) → ((x : CodedRow) → P x → Q x) → AllByRecursion P xs → AllByRecursion Q xs
 all-as P Q [] f h = tt
 all-as P Q (x ∷ xs) f h = (f x h.0, all-as P Q xs f h.1)
 
@@ -46,7 +46,7 @@ more-names o es cube dim e =
     let both = length-append (dictionary_of o cube dim es).names grown.0 in
     omega (arith, same, both)
 
-row-later : (o : Opening) (es : List CoreEvent) (cube : ℕ) (e : CoreEvent) (row : CodedRow) → IsCubeRow o es cube row → IsCubeRow o (e ∷ es) cube row
+pub row-later : (o : Opening) (es : List CoreEvent) (cube : ℕ) (e : CoreEvent) (row : CodedRow) → IsCubeRow o es cube row → IsCubeRow o (e ∷ es) cube row
 row-later o es cube e row r = record {
   coords = r.coords;
   metrics = r.metrics;
@@ -72,11 +72,11 @@ put-later o es cube e (DropRows box ∷ older) f = put-later o es cube e older f
 
 -- What is posted.
 
-abbrev JobRows : Opening → List CoreEvent → CoreJob → Type 0
+abbrev pub JobRows : Opening → List CoreEvent → CoreJob → Type 0
 JobRows o es (Append cube epoch rows) = AllByRecursion (IsCubeRow o es cube) rows
 JobRows o es job = Unit {0}
 
-job-rows : (o : Opening) (es : List CoreEvent) (a mail : ℕ) (job : CoreJob) → IsCoreRun o es → FitsCall o a (Post mail job) (client_state o a es)
+pub job-rows : (o : Opening) (es : List CoreEvent) (a mail : ℕ) (job : CoreJob) → IsCoreRun o es → FitsCall o a (Post mail job) (client_state o a es)
     → JobRows o es job
 job-rows o es a mail (Append cube epoch rows) run f =
     let k = client_state o a es in

@@ -22,15 +22,15 @@ use Rattle.core_events.specs.Cells.{sizes_of_cube, shard_view_of, rows_of_brick}
 use Rattle.core_events.specs.Fitting.{OwnsWriter}
 use Rattle.core_events.specs.Runs.{IsCoreRun, rows_in_span}
 use Rattle.core_events.specs.Serial.{counts_for, has_committed, operations_of}
-use Rattle.core_bricks.proofs.Counts.{count-filter}
-use Rattle.core_bricks.specs.BrickTransactions.{entries_of_epoch, brick_rows_left}
-use Rattle.core_desk.proofs.Finished.{or-is}
-use Rattle.core_runs.specs.Queries.{HasAnswered, rows_fetched, rows_asked}
-use Rattle.core_runs.specs.Told.{rolled_back, told_of}
-use Rattle.core_runs.proofs.Asking.{AsksBy, run-held}
-use Rattle.core_runs.proofs.SerialQueries.{serial-without}
-use Rattle.core_transactions.specs.PostedEntries.{posted_of}
-use Rattle.core_transactions.proofs.CountedRows.{IsSettled, settled-rows, answered-counts, asks-writer, asking-clean, and-parts}
+use Rattle.core_parts.proofs.Counts.{count-filter}
+use Rattle.core_parts.specs.BrickTransactions.{entries_of_epoch, brick_rows_left}
+use Rattle.core_parts.proofs.Finished.{or-is}
+use Rattle.core_serial.specs.Queries.{HasAnswered, rows_fetched, rows_asked}
+use Rattle.core_serial.specs.Told.{rolled_back, told_of}
+use Rattle.core_serial.proofs.Asking.{AsksBy, run-held}
+use Rattle.core_serial.proofs.SerialQueries.{serial-without}
+use Rattle.core_serial.specs.PostedEntries.{posted_of}
+use Rattle.core_serial.proofs.CountedRows.{IsSettled, settled-rows, answered-counts, asks-writer, asking-clean, and-parts}
 use Rattle.core_serial.specs.CubeRows.{rows_of_serial_run, rows_to_find}
 use Rattle.core_serial.proofs.Permutations.{CountAlike, alike-by-key, permuted-by-counts}
 use Rattle.core_serial.proofs.CubeOperations.{RunAlike, leave-alike}

@@ -1,3 +1,13 @@
+pub mod Isolation
+pub mod Asking
+pub mod FoundRows
+pub mod ToldBricks
+pub mod SerialQueries
+pub mod Fates
+pub mod PostedJobs
+pub mod PostedRuns
+pub mod CountedRows
+pub mod OwnPosts
 pub mod Permutations
 pub mod CubeOperations
 pub mod PostedOperations

@@ -10,11 +10,11 @@ use Rattle.core_events.specs.Fitting.{FitsCall}
 use Rattle.core_events.specs.Runs.{IsCoreRun}
 use Rattle.core_events.specs.Serial.{CubeOperation, operations_after, operations_of}
 use Rattle.core_events.proofs.Knowledge.{known-by-calls}
-use Rattle.core_desk.proofs.Finished.{or-is}
-use Rattle.core_transactions.specs.PostedEntries.{opens_writer, has_opened}
-use Rattle.core_transactions.proofs.Fates.{HasFate, fates-move}
-use Rattle.core_transactions.proofs.OwnPosts.{opens-next, post-other}
-use Rattle.core_transactions.proofs.PostedJobs.{fate-below}
+use Rattle.core_parts.proofs.Finished.{or-is}
+use Rattle.core_serial.specs.PostedEntries.{opens_writer, has_opened}
+use Rattle.core_serial.proofs.Fates.{HasFate, fates-move}
+use Rattle.core_serial.proofs.OwnPosts.{opens-next, post-other}
+use Rattle.core_serial.proofs.PostedJobs.{fate-below}
 use Rattle.core_serial.specs.OwnOperations.{operations_by_calls}
 use Rattle.core_serial.proofs.PostedOperations.{other-operations, none-from-ec, job-fate, fate-call}
 

@@ -10,12 +10,12 @@ use Rattle.core_events.specs.Cells.{counters_of_run, shard_view_of, rows_of_bric
 use Rattle.core_events.specs.Fitting.{OwnsWriter}
 use Rattle.core_events.specs.Runs.{IsCoreRun}
 use Rattle.std.specs.Prelude.{List}
-use Rattle.core_desk.proofs.Agreement.{agree}
-use Rattle.core_mails.proofs.Posted.{ready-empty}
-use Rattle.core_runs.proofs.Asking.{AsksBy}
-use Rattle.core_runs.proofs.ToldBricks.{seen-of-told}
-use Rattle.core_transactions.proofs.CountedRows.{held-settled, asks-writer, and-parts}
-use Rattle.core_transactions.proofs.PostedJobs.{ready-clean}
+use Rattle.core_parts.proofs.Agreement.{agree}
+use Rattle.core_parts.proofs.Posted.{ready-empty}
+use Rattle.core_serial.proofs.Asking.{AsksBy}
+use Rattle.core_serial.proofs.ToldBricks.{seen-of-told}
+use Rattle.core_serial.proofs.CountedRows.{held-settled, asks-writer, and-parts}
+use Rattle.core_serial.proofs.PostedJobs.{ready-clean}
 use Rattle.core_serial.specs.CubeRows.{rows_of_serial_run}
 use Rattle.core_serial.specs.HeldSnapshots.{HoldsAtRest}
 use Rattle.core_serial.proofs.CubeSerial.{OwnRuns, seen-serial}

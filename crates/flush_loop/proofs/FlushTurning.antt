@@ -4,7 +4,7 @@ use Rattle.mail_cell.specs.declared.answer.Taken.{Taken}
 use Rattle.mail_cell.specs.declared.answer.Taken.TheVariants.{Job as SomeJob, Empty, Closed}
 use Rattle.core_board.specs.Links.{AreEventsOf}
 use Rattle.core_board_cells.specs.BoardCells.{IsEntryEvent}
-use Rattle.core_clients.specs.Knowing.{IsLaterRun}
+use Rattle.core_callers.specs.Knowing.{IsLaterRun}
 use Rattle.core_events.specs.Clients.{calls_of}
 use Rattle.core_events.specs.Events.{Opening, NoJob, Take, CoreEvent, At, By}
 use Rattle.core_events.specs.Jobs.{CoreJob, Flush, JobOutcome}

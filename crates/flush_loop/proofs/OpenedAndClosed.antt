@@ -11,14 +11,14 @@ use Rattle.core_cells.specs.declared.desk.DeskAnswer.{DeskAnswer}
 use Rattle.core_cells.specs.declared.desk.DeskAnswer.TheVariants as answer
 use Rattle.core_cells.specs.declared.desk.DeskCall.{DeskCall}
 use Rattle.core_cells.specs.declared.desk.DeskCall.TheVariants as call
-use Rattle.core_clients.proofs.KnownCalls.{desk-learns, earlier-run}
-use Rattle.core_clients.specs.Knowing.{GoOnBy, IsClientOf, IsLaterRun, Knows, MayCallDesk}
+use Rattle.core_callers.proofs.KnownCalls.{desk-learns, earlier-run}
+use Rattle.core_callers.specs.Knowing.{GoOnBy, IsClientOf, IsLaterRun, Knows, MayCallDesk}
 use Rattle.core_events.specs.Clients.{ClientState, calls_of, state_from_calls}
 use Rattle.core_events.specs.Events.{Opening, RoundClose, RoundOpen, OnDesk, NoChange, ClientCall, CoreEvent, By, flusher}
 use Rattle.core_events.specs.Jobs.{CoreJob, JobOutcome}
 use Rattle.core_events.specs.ShardView.{ShardView}
-use Rattle.core_flusher.proofs.FlusherCalls.{is-client}
-use Rattle.core_flusher.specs.Flushing.{IsFlusherOf}
+use Rattle.core_callers.proofs.FlusherCalls.{is-client}
+use Rattle.core_callers.specs.Flushing.{IsFlusherOf}
 use Rattle.core_links.specs.DeskEvents.{FitsDeskCall, desk_event}
 use Rattle.core_program.specs.CoreFits.{CoreEntry}
 use Rattle.cube_core.specs.declared.cell.CoreCell.{CoreCell}

@@ -2,16 +2,16 @@
 use Rattle.std.proofs.Common.{◌≡◌, ◌∙◌, ℕ, Bool, true, false, true≢false, List, [], ◌∷◌, ◌++◌, append_assoc, append-nil, Some, None, refl, sym, ap, subst}
 use Rattle.core_board.specs.Links.{AreEventsOf}
 use Rattle.core_board_cells.specs.BoardCells.{IsEntryEvent}
-use Rattle.core_clients.proofs.KnownCalls.{earlier-run}
-use Rattle.core_clients.specs.Knowing.{IsLaterRun}
+use Rattle.core_callers.proofs.KnownCalls.{earlier-run}
+use Rattle.core_callers.specs.Knowing.{IsLaterRun}
 use Rattle.core_events.specs.Cells.{Took, WorkerState, worker_of}
 use Rattle.core_events.specs.Clients.{calls_of, state_from_calls}
 use Rattle.core_events.specs.Events.{Opening, flush_mail, flusher, Reply, ClientCall, CoreEvent, At}
 use Rattle.core_events.specs.Fitting.{FitsWork, FlushSays, round_progress}
 use Rattle.core_events.specs.Jobs.{CoreJob, Flush, JobOutcome, StoreLost}
 use Rattle.core_events.specs.ShardView.{ShardView}
-use Rattle.core_flusher.specs.Flushing.{IsFlusherOf, KnowsPart, MayReplyTo, PartClaim}
-use Rattle.core_mails.specs.Histories.{job_served}
+use Rattle.core_callers.specs.Flushing.{IsFlusherOf, KnowsPart, MayReplyTo, PartClaim}
+use Rattle.core_parts.specs.Histories.{job_served}
 use Rattle.core_program.specs.CoreFits.{CoreEntry}
 use Rattle.cube_core.specs.declared.cell.CoreCell.{CoreCell}
 use Rattle.cube_core.specs.declared.jobs.FlushAnswer.{FlushAnswer}

@@ -3,7 +3,7 @@
 use Rattle.std.specs.Prelude.{◌≡◌, ℕ, Bool, List, ◌++◌, map}
 use Rattle.core_board.specs.Links.{AreEventsOf}
 use Rattle.core_board_cells.specs.BoardCells.{IsEntryEvent}
-use Rattle.core_clients.specs.Knowing.{IsLaterRun, Knows}
+use Rattle.core_callers.specs.Knowing.{IsLaterRun, Knows}
 use Rattle.core_events.specs.Clients.{calls_of, state_from_calls}
 use Rattle.core_events.specs.Events.{Opening, ClientCall, CoreEvent, By}
 use Rattle.core_events.specs.Jobs.{CoreJob, JobOutcome}

@@ -2,7 +2,7 @@
 ghost use Rattle.std.specs.Prelude.{◌≡◌, ℕ};
 ghost use Rattle.std.specs.Option.{option_map_or};
 ghost use Rattle.aosi_register.specs.declared.answer.RoundEnd.{RoundEnd};
-ghost use Rattle.core_answers.specs.AnswersOfCalls.{DeskAnswers};
+ghost use Rattle.core_callers.specs.AnswersOfCalls.{DeskAnswers};
 ghost use Rattle.core_cells.specs.declared.desk.DeskAnswer.TheVariants as answer;
 ghost use Rattle.core_cells.specs.declared.desk.DeskCall.TheVariants as call;
 ghost use Rattle.flush_loop.specs.RoundResults.{flush_answer, loses_store};

@@ -1,7 +1,7 @@
 //! The trait of what makes the flusher's rounds.
 ghost use Rattle.std.specs.Prelude.{◌≡◌, ◌+◌, ◌≤◌, false, List};
 ghost use Rattle.core_events.specs.Events.{Opening, ClientCall, CoreEvent};
-ghost use Rattle.core_flusher.specs.Flushing.{IsFlusherOf};
+ghost use Rattle.core_callers.specs.Flushing.{IsFlusherOf};
 ghost use Rattle.cube_core.specs.declared.cell.CoreCell.{CoreCell};
 ghost use Rattle.flush_loop.specs.MadeRounds.{HoldsInRuns, KnowsBetween, LearnsOfOwnRound};
 ghost use Rattle.flush_loop.specs.RoundResults.{loses_store};

@@ -1,7 +1,7 @@
 //! The rounds of a core without a store.
 ghost use Rattle.std.specs.Prelude.{◌≡◌, ◌+◌, ℕ, false, [], ◌∷◌, ◌++◌, Some};
 ghost use Rattle.std.specs.Option.{option_map_or};
-ghost use Rattle.core_flusher.specs.Flushing.{IsFlusherOf};
+ghost use Rattle.core_callers.specs.Flushing.{IsFlusherOf};
 ghost use Rattle.aosi_register.specs.declared.answer.RoundAnswer.TheVariants as asked;
 ghost use Rattle.aosi_register.specs.declared.answer.RoundEnd.TheVariants as end;
 ghost use Rattle.client_calls.specs.ClientCalls.{desk_entry};
@@ -17,8 +17,8 @@ use aosi_desk::{RoundAnswer, RoundEnd};
 use board_callers::CellCaller;
 use client_calls::call_desk_cell;
 use core_board_cells::LinkedShard;
+use core_callers::the_flusher_is_a_client;
 use core_cells::DeskCall;
-use core_flusher::the_flusher_is_a_client;
 use core_program::{CoreCells, CoreSize};
 use std::sync::Wait;
 use turn_board::Board;

@@ -1,3 +1,4 @@
 pub mod BrickFilters
 pub mod CopiesInTurn
 pub mod Ordered
+pub mod RisingParts

@@ -4,6 +4,7 @@ use Rattle.std.specs.Prelude.{◌≡◌, ℕ, ◌+◌, ◌%◌, ◌==◌, Bool, 
 use Rattle.std.specs.List.Sorted.{IsSortedByKey}
 use Rattle.std.specs.Ordering.{nat_cmp}
 use Rattle.cube_rounds.specs.Bricks.{BrickPart}
+use Rattle.cube_rounds.specs.Demands.{AreRising}
 
 -- What a shard copied of each cube.
 abbrev pub ShardCopy : Type 0
@@ -11,6 +12,10 @@ ShardCopy = List (List BrickPart)
 
 abbrev pub copy_of_cube : ℕ → ShardCopy → List BrickPart
 copy_of_cube cube copy = slice_index_or copy cube []
+
+-- The parts of each cube rise by the numbers of their bricks, so that of each brick there is one at most.
+abbrev pub AreRisingByCube : ShardCopy → Type 0
+AreRisingByCube copy = (cube : ℕ) → AreRising 0 (copy_of_cube cube copy)
 
 -- A part is of a brick of the shard of a number.
 abbrev pub is_of_shard : ℕ → ℕ → BrickPart → Bool

@@ -1,7 +1,7 @@
 -- What the calls of a run make of the desk's cubes.
-use Rattle.std.proofs.Common.{◌≡◌, ℕ, ◌≤◌, ◌==◌, Bool, true, false, List, [], ◌∷◌, ◌++◌, length, All, refl, arith, length-append, if◌then◌else◌}
+use Rattle.std.proofs.Common.{◌≡◌, ℕ, ◌≤◌, ◌==◌, Bool, true, false, List, [], ◌∷◌, ◌++◌, length, All, refl, sym, ap, ◌∙◌, arith, append-nil, append_assoc, length-append, if◌then◌else◌}
 use Rattle.std.proofs.lemmas.Bool.{eqb-false}
-use Rattle.std.proofs.lemmas.List.Elements.{All-push}
+use Rattle.std.proofs.lemmas.List.Elements.{All-nil, All-push}
 use Rattle.cube_language.specs.Cubes.{IsStorable}
 use Rattle.cube_language.specs.CubesText.{cubes_limit}
 use Rattle.cube_language.specs.declared.decl.Decl.{Decl}
@@ -14,13 +14,14 @@ use Rattle.aosi_desk.proofs.Kept.{are_cubes-more}
 use Rattle.core_events.specs.Cells.{desk_of, desk_after}
 use Rattle.core_events.specs.Clients.{client_state}
 use Rattle.core_events.specs.Events.{Opening, CreateCube, FindCube, ClientCall, OnDesk, CoreEvent, By, At}
-use Rattle.core_events.specs.Fitting.{FitsCall}
+use Rattle.core_events.specs.Fitting.{CanBeMade, FitsCall}
 use Rattle.core_events.specs.Runs.{IsCoreRun, CallSays}
-use Rattle.core_desk.proofs.Agreement.{opening-of}
+use Rattle.core_parts.proofs.Agreement.{opening-of}
+use Rattle.known_cubes.specs.KnownCubes.{AreMadeAfter}
 
--- A cube can be added to cubes: it can be stored, its name is new, and there is room.
+-- A cube can be added to cubes: it can be made, its name is new, and there is room.
 pub record MayBeAdded (cubes : List Decl) (decl : Decl) : Type 0 where
-  pub storable : IsStorable decl
+  pub made : CanBeMade decl
   pub new_name : has_cube (decl_names cubes) decl.name ≡ false
   pub room : (length cubes == cubes_limit) ≡ false
 
@@ -53,7 +54,7 @@ module _ (P : List Decl → Type 0)
       → CallSays o es a call → P (desk_of o es).cubes → P (desk_after a call (desk_of o es)).cubes
   after-call o a (OnDesk (CreateCube statement decl (Created epoch place))) es f says before =
       let made = cube-made (desk_of o es) decl.name epoch place says in
-      more (desk_of o es).cubes decl (record { storable = f.1; new_name = made.new_name; room = made.room }) before
+      more (desk_of o es).cubes decl (record { made = f.1; new_name = made.new_name; room = made.room }) before
   after-call o a (OnDesk (CreateCube statement decl Exists)) es f says before = before
   after-call o a (OnDesk (CreateCube statement decl TooMany)) es f says before = before
   after-call o a (OnDesk (FindCube statement name (Found place decl))) es f says before = before
@@ -79,7 +80,7 @@ few-cubes o es run =
 pub storable-cubes : (o : Opening) (es : List CoreEvent) → IsCoreRun o es → All IsStorable o.cubes
     → All IsStorable (desk_of o es).cubes
 storable-cubes o es run first =
-    in-run (All IsStorable) (λ cubes decl may all. All-push IsStorable cubes decl all may.storable) o es run first
+    in-run (All IsStorable) (λ cubes decl may all. All-push IsStorable cubes decl all may.made.storable) o es run first
 
 pub are-cubes : (o : Opening) (es : List CoreEvent) → IsCoreRun o es → AreCubes o.cubes → AreCubes (desk_of o es).cubes
 are-cubes o es run first =
@@ -87,4 +88,14 @@ are-cubes o es run first =
     (λ cubes decl may are.
     let apart = eqb-false (length cubes) cubes_limit may.room in
     let few = are.few in
-    are_cubes-more cubes decl are (omega (arith, few, apart)) may.new_name may.storable) o es run first
+    are_cubes-more cubes decl are (omega (arith, few, apart)) may.new_name may.made.storable) o es run first
+
+pub cubes-made : (o : Opening) (es : List CoreEvent) → IsCoreRun o es → AreMadeAfter o.cubes (desk_of o es).cubes
+cubes-made o es run =
+    in-run (AreMadeAfter o.cubes)
+    (λ cubes decl may before.
+    record {
+      made = before.made ++ decl ∷ [];
+      are = ap (λ (them : List Decl). them ++ decl ∷ []) before.are ∙ append_assoc o.cubes before.made (decl ∷ []);
+      each = All-push CanBeMade before.made decl before.each may.made;
+    }) o es run (record { made = []; are = sym (append-nil o.cubes); each = All-nil CanBeMade })

@@ -1,6 +1,6 @@
 -- What a client knows of a cube that the desk told it of.
 -- Source: this project's own.
-use Rattle.std.specs.Prelude.{◌≡◌, ℕ, ◌+◌, ◌%◌, ◌<◌, List, length, slice_get, Some, All, Contains}
+use Rattle.std.specs.Prelude.{◌≡◌, ℕ, ◌+◌, ◌%◌, ◌<◌, List, ◌++◌, length, slice_get, Some, All, Contains}
 use Rattle.cube_values.specs.declared.row.CodedRow.{CodedRow}
 use Rattle.cube_language.specs.Cubes.{IsStorable, sizes_of}
 use Rattle.cube_language.specs.CubesText.{cubes_limit}
@@ -12,9 +12,10 @@ use Rattle.aosi_desk.specs.declared.cube.CubeFound.TheVariants.{Found}
 use Rattle.names_dict.specs.Dictionaries.{IsTextDimension}
 use Rattle.core_cells.specs.declared.desk.DeskAnswer.TheVariants as said
 use Rattle.core_cells.specs.declared.desk.DeskCall.TheVariants as asked
-use Rattle.core_clients.specs.Knowing.{Claim}
+use Rattle.core_callers.specs.Knowing.{Claim}
 use Rattle.core_events.specs.Clients.{ClientState, state_from_calls}
 use Rattle.core_events.specs.Events.{Opening}
+use Rattle.core_events.specs.Fitting.{CanBeMade}
 use Rattle.core_events.specs.Jobs.{CoreJob, JobOutcome}
 use Rattle.core_events.specs.ShardView.{ShardView}
 use Rattle.core_program.specs.CoreFits.{CoreEntry, OpensCells}
@@ -51,6 +52,12 @@ pub record KnowsCube (o : Opening) (place : ℕ) (decl : Decl) (k : ClientState)
   pub shape : o.shapes place ≡ cube_of decl
   pub below : place < cubes_limit
   pub there : place < k.cubes
+
+-- The cubes are the first ones and then such as can be made.
+pub record AreMadeAfter (first cubes : List Decl) : Type 0 where
+  pub made : List Decl
+  pub are : cubes ≡ first ++ made
+  pub each : All CanBeMade made
 
 -- It knows it by its calls.
 abbrev pub CallsTellCube : ℕ → ℕ → Decl → Claim

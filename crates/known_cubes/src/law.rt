@@ -7,7 +7,7 @@ ghost use Rattle.condition_spans.specs.Spans.{CutNoBrick};
 ghost use Rattle.core_board.specs.Links.{AreEventsOf};
 ghost use Rattle.core_board_cells.specs.BoardCells.{IsEntryEvent};
 ghost use Rattle.core_cells.specs.declared.names.NamesCall.TheVariants as names;
-ghost use Rattle.core_clients.specs.Knowing.{IsClientOf, IsLaterRun, IsSessionOf, Knows, MayCallNames};
+ghost use Rattle.core_callers.specs.Knowing.{IsClientOf, IsLaterRun, IsSessionOf, Knows, MayCallNames};
 ghost use Rattle.core_events.specs.Cells.{desk_of, dictionary_of, sizes_of_cube};
 ghost use Rattle.core_events.specs.Clients.{ClientState, state_from_calls};
 ghost use Rattle.core_events.specs.Events.{ClientCall, CoreEvent, IsSession, Opening};
@@ -26,15 +26,15 @@ ghost use Rattle.cube_values.specs.declared.query.BoundQuery.{BoundQuery};
 ghost use Rattle.cube_values.specs.declared.row.CodedRow.{CodedRow};
 ghost use Rattle.cube_values.specs.declared.shape.CubeShape.{CubeShape};
 ghost use Rattle.cube_values.specs.declared.span.Span.{Span};
-ghost use Rattle.known_cubes.specs.KnownCubes.{CallsTellCube, IsRowToPut, IsToldOfCube, KnowsCube, OpenWithStorableCubes, TellsOfCube};
+ghost use Rattle.known_cubes.specs.KnownCubes.{AreMadeAfter, CallsTellCube, IsRowToPut, IsToldOfCube, KnowsCube, OpenWithStorableCubes, TellsOfCube};
 ghost use Rattle.known_cubes.specs.KnownNames.{CallsTellNumber, IsToldOfName, TellsOfName};
 ghost use Rattle.names_dict.specs.Dictionaries.{IsTextDimension};
 
 use core_board_cells::LinkedShard;
 
 /// The desk's cubes in a run are those of the opening and then those that its history makes, and
-/// each has the shape of its declaration. They are few, and where those of the opening can be
-/// stored, or are also of different names, so are all.
+/// each has the shape of its declaration. They are few, and each of its history's could be made.
+/// Where those of the opening can be stored, or are also of different names, so are all.
 pub fn desk_cubes_are_those_of_the_history<S: LinkedShard>()
     ensures cubes { (o : Opening) (log : List CoreEntry) (run : List CoreEvent) (place : ℕ)
         → AreEventsOf (IsEntryEvent S.fits S.stands S.says o) log run → IsCoreRun o run
@@ -48,6 +48,8 @@ pub fn desk_cubes_are_those_of_the_history<S: LinkedShard>()
         → length (desk_of o run).cubes ≤ cubes_limit }
     ensures storable { (o : Opening) (run : List CoreEvent) → IsCoreRun o run
         → All IsStorable o.cubes → All IsStorable (desk_of o run).cubes }
+    ensures made { (o : Opening) (run : List CoreEvent) → IsCoreRun o run
+        → AreMadeAfter o.cubes (desk_of o run).cubes }
     ensures differ { (o : Opening) (run : List CoreEvent) → IsCoreRun o run
         → AreCubes o.cubes → AreCubes (desk_of o run).cubes }
 {}

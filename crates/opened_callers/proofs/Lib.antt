@@ -1,2 +1,3 @@
 pub mod ToldSizes
 pub mod ToldCubes
+pub mod OpenedNames

@@ -1,5 +1,5 @@
 -- The cells of an opened core tell with which cubes it opened.
-use Rattle.std.proofs.Common.{◌≡◌, ◌∙◌, ℕ, ◌≤◌, List, [], All, sym, ap, subst, arith}
+use Rattle.std.proofs.Common.{◌≡◌, ◌∙◌, ℕ, List, [], All, sym, ap, subst, arith}
 use Rattle.aosi_desk.specs.Desks.{DeskState}
 use Rattle.core_board_cells.specs.BoardCells.{StandsInCell}
 use Rattle.core_events.specs.Events.{Opening}
@@ -8,6 +8,7 @@ use Rattle.cube_core.specs.declared.cell.CoreCell.TheVariants as cell
 use Rattle.cube_language.specs.Cubes.{IsStorable}
 use Rattle.cube_language.specs.declared.decl.Decl.{Decl}
 use Rattle.cube_rounds.specs.Stands.{Kept}
+use Rattle.core_program.specs.CoreFits.{CoreEntry, OpensCells}
 use Rattle.known_cubes.specs.KnownCubes.{OpenWithStorableCubes}
 use Rattle.linked_shards.specs.CellShards.{CoreShardStands}
 use Rattle.linked_shards.specs.declared.cell.CoreShard.{CoreShard}
@@ -26,10 +27,13 @@ desk-tells kept shards sessions o (cell.Mail m) is stand = absurd (omega (arith,
 
 module _ (kept : Kept) (shards sessions : ℕ) (cells : List (CoreCell CoreShard))
     (over : AreCellsOver kept shards sessions cells) where
-  pub storable-told : All IsStorable kept.cubes → OpenWithStorableCubes FitsShard CoreShardStands ShardAnswerSays cells
-  storable-told all o log opens =
+  pub cubes-told : (o : Opening) (log : List CoreEntry)
+      → OpensCells FitsShard CoreShardStands ShardAnswerSays o cells log → o.cubes ≡ kept.cubes
+  cubes-told o log opens =
       let long = over.long in
       let first = place-there cells 0 (omega (arith, long)) in
-      let stands = opens.stand 0 first.0 first.1 in
-      let same = desk-tells kept shards sessions o first.0 (over.each 0 first.0 first.1) stands in
-      subst (λ (cubes : List Decl). All IsStorable cubes) (sym same) all
+      desk-tells kept shards sessions o first.0 (over.each 0 first.0 first.1) (opens.stand 0 first.0 first.1)
+
+  pub storable-told : All IsStorable kept.cubes → OpenWithStorableCubes FitsShard CoreShardStands ShardAnswerSays cells
+  storable-told all o log opens =
+      subst (λ (cubes : List Decl). All IsStorable cubes) (sym (cubes-told o log opens)) all

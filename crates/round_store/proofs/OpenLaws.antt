@@ -1,6 +1,6 @@
 -- A store that is opened.
-use Rattle.std.proofs.Common.{◌≡◌, ℕ, ◌≤◌, ◌^◌, ◌<◌, Bool, List, length, Option, Some, None, Result, Ok, Err, inl, refl, sym, ap, subst, ◌∙◌, arith}
-use Rattle.std.specs.Prelude.{IfSome, MatchResult}
+use Rattle.std.proofs.Common.{◌≡◌, ℕ, ◌≤◌, ◌^◌, ◌<◌, Bool, true, false, List, [], length, Option, Some, None, Result, Ok, Err, inl, inr, refl, sym, ap, subst, ◌∙◌, arith}
+use Rattle.std.specs.Prelude.{IfOk, IfSome, MatchResult}
 use Rattle.std.proofs.lemmas.List.{take_all}
 use Rattle.cube_language.specs.declared.decl.Decl.{Decl}
 use Rattle.cube_language.specs.Cubes.{cubes_text}
@@ -13,12 +13,13 @@ use Rattle.outside_disk.specs.Views.{View, IsSynced}
 use Rattle.sha2.specs.Sha256.{sha256}
 use Rattle.store_reading.specs.declared.pair.StorePlace.{StorePlace}
 use Rattle.store_reading.specs.declared.fault.PairFault.{PairFault}
-use Rattle.store_reading.specs.Pairs.{PairContent, pair_content, StandsAt}
+use Rattle.store_reading.specs.Pairs.{PairContent, pair_content, pair_from, file_of, StandsAt}
 use Rattle.round_store.specs.declared.fault.OpenFault.{OpenFault}
 use Rattle.round_store.specs.declared.fault.OpenFault.TheVariants.{Pair, Disk}
-use Rattle.round_store.specs.Opening.{OpensAs, IsNoRefusal}
+use Rattle.round_store.specs.Opening.{OpenAnswer, OpensAs, OpensFilesAs, OpensFiles, IsNoRefusal}
 use Rattle.round_store.specs.Counts.{counts_of}
-use Rattle.round_store.specs.States.{StoreState, header_cubes, IsStoreOf}
+use Rattle.round_store.specs.States.{StoreState, header_cubes, HoldsForFiles, IsStoreOf, AreFilesOf}
+use Rattle.round_store.proofs.StandsBy.{is_current}
 use Rattle.round_store.proofs.StoreLaws.{cubes_stay}
 
 header_of : (kept : Kept) (place : StorePlace) (file other : List ℕ) (st : StandsAt sha256 (pair_content kept place) file other) → (header_cubes kept ≡ st.stands.cubes) × (kept.declared ≤ length kept.cubes)
@@ -62,27 +63,38 @@ untouched old now = record {
 
 -- ---- over two disks
 
-pub where_all : (a b : Option (List ℕ)) (P : List ℕ → List ℕ → Type 0) → ((f g : List ℕ) → P f g) → IfSome a (λ f. IfSome b (λ g. P f g))
-where_all None b P all = tt
-where_all (Some f) None P all = tt
-where_all (Some f) (Some g) P all = all f g
+-- The file of a disk, and any where it tells none.
+told_file : (o : Option (List ℕ)) → (f : List ℕ) × IfSome o (λ x. f ≡ x)
+told_file None = ([], tt)
+told_file (Some f) = (f, refl)
 
-pub opens_failed : (e : CallError OpenFault) (read : Result PairContent PairFault) → IsNoRefusal e → OpensAs (Err e) read
+opens_failed : (e : CallError OpenFault) (read : Result PairContent PairFault) → IsNoRefusal e → OpensAs (Err e) read
 opens_failed errors.NoMemory read free = tt
 opens_failed (errors.Fault Disk) read free = tt
 opens_failed (errors.Fault (Pair f)) read free = absurd free
 
+pub fails_to_open : (first second : View) (e : CallError OpenFault) → IsNoRefusal e → HoldsForFiles first second (OpensFiles (Err e))
+fails_to_open first second e free =
+    let a = told_file first.told in
+    let b = told_file second.told in
+    record {
+      first_file = a.0;
+      second_file = b.0;
+      first_told = a.1;
+      second_told = b.1;
+      holds = record { exact = λ told tells. opens_failed e (pair_from sha256 told a.0 b.0) free; stands = tt; only = λ kept stands. free };
+    }
+
+-- ---- what is answered for two files
+
+stand_by : (second : Bool) (s : StoreState) (kept : Kept) (f g : List ℕ) → AreFilesOf s kept (file_of second f g) (file_of second g f) → Stands sha256 kept f g
+stand_by true s kept f g files = inr (is_current kept s.place g f files.stands)
+stand_by false s kept f g files = inl (is_current kept s.place f g files.stands)
+
 no_refusal : (e : CallError OpenFault) → e ≡ errors.NoMemory → IsNoRefusal e
 no_refusal e is = subst IsNoRefusal (sym is) tt
 
-only_memory : (r : Result (StoreState × Kept) (CallError OpenFault)) (kept : Kept) → MatchResult r (λ x. x.1 ≡ kept) (λ e. e ≡ errors.NoMemory) → MatchResult r (λ x. x.1 ≡ kept) IsNoRefusal
-only_memory (Ok x) kept m = m
-only_memory (Err e) kept m = no_refusal e m
-
-pub only_where : (a b : Option (List ℕ)) (first second : List ℕ) (r : Result (StoreState × Kept) (CallError OpenFault)) → IfSome a (λ f. first ≡ f) → IfSome b (λ g. second ≡ g)
-    → ((kept : Kept) → Stands sha256 kept first second → MatchResult r (λ x. x.1 ≡ kept) (λ e. e ≡ errors.NoMemory))
-    → IfSome a (λ f. IfSome b (λ g. (kept : Kept) → Stands sha256 kept f g → MatchResult r (λ x. x.1 ≡ kept) IsNoRefusal))
-only_where None b first second r x y only = tt
-only_where (Some f) None first second r x y only = tt
-only_where (Some f) (Some g) first second r x y only = λ kept stands.
-    only_memory r kept (only kept (subst (λ (p : List ℕ). Stands sha256 kept p second) (sym x) (subst (λ (q : List ℕ). Stands sha256 kept f q) (sym y) stands)))
+pub opens_files : (r : OpenAnswer) (f g : List ℕ) → IfOk r (λ x. AreFilesOf x.0 x.1 (file_of x.0.place.second f g) (file_of x.0.place.second g f))
+    → ((kept : Kept) → Stands sha256 kept f g → MatchResult r (λ x. x.1 ≡ kept) (λ e. e ≡ errors.NoMemory)) → OpensFilesAs r f g → OpensFiles r f g
+opens_files (Ok x) f g files only exact = record { exact = exact; stands = stand_by x.0.place.second x.0 x.1 f g files; only = only }
+opens_files (Err e) f g files only exact = record { exact = exact; stands = tt; only = λ kept stands. no_refusal e (only kept stands) }

@@ -53,6 +53,14 @@ pub record AreFilesOf (s : StoreState) (kept : Kept) (current other : List ℕ) 
 abbrev pub WhereTold : View → View → (List ℕ → List ℕ → Type 0) → Type 0
 WhereTold first second P = IfSome first.told (λ f. IfSome second.told (λ g. P f g))
 
+-- This holds for some two files, which are those of two disks where they tell them.
+pub record HoldsForFiles (first second : View) (P : List ℕ → List ℕ → Type 0) : Type 0 where
+  pub first_file : List ℕ
+  pub second_file : List ℕ
+  pub first_told : IfSome first.told (λ f. first_file ≡ f)
+  pub second_told : IfSome second.told (λ g. second_file ≡ g)
+  pub holds : P first_file second_file
+
 -- A store of what is kept on two disks, each of which has one image. Both tell their files, or neither does.
 pub record IsAt (s : StoreState) (kept : Kept) (first second : View) : Type 0 where
   pub store : IsStoreOf s kept

@@ -1,6 +1,6 @@
 //! Opening of a store.
 
-ghost use Rattle.std.specs.Prelude.{◌≡◌, ◌⊎◌, ◌↔◌, ℕ, List, length, IfOk, IfSome, IsSome, IsErrOf, MatchResult};
+ghost use Rattle.std.specs.Prelude.{◌≡◌, ◌⊎◌, ◌↔◌, length, IfOk, IfSome, IsSome, IsErrOf, MatchResult};
 ghost use Rattle.cube_rounds.specs.Stands.{Kept as KeptData, Stands};
 ghost use Rattle.cube_values.specs.declared.call_error.CallError.TheVariants.{Fault, NoMemory};
 ghost use Rattle.outside.specs.Counts.{Rose};
@@ -9,8 +9,8 @@ ghost use Rattle.outside_disk.specs.Views.{IsSynced};
 ghost use Rattle.sha2.specs.Sha256.{sha256};
 ghost use Rattle.store_reading.specs.Pairs.{file_of};
 ghost use Rattle.round_store.specs.Counts.{counts_of};
-ghost use Rattle.round_store.specs.Opening.{OpensFilesAs, IsNoRefusal};
-ghost use Rattle.round_store.specs.States.{IsStoreOf, AreFilesOf, IsAt, WhereTold};
+ghost use Rattle.round_store.specs.Opening.{OpensFiles, OpensFilesAs, IsNoRefusal};
+ghost use Rattle.round_store.specs.States.{HoldsForFiles, IsStoreOf, AreFilesOf, IsAt};
 ghost use Rattle.round_store.specs.declared.fault.OpenFault.TheVariants.{Disk as DiskFault};
 
 use crate::data::{StoreData, counts_of};
@@ -99,7 +99,8 @@ fn file_of_disk<D: Disk>(alloc: Global, disk: &mut D) -> Result<Vec<u8>, CallErr
 /// files, or neither does. The disks stay as they are.
 ///
 /// What the two files stand for is answered, and where they stand for nothing the first fault of the
-/// reading of both; from disks that do not tell their files, what reading some two files gives. `Disk` comes only where a disk's count rose. It takes time by the number of bytes.
+/// reading of both; from disks that do not tell their files, the answer for some two files. `Disk` comes
+/// only where a disk's count rose. It takes time by the number of bytes.
 pub fn open_store<D: Disk>(
     alloc: Global,
     disk: &mut D,
@@ -109,12 +110,7 @@ pub fn open_store<D: Disk>(
     requires second_synced { IsSynced (D.view other.old) }
     requires both { IsSome (D.view disk.old).told ↔ IsSome (D.view other.old).told }
     ensures stands { IfOk result (λ x. IsAt x.0 x.1 (D.view disk.new) (D.view other.new)) }
-    ensures only { WhereTold (D.view disk.old) (D.view other.old) (λ f g.
-        (kept : KeptData) → Stands sha256 kept f g
-        → MatchResult result (λ x. x.1 ≡ kept) IsNoRefusal) }
-    ensures exact { WhereTold (D.view disk.old) (D.view other.old) (λ f g.
-        OpensFilesAs result f g) }
-    ensures reads { (f : List ℕ) × (g : List ℕ) × OpensFilesAs result f g }
+    ensures opens { HoldsForFiles (D.view disk.old) (D.view other.old) (OpensFiles result) }
     ensures first_untouched { IsUntouched (D.view disk.old) (D.view disk.new) }
     ensures second_untouched { IsUntouched (D.view other.old) (D.view other.new) }
     ensures failed { IsErrOf result (Fault DiskFault)

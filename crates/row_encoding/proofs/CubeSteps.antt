@@ -17,7 +17,7 @@ use Rattle.names_dict.specs.declared.code.Code.{Code}
 use Rattle.names_dict.specs.Dictionaries.{Dictionary, IsCodeFor, IsEncoded, IsTextDimension, dictionaries_of, dictionary_at, dictionary_in, empty_dictionaries, encoded_dictionaries, made_dictionaries, with_code}
 use Rattle.condition_spans.specs.Codes.{lists_at, texts_at}
 use Rattle.row_encoding.specs.FinalCodes.{Grow, InTheEnd, IsFinalNumber, IsDimText, code_number, dim_at}
-use Rattle.row_encoding.specs.DictsAsEncoder.{HasName, IsDictionaryOf, MayBecome, MayEndWith, Suit}
+use Rattle.row_encoding.specs.DictsAsEncoder.{HasName, IsDictionaryOf, MayBecome, MayEndWith, Suit, HaveNothingElse}
 use Rattle.row_encoding.proofs.DictSteps.{Outcome, apart_still, became_before, few_still, final_number, inside, one_more_name, outcome, short_still}
 
 -- ---- the dictionaries of a cube in their place
@@ -233,12 +233,13 @@ module _ (d : Decl) (place dim : ℕ) (name : List ℕ) (code : Code) (cubes new
         short = short_still (dictionary_in made dim) name code s.short its_dim.short;
       })))
 
-  grow : Grow MayEndWith Suit HasName place d (IsDimText dim name) cubes new
+  grow : Grow MayEndWith Suit HasName HaveNothingElse place d (IsDimText dim name) cubes new
   grow = record {
     later = later;
     here = suits_still;
     elsewhere = λ p other n h. subst (λ (ds : List Dictionary). (ds ≡ []) ⊎ AllZip IsDictionaryOf other.dims ds) (sym (s.apart p n)) h;
     names = names_still;
+    keeps_else = tt;
   }
 
   final : InTheEnd (MayEndWith new) place (λ lists. IsFinalNumber (dim_at d.dims dim) (texts_at lists dim) name (code_number code))
@@ -273,9 +274,9 @@ module _ (d : Decl) (shape : CubeShape) (place dim : ℕ) (name : List ℕ) (cub
   encoded_inside (Err e) code_is new_is = tt
 
   pub encoded_grow : {E : Type 0} (r : Result Code E) → IfOk r (IsCodeFor shape cubes place dim name) → IfOk r (IsEncoded shape place dim name cubes new)
-      → OnErr r (new ≡ cubes) → Grow MayEndWith Suit HasName place d (IsDimText dim name) cubes new
+      → OnErr r (new ≡ cubes) → Grow MayEndWith Suit HasName HaveNothingElse place d (IsDimText dim name) cubes new
   encoded_grow (Ok code) code_is new_is err =
       grow d place dim name code cubes new (made_dictionaries (cube_of d) (dictionaries_of cubes place)) (stepped code code_is new_is)
   encoded_grow (Err e) code_is new_is err =
-      subst (λ (c : List (List Dictionary)). Grow MayEndWith Suit HasName place d (IsDimText dim name) cubes c) (sym err)
-      (record { later = λ names h. h; here = suits; elsewhere = λ p other n h. h; names = λ p k text h. inl h })
+      subst (λ (c : List (List Dictionary)). Grow MayEndWith Suit HasName HaveNothingElse place d (IsDimText dim name) cubes c) (sym err)
+      (record { later = λ names h. h; here = suits; elsewhere = λ p other n h. h; names = λ p k text h. inl h; keeps_else = tt })

@@ -4,7 +4,7 @@ use Rattle.std.specs.Prelude.{ℤ, ◌==◌}
 use Rattle.std.specs.Option.{option_map, option_or}
 use Rattle.std.proofs.lemmas.Bool.{eqb-true}
 use Rattle.std.proofs.lemmas.List.{length-append, length-map, map_push, drop_more, take_more, take_all, take-append-drop, length_push}
-use Rattle.std.proofs.lemmas.List.Elements.{All-nil, All-push, Contains-get_or}
+use Rattle.std.proofs.lemmas.List.Elements.{All-nil, All-push, All-weaker, Contains-get_or}
 use Rattle.std.proofs.lemmas.Option.{none-some}
 use Rattle.cube_values.specs.Batches.{Batch}
 use Rattle.cube_values.specs.declared.row.CodedRow.{CodedRow}
@@ -23,9 +23,9 @@ use Rattle.cube_run.specs.LoadedRows.{first_without_place, metric_value, row_of_
 use Rattle.agg_fold.specs.Coded.{coded_row, row_for}
 use Rattle.brick_address.specs.Addresses.{AreCoords}
 use Rattle.condition_spans.specs.Codes.{lists_at}
-use Rattle.row_encoding.specs.FinalCodes.{Grow, InTheEnd}
+use Rattle.row_encoding.specs.FinalCodes.{CarriesOn, Grow, HaveNumbers, InTheEnd}
 use Rattle.row_encoding.specs.CodedValues.{AreCodedAs, FindsNoPlace, FitDims, HaveNames, HaveText, HasTextAt, StandFor}
-use Rattle.row_encoding.specs.CodedInserts.{HasCoords, HaveTextIn, RowsStandFor}
+use Rattle.row_encoding.specs.CodedInserts.{HasCoords, HasNumbers, HaveTextIn, RowsStandFor}
 use Rattle.row_encoding.proofs.Growing.{grow_none, grow_more, grow_wider}
 
 -- ---- rows that fit
@@ -78,9 +78,9 @@ front_text (suc n) [] k x h = h
 front_text (suc n) (y ∷ xs) zero x h = h
 front_text (suc n) (y ∷ xs) (suc k) x h = front_text n xs k x h
 
-pub front_grow : {S : Type 0} {may_end : S → List (List (List (List ℕ))) → Type 0} {suits : S → ℕ → Decl → Type 0} {has_name : S → ℕ → ℕ → List ℕ → Type 0}
+pub front_grow : {S : Type 0} {may_end : S → List (List (List (List ℕ))) → Type 0} {suits : S → ℕ → Decl → Type 0} {has_name : S → ℕ → ℕ → List ℕ → Type 0} {keeps : S → S → Type 0}
     {place : ℕ} {d : Decl} {old new : S} (n : ℕ) (values front : List Value) → front ≡ take n values
-    → Grow may_end suits has_name place d (HaveText front) old new → Grow may_end suits has_name place d (HaveText values) old new
+    → Grow may_end suits has_name keeps place d (HaveText front) old new → Grow may_end suits has_name keeps place d (HaveText values) old new
 front_grow n values front is grow = grow_wider grow (λ k text h. front_text n values k (Text text) (subst (λ (vs : List Value). HaveText vs k text) is h))
 
 pub front_has_text : (n : ℕ) (values front : List Value) (k : ℕ) → front ≡ take n values → HasTextAt front k → HasTextAt values k
@@ -125,63 +125,77 @@ row_lacks d lists given coded n dim values text there at front lacks is =
     ∙ (λ i. option_or (front.places i) (option_or (option_map (λ t. t.text) (lacks.first i)) (first_without_place d lists (drop (n + 1) given))))
     ∙ ap Some same
 
+-- ---- numbers that were given
+
+pub still_numbers : {S : Type 0} (keeps : S → S → Type 0) (has_given : S → ℕ → ℕ → ℕ → Type 0) → CarriesOn keeps has_given → (place : ℕ) (d : Decl) (old new : S)
+    (rows : List CodedRow) → keeps old new → All (HasNumbers (has_given old place) d) rows → All (HasNumbers (has_given new place) d) rows
+still_numbers keeps has_given on place d old new rows keep h =
+    All-weaker (HasNumbers (has_given old place) d) (HasNumbers (has_given new place) d)
+    (λ row numbers dim number t is. on.given old new place dim number keep (numbers dim number t is)) rows h
+
 -- ---- between two rows
 
 pub record IsCodedInsert {S : Type 0} (may_end : S → List (List (List (List ℕ))) → Type 0) (suits : S → ℕ → Decl → Type 0) (has_name : S → ℕ → ℕ → List ℕ → Type 0)
+    (keeps : S → S → Type 0) (has_given : S → ℕ → ℕ → ℕ → Type 0)
     (place : ℕ) (d : Decl) (given : List (List Value)) (old now : S) (start batch : Batch) (n : ℕ) : Type 0 where
   pub only : batch ≡ record start { rows = batch.rows }
   pub count : length batch.rows ≡ n
   pub final : InTheEnd (may_end now) place (λ lists. RowsStandFor d lists (take n given) batch.rows)
   pub inside : All (HasCoords d) batch.rows
-  pub grow : Grow may_end suits has_name place d (HaveTextIn given) old now
+  pub numbers : All (HasNumbers (has_given now place) d) batch.rows
+  pub grow : Grow may_end suits has_name keeps place d (HaveTextIn given) old now
 
 module _ {S : Type 0} (may_end : S → List (List (List (List ℕ))) → Type 0) (suits : S → ℕ → Decl → Type 0) (has_name : S → ℕ → ℕ → List ℕ → Type 0)
+    (keeps : S → S → Type 0) (has_given : S → ℕ → ℕ → ℕ → Type 0) (on : CarriesOn keeps has_given)
     (place : ℕ) (d : Decl) (given : List (List Value)) (start : Batch) where
   pub no_row_coded : (now : S) (batch : Batch) → suits now place d → batch ≡ record start { rows = [] }
-      → IsCodedInsert may_end suits has_name place d given now now start batch 0
+      → IsCodedInsert may_end suits has_name keeps has_given place d given now now start batch 0
   no_row_coded now batch suit is =
-      subst (λ (b : Batch). IsCodedInsert may_end suits has_name place d given now now start b 0) (sym is)
+      subst (λ (b : Batch). IsCodedInsert may_end suits has_name keeps has_given place d given now now start b 0) (sym is)
       (record {
         only = refl;
         count = refl;
         final = λ names h. record { rows = λ none. refl; names = All-nil (λ (row : CodedRow). HaveNames d (lists_at names place) row.coords); places = refl };
         inside = All-nil (HasCoords d);
-        grow = grow_none suit;
+        numbers = All-nil (HasNumbers (has_given now place) d);
+        grow = grow_none on suit;
       })
 
   its_text : (n : ℕ) (values : List Value) → n < length given → values ≡ get_or given n [] → (k : ℕ) (text : List ℕ) → HaveText values k text → HaveTextIn given k text
   its_text n values there at k text h = record { row = values; one = subst (Contains given) (sym at) (Contains-get_or given n [] there); here = h }
 
   pub one_row_coded : (old mid new : S) (before after : Batch) (n : ℕ) (values : List Value) (coords : List ℕ) (metrics : List ℤ)
-      → IsCodedInsert may_end suits has_name place d given old mid start before n → n < length given → values ≡ get_or given n []
+      → IsCodedInsert may_end suits has_name keeps has_given place d given old mid start before n → n < length given → values ≡ get_or given n []
       → InTheEnd (may_end new) place (λ lists. AreCodedAs d lists (take (length d.dims) values) coords None)
       → metrics ≡ map metric_value (drop (length d.dims) values) → after ≡ record before { rows = before.rows ++ coded_row coords metrics ∷ [] }
-      → AreCoords (sizes_of d.dims) coords → Grow may_end suits has_name place d (HaveText values) mid new
-      → IsCodedInsert may_end suits has_name place d given old new start after (n + 1)
-  one_row_coded old mid new before after n values coords metrics front there at final numbers is inside grow =
-      subst (λ (b : Batch). IsCodedInsert may_end suits has_name place d given old new start b (n + 1)) (sym is)
+      → AreCoords (sizes_of d.dims) coords → HaveNumbers (has_given new place) d.dims coords → Grow may_end suits has_name keeps place d (HaveText values) mid new
+      → IsCodedInsert may_end suits has_name keeps has_given place d given old new start after (n + 1)
+  one_row_coded old mid new before after n values coords metrics front there at final numbers is inside told grow =
+      subst (λ (b : Batch). IsCodedInsert may_end suits has_name keeps has_given place d given old new start b (n + 1)) (sym is)
       (record {
         only = λ i. record (front.only i) { rows = before.rows ++ coded_row coords metrics ∷ [] };
         count = let l = length_push before.rows (coded_row coords metrics) in omega (arith, l, front.count);
         final = λ names h. one_more_row d (lists_at names place) given before.rows n values coords metrics there at (front.final names (grow.later names h)) (final names h) numbers;
         inside = All-push (HasCoords d) before.rows (coded_row coords metrics) front.inside inside;
-        grow = grow_more front.grow grow (its_text n values there at);
+        numbers = All-push (HasNumbers (has_given new place) d) before.rows (coded_row coords metrics)
+            (still_numbers keeps has_given on place d mid new before.rows grow.keeps_else front.numbers) told;
+        grow = grow_more on front.grow grow (its_text n values there at);
       })
 
-  pub grown_by_rows : (old mid new : S) (batch : Batch) (n : ℕ) (values : List Value) → IsCodedInsert may_end suits has_name place d given old mid start batch n
-      → n < length given → values ≡ get_or given n [] → Grow may_end suits has_name place d (HaveText values) mid new
-      → Grow may_end suits has_name place d (HaveTextIn given) old new
-  grown_by_rows old mid new batch n values front there at grow = grow_more front.grow grow (its_text n values there at)
+  pub grown_by_rows : (old mid new : S) (batch : Batch) (n : ℕ) (values : List Value) → IsCodedInsert may_end suits has_name keeps has_given place d given old mid start batch n
+      → n < length given → values ≡ get_or given n [] → Grow may_end suits has_name keeps place d (HaveText values) mid new
+      → Grow may_end suits has_name keeps place d (HaveTextIn given) old new
+  grown_by_rows old mid new batch n values front there at grow = grow_more on front.grow grow (its_text n values there at)
 
   pub one_row_lacks : (old mid new : S) (batch : Batch) (n dim : ℕ) (values : List Value) (coords : List ℕ) (text : List ℕ)
-      → IsCodedInsert may_end suits has_name place d given old mid start batch n → n < length given → values ≡ get_or given n []
+      → IsCodedInsert may_end suits has_name keeps has_given place d given old mid start batch n → n < length given → values ≡ get_or given n []
       → InTheEnd (may_end new) place (λ lists. AreCodedAs d lists (take (length d.dims) values) coords (Some dim)) → HaveText values dim text
-      → Grow may_end suits has_name place d (HaveText values) mid new
+      → Grow may_end suits has_name keeps place d (HaveText values) mid new
       → InTheEnd (may_end new) place (λ lists. first_without_place d lists given ≡ Some text)
   one_row_lacks old mid new batch n dim values coords text front there at final is grow names h =
       row_lacks d (lists_at names place) given batch.rows n dim values text there at (front.final names (grow.later names h)) (final names h) is
 
-  pub all_rows_coded : (old now : S) (batch : Batch) (n : ℕ) → IsCodedInsert may_end suits has_name place d given old now start batch n → length given ≤ n
+  pub all_rows_coded : (old now : S) (batch : Batch) (n : ℕ) → IsCodedInsert may_end suits has_name keeps has_given place d given old now start batch n → length given ≤ n
       → InTheEnd (may_end now) place (λ lists. RowsStandFor d lists given batch.rows)
   all_rows_coded old now batch n front all names h =
       subst (λ (rows : List (List Value)). RowsStandFor d (lists_at names place) rows batch.rows) (take_all n given all) (front.final names h)

@@ -19,9 +19,9 @@ use Rattle.row_encoding.specs.declared.load.BadRecords.{BadRecords}
 use Rattle.row_encoding.specs.declared.load.BatchEnd.TheVariants as batch_is
 use Rattle.row_encoding.specs.declared.load.RecordOutcome.TheVariants as record_is
 use Rattle.row_encoding.specs.declared.load.TheConstants.{BATCH_ROWS}
-use Rattle.row_encoding.specs.FinalCodes.{Grow, InTheEnd}
+use Rattle.row_encoding.specs.FinalCodes.{CarriesOn, Grow, InTheEnd}
 use Rattle.row_encoding.specs.CodedValues.{HaveNames, NumbersHaveNoNames}
-use Rattle.row_encoding.specs.CodedInserts.{HasCoords}
+use Rattle.row_encoding.specs.CodedInserts.{HasCoords, HasNumbers}
 use Rattle.row_encoding.specs.CodedRecords.{IsCodedRecord, ReadRow, RecordHasText}
 use Rattle.row_encoding.specs.CodedLoads.{LoadGoesOn, HaveTextAmong, HaveTextLookedAt, HaveTextNext, IsFoundRecord, TakesBatch, Tell, final_record, final_records, record_result, records_between, rejections_from}
 use Rattle.row_encoding.proofs.Growing.{grow_none, grow_more, grow_wider}
@@ -280,20 +280,23 @@ batch_none d lists allowed start bad = record {
 
 -- a load that began at `start` goes on in a batch that was `empty`
 pub record IsLoadedFront {S : Type 0} (may_end : S → List (List (List (List ℕ))) → Type 0) (suits : S → ℕ → Decl → Type 0) (has_name : S → ℕ → ℕ → List ℕ → Type 0)
+    (keeps : S → S → Type 0) (has_given : S → ℕ → ℕ → ℕ → Type 0)
     (place : ℕ) (d : Decl) (allowed : ℕ) (start : LoadState) (before : BadRecords) (empty : Batch) (old now : S) (load : LoadState) (bad : BadRecords) (batch : Batch) : Type 0 where
   pub goes : LoadGoesOn start load
   pub only : batch ≡ record empty { rows = batch.rows }
   pub most : length batch.rows ≤ BATCH_ROWS
   pub inside : All (HasCoords d) batch.rows
+  pub numbers : All (HasNumbers (has_given now place) d) batch.rows
   pub few : bad.count ≤ allowed
   pub counted : bad.count ≤ load.number
   pub final : InTheEnd (may_end now) place (λ lists. TakesBatch d lists allowed start load before bad batch.rows batch_is.Full)
-  pub grow : Grow may_end suits has_name place d (HaveTextAmong d start load) old now
+  pub grow : Grow may_end suits has_name keeps place d (HaveTextAmong d start load) old now
 
 module _ {S : Type 0} (may_end : S → List (List (List (List ℕ))) → Type 0) (suits : S → ℕ → Decl → Type 0) (has_name : S → ℕ → ℕ → List ℕ → Type 0)
+    (keeps : S → S → Type 0) (has_given : S → ℕ → ℕ → ℕ → Type 0) (on : CarriesOn keeps has_given)
     (place : ℕ) (d : Decl) (allowed : ℕ) (start : LoadState) (before : BadRecords) (empty : Batch) where
   pub load_begins : (now : S) (batch : Batch) → suits now place d → before.count ≤ allowed → before.count ≤ start.number → batch ≡ empty → empty.rows ≡ []
-      → IsLoadedFront may_end suits has_name place d allowed start before empty now now start before batch
+      → IsLoadedFront may_end suits has_name keeps has_given place d allowed start before empty now now start before batch
   load_begins now batch suit few counted is none =
       let rows : batch.rows ≡ [] = ap (λ (b : Batch). b.rows) is ∙ none in
       record {
@@ -301,49 +304,52 @@ module _ {S : Type 0} (may_end : S → List (List (List (List ℕ))) → Type 0)
         only = is ∙ (λ i. record empty { rows = (none ∙ sym rows) i });
         most = let l = ap length rows in omega (arith, l);
         inside = subst (All (HasCoords d)) (sym rows) (All-nil (HasCoords d));
+        numbers = subst (All (HasNumbers (has_given now place) d)) (sym rows) (All-nil (HasNumbers (has_given now place) d));
         few = few;
         counted = counted;
         final = λ names h. subst (λ (rs : List CodedRow). TakesBatch d (lists_at names place) allowed start start before before rs batch_is.Full) (sym rows)
             (batch_none d (lists_at names place) allowed start before);
-        grow = grow_none suit;
+        grow = grow_none on suit;
       }
 
   pub grown_by_record : (old mid now : S) (load next : LoadState) → LoadGoesOn start load → TakesRecord load next
-      → Grow may_end suits has_name place d (HaveTextAmong d start load) old mid → Grow may_end suits has_name place d (HaveTextAmong d load next) mid now
-      → Grow may_end suits has_name place d (HaveTextAmong d start next) old now
+      → Grow may_end suits has_name keeps place d (HaveTextAmong d start load) old mid → Grow may_end suits has_name keeps place d (HaveTextAmong d load next) mid now
+      → Grow may_end suits has_name keeps place d (HaveTextAmong d start next) old now
   grown_by_record old mid now load next goes takes first grow =
-      grow_more (grow_wider first (among_before d start load next goes takes)) grow (among_last d start load next goes takes)
+      grow_more on (grow_wider first (among_before d start load next goes takes)) grow (among_last d start load next goes takes)
 
   pub grown_so_far : (old now : S) (load : LoadState) (bad : BadRecords) (batch : Batch)
-      → IsLoadedFront may_end suits has_name place d allowed start before empty old now load bad batch
-      → Grow may_end suits has_name place d (HaveTextLookedAt (may_end now) place d (allowed - before.count) start) old now
+      → IsLoadedFront may_end suits has_name keeps has_given place d allowed start before empty old now load bad batch
+      → Grow may_end suits has_name keeps place d (HaveTextLookedAt (may_end now) place d (allowed - before.count) start) old now
   grown_so_far old now load bad batch front =
       grow_wider front.grow (among_looked_at (may_end now) place d allowed start load before bad batch.rows batch_is.Full front.goes front.final)
 
   pub grown_in_all : (old mid now : S) (load : LoadState) (bad : BadRecords) (batch : Batch)
-      → IsLoadedFront may_end suits has_name place d allowed start before empty old mid load bad batch
-      → Grow may_end suits has_name place d (HaveTextNext d load) mid now
-      → Grow may_end suits has_name place d (HaveTextLookedAt (may_end now) place d (allowed - before.count) start) old now
+      → IsLoadedFront may_end suits has_name keeps has_given place d allowed start before empty old mid load bad batch
+      → Grow may_end suits has_name keeps place d (HaveTextNext d load) mid now
+      → Grow may_end suits has_name keeps place d (HaveTextLookedAt (may_end now) place d (allowed - before.count) start) old now
   grown_in_all old mid now load bad batch front grow =
       let final : InTheEnd (may_end now) place (λ lists. TakesBatch d lists allowed start load before bad batch.rows batch_is.Full) =
       λ names h. front.final names (grow.later names h) in
-      grow_more
+      grow_more on
       (grow_wider front.grow (among_looked_at (may_end now) place d allowed start load before bad batch.rows batch_is.Full front.goes final))
       grow (next_looked_at (may_end now) place d allowed start load before bad batch.rows front.goes final)
 
   pub row_loaded : (old mid now : S) (load next : LoadState) (bad : BadRecords) (batch after : Batch) (row : CodedRow)
-      → IsLoadedFront may_end suits has_name place d allowed start before empty old mid load bad batch → TakesRecord load next
+      → IsLoadedFront may_end suits has_name keeps has_given place d allowed start before empty old mid load bad batch → TakesRecord load next
       → InTheEnd (may_end now) place (λ lists. IsFoundRecord d lists next.fields row record_is.Row)
-      → after ≡ record batch { rows = batch.rows ++ row ∷ [] } → (All (HasCoords d) batch.rows → All (HasCoords d) after.rows) → length batch.rows < BATCH_ROWS
-      → Grow may_end suits has_name place d (HaveTextAmong d load next) mid now
-      → IsLoadedFront may_end suits has_name place d allowed start before empty old now next bad after
-  row_loaded old mid now load next bad batch after row front takes found is inside room grow =
+      → after ≡ record batch { rows = batch.rows ++ row ∷ [] } → (All (HasCoords d) batch.rows → All (HasCoords d) after.rows)
+      → (All (HasNumbers (has_given mid place) d) batch.rows → All (HasNumbers (has_given now place) d) after.rows) → length batch.rows < BATCH_ROWS
+      → Grow may_end suits has_name keeps place d (HaveTextAmong d load next) mid now
+      → IsLoadedFront may_end suits has_name keeps has_given place d allowed start before empty old now next bad after
+  row_loaded old mid now load next bad batch after row front takes found is inside numbers room grow =
       let rows : after.rows ≡ batch.rows ++ row ∷ [] = ap (λ (b : Batch). b.rows) is in
       record {
         goes = goes_one_more start load next front.goes takes;
         only = is ∙ (λ i. record (front.only i) { rows = batch.rows ++ row ∷ [] }) ∙ (λ i. record empty { rows = sym rows i });
         most = let l = length_push batch.rows row in let e = ap length rows in omega (arith, l, e, room);
         inside = inside front.inside;
+        numbers = numbers front.numbers;
         few = front.few;
         counted = let c = front.counted in let m = takes.count in omega (arith, c, m);
         final = λ names h. subst (λ (rs : List CodedRow). TakesBatch d (lists_at names place) allowed start next before bad rs batch_is.Full) (sym rows)
@@ -352,19 +358,20 @@ module _ {S : Type 0} (may_end : S → List (List (List (List ℕ))) → Type 0)
       }
 
   pub bad_loaded : (old mid now : S) (load next : LoadState) (bad more : BadRecords) (batch after : Batch) (row : CodedRow) (why : BadRow)
-      → IsLoadedFront may_end suits has_name place d allowed start before empty old mid load bad batch → TakesRecord load next
+      → IsLoadedFront may_end suits has_name keeps has_given place d allowed start before empty old mid load bad batch → TakesRecord load next
       → InTheEnd (may_end now) place (λ lists. IsFoundRecord d lists next.fields row (record_is.Bad why))
-      → after ≡ record batch { rows = batch.rows }
+      → after ≡ record batch { rows = batch.rows } → (All (HasNumbers (has_given mid place) d) batch.rows → All (HasNumbers (has_given now place) d) after.rows)
       → ((all : List Rejection) → Tell bad all → Tell more (all ++ record { number = next.number; why = why } ∷ [])) → more.count ≡ bad.count + 1 → more.count ≤ allowed
-      → Grow may_end suits has_name place d (HaveTextAmong d load next) mid now
-      → IsLoadedFront may_end suits has_name place d allowed start before empty old now next more after
-  bad_loaded old mid now load next bad more batch after row why front takes found is add count few grow =
+      → Grow may_end suits has_name keeps place d (HaveTextAmong d load next) mid now
+      → IsLoadedFront may_end suits has_name keeps has_given place d allowed start before empty old now next more after
+  bad_loaded old mid now load next bad more batch after row why front takes found is numbers add count few grow =
       let rows : after.rows ≡ batch.rows = ap (λ (b : Batch). b.rows) is in
       record {
         goes = goes_one_more start load next front.goes takes;
         only = is ∙ front.only ∙ (λ i. record empty { rows = sym rows i });
         most = let e = ap length rows in let m = front.most in omega (arith, e, m);
         inside = subst (All (HasCoords d)) (sym rows) front.inside;
+        numbers = numbers front.numbers;
         few = few;
         counted = let c = front.counted in let m = takes.count in omega (arith, c, m, count);
         final = λ names h. subst (λ (rs : List CodedRow). TakesBatch d (lists_at names place) allowed start next before more rs batch_is.Full) (sym rows)
@@ -373,11 +380,11 @@ module _ {S : Type 0} (may_end : S → List (List (List (List ℕ))) → Type 0)
       }
 
   pub last_loaded : (old mid now : S) (load next : LoadState) (bad more : BadRecords) (batch after : Batch) (row : CodedRow) (why : BadRow)
-      → IsLoadedFront may_end suits has_name place d allowed start before empty old mid load bad batch → TakesRecord load next
+      → IsLoadedFront may_end suits has_name keeps has_given place d allowed start before empty old mid load bad batch → TakesRecord load next
       → InTheEnd (may_end now) place (λ lists. IsFoundRecord d lists next.fields row (record_is.Bad why))
       → after ≡ record batch { rows = batch.rows }
       → ((all : List Rejection) → Tell bad all → Tell more (all ++ record { number = next.number; why = why } ∷ [])) → more.count ≡ bad.count + 1 → allowed < more.count
-      → Grow may_end suits has_name place d (HaveTextAmong d load next) mid now
+      → Grow may_end suits has_name keeps place d (HaveTextAmong d load next) mid now
       → InTheEnd (may_end now) place (λ lists. TakesBatch d lists allowed start next before more after.rows batch_is.TooMany)
   last_loaded old mid now load next bad more batch after row why front takes found is add count many grow names h =
       let rows : after.rows ≡ batch.rows = ap (λ (b : Batch). b.rows) is in

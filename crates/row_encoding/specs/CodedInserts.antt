@@ -9,6 +9,7 @@ use Rattle.cube_run.specs.LoadedRows.{first_without_place, row_of_values}
 use Rattle.agg_fold.specs.Coded.{row_for}
 use Rattle.brick_address.specs.Addresses.{AreCoords}
 use Rattle.row_encoding.specs.CodedValues.{HaveNames, HaveText, NumbersHaveNoNames}
+use Rattle.row_encoding.specs.FinalCodes.{HaveNumbers}
 
 -- One of the rows has this text at this place.
 pub record HaveTextIn (rows : List (List Value)) (place : ℕ) (text : List ℕ) : Type 0 where
@@ -19,6 +20,10 @@ pub record HaveTextIn (rows : List (List Value)) (place : ℕ) (text : List ℕ)
 -- The coordinates of a coded row are those of a cube.
 abbrev pub HasCoords : Decl → CodedRow → Type 0
 HasCoords d row = AreCoords (sizes_of d.dims) row.coords
+
+-- The coordinates of its texts are numbers that the cube's dimensions have.
+abbrev pub HasNumbers : (ℕ → ℕ → Type 0) → Decl → CodedRow → Type 0
+HasNumbers IsNumber d row = HaveNumbers IsNumber d.dims row.coords
 
 -- Coded rows stand for the rows of an INSERT, one for each, and each text has a place.
 pub record RowsStandFor (d : Decl) (lists : List (List (List ℕ))) (given : List (List Value)) (coded : List CodedRow)

@@ -8,6 +8,7 @@ use Rattle.cube_language.specs.declared.decl.Decl.{Decl}
 use Rattle.cube_language.specs.declared.decl.DimDecl.{DimDecl}
 use Rattle.names_dict.specs.Dictionaries.{Dictionary, dictionaries_of, dictionary_at, names_of}
 use Rattle.condition_spans.specs.Codes.{lists_at, texts_at}
+use Rattle.row_encoding.specs.FinalCodes.{CarriesOn}
 
 -- A dictionary may end with these names: its own stand first, and there are no more than may be.
 pub record MayBecome (dictionary : Dictionary) (names : List (List ℕ)) : Type 0 where
@@ -36,6 +37,20 @@ Suit cubes place d =
 -- A name stands in a dictionary.
 abbrev pub HasName : List (List Dictionary) → ℕ → ℕ → List ℕ → Type 0
 HasName cubes place dim name = Contains (dictionary_at cubes place dim).names name
+
+-- There is nothing else of dictionaries that could change, and whoever gives them texts keeps no record of the numbers.
+abbrev pub HaveNothingElse : List (List Dictionary) → List (List Dictionary) → Type 0
+HaveNothingElse old new = Unit {0}
+
+abbrev pub MayHaveGiven : List (List Dictionary) → ℕ → ℕ → ℕ → Type 0
+MayHaveGiven cubes place dim number = Unit {0}
+
+pub nothing_else : CarriesOn HaveNothingElse MayHaveGiven
+nothing_else = record {
+  itself = λ now. tt;
+  goes_on = λ old mid new h k. tt;
+  given = λ old new place dim number h k. tt;
+}
 
 -- ---- what holds
 

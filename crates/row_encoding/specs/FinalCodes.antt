@@ -33,14 +33,28 @@ InTheEnd may_end place Holds = (names : List (List (List (List ℕ)))) → may_e
 abbrev pub IsDimText : ℕ → List ℕ → ℕ → List ℕ → Type 0
 IsDimText dim text k other = (k ≡ dim) × (other ≡ text)
 
+-- Coordinates of texts are numbers that their dimensions have.
+abbrev pub HaveNumbers : (ℕ → ℕ → Type 0) → List DimDecl → List ℕ → Type 0
+HaveNumbers IsNumber dims coords =
+    (dim number : ℕ) → (dim_at dims dim).text ≡ true → slice_get coords dim ≡ Some number → IsNumber dim number
+
+-- What else stays from one state to another stays from a state to itself, and goes on. Numbers that were given stay so.
+pub record CarriesOn {S : Type 0} (keeps : S → S → Type 0) (has_given : S → ℕ → ℕ → ℕ → Type 0) : Type 0 where
+  pub itself : (now : S) → keeps now now
+  pub goes_on : (old mid new : S) → keeps old mid → keeps mid new → keeps old new
+  pub given : (old new : S) (place dim number : ℕ) → keeps old new → has_given old place dim number
+      → has_given new place dim number
+
 -- Dictionaries grow from one state to another, while texts of the cube at a place are given to them, of which the last
 -- relation tells the dimensions.
 pub record Grow {S : Type 0} (may_end : S → List (List (List (List ℕ))) → Type 0) (suits : S → ℕ → Decl → Type 0)
-    (has_name : S → ℕ → ℕ → List ℕ → Type 0) (place : ℕ) (d : Decl) (IsGiven : ℕ → List ℕ → Type 0) (old new : S)
-    : Type 0 where
+    (has_name : S → ℕ → ℕ → List ℕ → Type 0) (keeps : S → S → Type 0) (place : ℕ) (d : Decl)
+    (IsGiven : ℕ → List ℕ → Type 0) (old new : S) : Type 0 where
   -- no name is taken back
   pub later : (names : List (List (List (List ℕ)))) → may_end new names → may_end old names
   pub here : suits new place d
   pub elsewhere : (p : ℕ) (other : Decl) → p ≢ place → suits old p other → suits new p other
   -- no other name comes
   pub names : (p k : ℕ) (text : List ℕ) → has_name new p k text → has_name old p k text ⊎ ((p ≡ place) × IsGiven k text)
+  -- what else there is of them stays
+  pub keeps_else : keeps old new

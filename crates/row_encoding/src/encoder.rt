@@ -4,7 +4,7 @@ ghost use Rattle.std.specs.Prelude.{◌≡◌, ℕ, ◌<◌, ◌≤◌, true, Li
 ghost use Rattle.cube_language.specs.declared.bad_row.TheConstants.{TEXT_BYTES};
 ghost use Rattle.cube_language.specs.declared.decl.Decl.{Decl};
 ghost use Rattle.condition_spans.specs.Codes.{texts_at};
-ghost use Rattle.row_encoding.specs.FinalCodes.{dim_at, code_number, IsFinalNumber, InTheEnd, IsDimText, Grow};
+ghost use Rattle.row_encoding.specs.FinalCodes.{dim_at, code_number, IsFinalNumber, InTheEnd, IsDimText, CarriesOn, Grow};
 
 use cube_schema::Schema;
 use names_dict::Code;
@@ -21,6 +21,12 @@ pub trait Encoder {
 
     // the names that it has or was given, by the places of cube and dimension
     ghost has_name: { Self → ℕ → ℕ → List ℕ → Type 0 };
+
+    // the numbers that it has given to texts, by the places of cube and dimension
+    ghost has_given: { Self → ℕ → ℕ → ℕ → Type 0 };
+
+    // what else there is of it stays from one state to another
+    ghost keeps: { Self → Self → Type 0 };
 
     /// The code of a text in a dimension of texts of the cube at a place. The error is out of
     /// memory.
@@ -39,6 +45,11 @@ pub trait Encoder {
             (code_number code))) }
         ensures inside { IfOk result (λ code.
             IfSome (code_number code) (λ n. n < (dim_at cube.now.dims dim).cardinality)) }
-        ensures grow { Grow may_end suits has_name place cube.now (IsDimText dim text.now)
+        ensures given { IfOk result (λ code.
+            IfSome (code_number code) (has_given self.new place dim)) }
+        ensures grow { Grow may_end suits has_name keeps place cube.now (IsDimText dim text.now)
             self.old self.new };
+
+    // what stays, stays on
+    ghost carries_on: { CarriesOn keeps has_given };
 }

@@ -4,7 +4,7 @@ ghost use Rattle.std.specs.Prelude.{◌≡◌, ◌+◌, ◌-◌, ◌≤◌, ◌<
 ghost use Rattle.cube_journal.specs.declared.reply.Rejection.{Rejection};
 ghost use Rattle.agg_fold.specs.Coded.{coded_row};
 ghost use Rattle.row_encoding.specs.FinalCodes.{InTheEnd, Grow};
-ghost use Rattle.row_encoding.specs.CodedInserts.{HasCoords};
+ghost use Rattle.row_encoding.specs.CodedInserts.{HasCoords, HasNumbers};
 ghost use Rattle.row_encoding.specs.CodedLoads.{IsTaken, IsFoundRecord, rows_then, LoadGoesOn, Tell, TakesBatch, BatchHasEnded, HaveTextAmong, HaveTextLookedAt, HaveTextNext};
 
 use crate::encoder::Encoder;
@@ -100,9 +100,11 @@ fn load_record<E: Encoder>(
     }) }
     ensures inside { IfOk result (λ found.
         All (HasCoords cube.now) batch.old.rows → All (HasCoords cube.now) batch.new.rows) }
-    ensures grow { Grow E.may_end E.suits E.has_name place cube.now
+    ensures numbers { OnOk result (All (HasNumbers (E.has_given encoder.old place) cube.now)
+        batch.old.rows → All (HasNumbers (E.has_given encoder.new place) cube.now) batch.new.rows) }
+    ensures grow { Grow E.may_end E.suits E.has_name E.keeps place cube.now
         (HaveTextNext cube.now load.old) encoder.old encoder.new }
-    ensures given { OnOk result (Grow E.may_end E.suits E.has_name place cube.now
+    ensures given { OnOk result (Grow E.may_end E.suits E.has_name E.keeps place cube.now
         (HaveTextAmong cube.now load.old load.new) encoder.old encoder.new) }
 {
     match load.step()? {
@@ -140,10 +142,12 @@ pub fn load_rows<E: Encoder>(
         TakesBatch cube.now lists allowed load.old load.new bad.old bad.new batch.new.rows ended)) }
     ensures ended { IfOk result (BatchHasEnded allowed load.new bad.new batch.new.rows) }
     ensures inside { OnOk result (All (HasCoords cube.now) batch.new.rows) }
-    ensures grow { Grow E.may_end E.suits E.has_name place cube.now
+    ensures numbers { OnOk result
+        (All (HasNumbers (E.has_given encoder.new place) cube.now) batch.new.rows) }
+    ensures grow { Grow E.may_end E.suits E.has_name E.keeps place cube.now
         (HaveTextLookedAt (E.may_end encoder.new) place cube.now (allowed - bad.old.count) load.old)
         encoder.old encoder.new }
-    ensures given { OnOk result (Grow E.may_end E.suits E.has_name place cube.now
+    ensures given { OnOk result (Grow E.may_end E.suits E.has_name E.keeps place cube.now
         (HaveTextAmong cube.now load.old load.new) encoder.old encoder.new) }
     ensures counted { OnOk result (bad.new.count ≤ load.new.number) }
     ensures dims { OnOk result (batch.new.dims ≡ batch.old.dims) }

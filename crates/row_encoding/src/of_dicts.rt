@@ -1,7 +1,7 @@
 //! Dictionaries in one memory give texts their codes.
 
 ghost use Rattle.std.specs.Prelude.{◌≡◌, ℕ, ◌<◌, ◌≤◌, true, List, length, IfOk, IfSome};
-ghost use Rattle.row_encoding.specs.DictsAsEncoder.{MayEndWith, Suit, HasName};
+ghost use Rattle.row_encoding.specs.DictsAsEncoder.{MayEndWith, Suit, HasName, HaveNothingElse, MayHaveGiven, nothing_else};
 
 use crate::encoder::Encoder;
 use cube_schema::Schema;
@@ -15,6 +15,10 @@ impl Encoder for Dicts {
 
     ghost has_name = { HasName };
 
+    ghost has_given = { MayHaveGiven };
+
+    ghost keeps = { HaveNothingElse };
+
     fn encode(
         &mut self,
         place: u32,
@@ -24,4 +28,6 @@ impl Encoder for Dicts {
     ) -> Result<Code, AllocError> {
         Dicts::encode(self, place, dim, cube.cube_shape(), text)
     }
+
+    ghost carries_on = { nothing_else };
 }

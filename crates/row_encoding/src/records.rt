@@ -1,12 +1,12 @@
 //! A record of a file as a row by coordinates.
 
-ghost use Rattle.std.specs.Prelude.{◌≡◌, ◌<◌, ◌++◌, [], ◌∷◌, None, length, IfOk, IfSome, IfNone, OnErr};
+ghost use Rattle.std.specs.Prelude.{◌≡◌, ◌<◌, ◌++◌, [], ◌∷◌, None, true, length, IfOk, IfSome, IfNone, OnErr};
 ghost use Rattle.cube_language.specs.Cubes.{sizes_of};
 ghost use Rattle.agg_fold.specs.Coded.{coded_row};
 ghost use Rattle.brick_address.specs.Addresses.{AreCoords};
 ghost use Rattle.condition_spans.specs.Codes.{texts_at};
 ghost use Rattle.csv_load.specs.FileRecords.{dim_values, record_row};
-ghost use Rattle.row_encoding.specs.FinalCodes.{dim_at, InTheEnd, Grow};
+ghost use Rattle.row_encoding.specs.FinalCodes.{dim_at, InTheEnd, HaveNumbers, Grow};
 ghost use Rattle.row_encoding.specs.CodedValues.{HaveText, IsTextValue, IsItsText, HasTextAt, IsFinalCoord, AreCodedAs};
 ghost use Rattle.row_encoding.specs.CodedRecords.{ReadRow, value_read, RecordHasText, IsCodedRecord};
 
@@ -35,9 +35,11 @@ fn encode_field<E: Encoder>(
         (value_read cube.now load.now dim) coord)) }
     ensures inside { IfOk result (λ coord.
         IfSome coord (λ c. c < (dim_at cube.now.dims dim).cardinality)) }
+    ensures given { IfOk result (λ coord. IfSome coord (λ c. (dim_at cube.now.dims dim).text ≡ true
+        → E.has_given encoder.new place dim c)) }
     ensures text { IfOk result (λ coord.
         IfNone coord (IsTextValue (value_read cube.now load.now dim))) }
-    ensures grow { Grow E.may_end E.suits E.has_name place cube.now
+    ensures grow { Grow E.may_end E.suits E.has_name E.keeps place cube.now
         (IsItsText dim (value_read cube.now load.now dim)) encoder.old encoder.new }
 {
     let dims = cube.decl().dims.as_slice();
@@ -63,8 +65,10 @@ fn encode_fields<E: Encoder>(
         full)) }
     ensures inside { IfOk result (λ full.
         IfNone full (AreCoords (sizes_of cube.now.dims) coords.new.items)) }
+    ensures numbers { IfOk result (λ full. IfNone full
+        (HaveNumbers (E.has_given encoder.new place) cube.now.dims coords.new.items)) }
     ensures text { IfOk result (λ full. IfSome full (λ dim. dim < length cube.now.dims)) }
-    ensures grow { Grow E.may_end E.suits E.has_name place cube.now
+    ensures grow { Grow E.may_end E.suits E.has_name E.keeps place cube.now
         (RecordHasText cube.now load.now) encoder.old encoder.new }
 {
     coords.clear();
@@ -108,7 +112,9 @@ pub fn encode_record<E: Encoder>(
     ensures err { OnErr result (batch.new ≡ batch.old) }
     ensures inside { IfOk result (λ fault.
         IfNone fault (AreCoords (sizes_of cube.now.dims) coords.new.items)) }
-    ensures grow { Grow E.may_end E.suits E.has_name place cube.now
+    ensures numbers { IfOk result (λ fault. IfNone fault
+        (HaveNumbers (E.has_given encoder.new place) cube.now.dims coords.new.items)) }
+    ensures grow { Grow E.may_end E.suits E.has_name E.keeps place cube.now
         (RecordHasText cube.now load.now) encoder.old encoder.new }
 {
     match encode_fields(encoder, place, cube, load, coords)? {

@@ -6,9 +6,9 @@ ghost use Rattle.cube_language.specs.RowFaults.{row_fault, first_bad_row};
 ghost use Rattle.cube_run.specs.LoadedRows.{metric_value};
 ghost use Rattle.agg_fold.specs.Coded.{coded_row};
 ghost use Rattle.brick_address.specs.Addresses.{AreCoords};
-ghost use Rattle.row_encoding.specs.FinalCodes.{InTheEnd, Grow};
+ghost use Rattle.row_encoding.specs.FinalCodes.{InTheEnd, HaveNumbers, Grow};
 ghost use Rattle.row_encoding.specs.CodedValues.{HaveText, HasTextAt, AreCodedAs};
-ghost use Rattle.row_encoding.specs.CodedInserts.{HaveTextIn, HasCoords, AreCodedRows};
+ghost use Rattle.row_encoding.specs.CodedInserts.{HaveTextIn, HasCoords, HasNumbers, AreCodedRows};
 
 use crate::encoder::Encoder;
 use crate::values::encode_values;
@@ -82,8 +82,10 @@ fn encode_row<E: Encoder>(
     ensures err { OnErr result (batch.new ≡ batch.old) }
     ensures inside { IfOk result (λ full.
         IfNone full (AreCoords (sizes_of cube.now.dims) scratch.new.coords.items)) }
+    ensures numbers { IfOk result (λ full. IfNone full
+        (HaveNumbers (E.has_given encoder.new place) cube.now.dims scratch.new.coords.items)) }
     ensures text { IfOk result (λ full. IfSome full (HasTextAt values.now)) }
-    ensures grow { Grow E.may_end E.suits E.has_name place cube.now (HaveText values.now)
+    ensures grow { Grow E.may_end E.suits E.has_name E.keeps place cube.now (HaveText values.now)
         encoder.old encoder.new }
 {
     let (dims, metrics) = values.split_at(cube.decl().dims.len());
@@ -116,7 +118,9 @@ pub fn encode_rows<E: Encoder>(
         AreCodedRows cube.now lists rows.now batch.new.rows lacking)) }
     ensures inside { IfOk result (λ lacking.
         IfNone lacking (All (HasCoords cube.now) batch.new.rows)) }
-    ensures grow { Grow E.may_end E.suits E.has_name place cube.now (HaveTextIn rows.now)
+    ensures numbers { IfOk result (λ lacking. IfNone lacking
+        (All (HasNumbers (E.has_given encoder.new place) cube.now) batch.new.rows)) }
+    ensures grow { Grow E.may_end E.suits E.has_name E.keeps place cube.now (HaveTextIn rows.now)
         encoder.old encoder.new }
     ensures dims { batch.new.dims ≡ batch.old.dims }
     ensures width { batch.new.width ≡ batch.old.width }

@@ -29,7 +29,7 @@ fn number_of<E: Encoder>(
         AreNames lists → number ≡ code_in (texts_at lists dim) text.now)) }
     ensures place { OnOk result (InTheEnd (E.may_end encoder.new) place (λ lists.
         HasPlaceIfShort (dim_at cube.now.dims dim) (texts_at lists dim) text.now)) }
-    ensures grow { Grow E.may_end E.suits E.has_name place cube.now (ShortTextOf dim text.now)
+    ensures grow { Grow E.may_end E.suits E.has_name E.keeps place cube.now (ShortTextOf dim text.now)
         encoder.old encoder.new }
 {
     if text.len() > TEXT_BYTES {
@@ -54,7 +54,7 @@ fn append_number<E: Encoder>(
         numbers.old.items ++ codes_among (texts_at lists dim) (value.now ∷ []))) }
     ensures places { OnOk result (InTheEnd (E.may_end encoder.new) place (λ lists.
         HavePlacesAmong (dim_at cube.now.dims dim) (texts_at lists dim) (value.now ∷ []))) }
-    ensures grow { Grow E.may_end E.suits E.has_name place cube.now
+    ensures grow { Grow E.may_end E.suits E.has_name E.keeps place cube.now
         (ShortTextAmong dim (value.now ∷ [])) encoder.old encoder.new }
 {
     if let Value::Text(text) = value {
@@ -79,7 +79,7 @@ fn append_numbers<E: Encoder>(
         numbers.old.items ++ codes_among (texts_at lists dim) values.now)) }
     ensures places { OnOk result (InTheEnd (E.may_end encoder.new) place (λ lists.
         HavePlacesAmong (dim_at cube.now.dims dim) (texts_at lists dim) values.now)) }
-    ensures grow { Grow E.may_end E.suits E.has_name place cube.now (ShortTextAmong dim values.now)
+    ensures grow { Grow E.may_end E.suits E.has_name E.keeps place cube.now (ShortTextAmong dim values.now)
         encoder.old encoder.new }
 {
     'values: for value in values {
@@ -105,7 +105,7 @@ pub fn encode_texts<E: Encoder>(
         AreNames lists → numbers.items ≡ codes_in lists conditions.now)) }
     ensures places { OnOk result (InTheEnd (E.may_end encoder.new) place (λ lists.
         HavePlaces cube.now.dims lists conditions.now)) }
-    ensures grow { Grow E.may_end E.suits E.has_name place cube.now (ComparesWith conditions.now)
+    ensures grow { Grow E.may_end E.suits E.has_name E.keeps place cube.now (ComparesWith conditions.now)
         encoder.old encoder.new }
 {
     let mut numbers = Vec::new(alloc);

@@ -6,7 +6,7 @@ ghost use Rattle.cube_language.specs.RowFaults.{coord_reason, dim_reason};
 ghost use Rattle.cube_language.specs.declared.bad_row.TheConstants.{TEXT_BYTES};
 ghost use Rattle.brick_address.specs.Addresses.{AreCoords};
 ghost use Rattle.condition_spans.specs.Codes.{texts_at};
-ghost use Rattle.row_encoding.specs.FinalCodes.{dim_at, code_number, IsFinalNumber, InTheEnd, IsDimText, Grow};
+ghost use Rattle.row_encoding.specs.FinalCodes.{dim_at, code_number, IsFinalNumber, InTheEnd, IsDimText, HaveNumbers, Grow};
 ghost use Rattle.row_encoding.specs.CodedValues.{FitDims, HaveText, IsTextValue, IsItsText, HasTextAt, IsFinalCoord, AreCodedAs};
 
 use crate::encoder::Encoder;
@@ -40,7 +40,8 @@ pub(crate) fn encode_text<E: Encoder>(
         IsFinalNumber (dim_at cube.now.dims dim) (texts_at lists dim) text.now number)) }
     ensures inside { IfOk result (λ number.
         IfSome number (λ n. n < (dim_at cube.now.dims dim).cardinality)) }
-    ensures grow { Grow E.may_end E.suits E.has_name place cube.now (IsDimText dim text.now)
+    ensures given { IfOk result (λ number. IfSome number (E.has_given encoder.new place dim)) }
+    ensures grow { Grow E.may_end E.suits E.has_name E.keeps place cube.now (IsDimText dim text.now)
         encoder.old encoder.new }
 {
     Ok(code_number(encoder.encode(place, cube, dim, text)?))
@@ -71,8 +72,10 @@ fn encode_value<E: Encoder>(
         IsFinalCoord (dim_at cube.now.dims dim) (texts_at lists dim) value.now coord)) }
     ensures inside { IfOk result (λ coord.
         IfSome coord (λ c. c < (dim_at cube.now.dims dim).cardinality)) }
+    ensures given { IfOk result (λ coord. IfSome coord (λ c. (dim_at cube.now.dims dim).text ≡ true
+        → E.has_given encoder.new place dim c)) }
     ensures text { IfOk result (λ coord. IfNone coord (IsTextValue value.now)) }
-    ensures grow { Grow E.may_end E.suits E.has_name place cube.now (IsItsText dim value.now)
+    ensures grow { Grow E.may_end E.suits E.has_name E.keeps place cube.now (IsItsText dim value.now)
         encoder.old encoder.new }
 {
     match value {
@@ -110,8 +113,10 @@ pub fn encode_values<E: Encoder>(
         AreCodedAs cube.now lists values.now coords.new.items full)) }
     ensures inside { IfOk result (λ full.
         IfNone full (AreCoords (sizes_of cube.now.dims) coords.new.items)) }
+    ensures numbers { IfOk result (λ full. IfNone full
+        (HaveNumbers (E.has_given encoder.new place) cube.now.dims coords.new.items)) }
     ensures text { IfOk result (λ full. IfSome full (HasTextAt values.now)) }
-    ensures grow { Grow E.may_end E.suits E.has_name place cube.now (HaveText values.now)
+    ensures grow { Grow E.may_end E.suits E.has_name E.keeps place cube.now (HaveText values.now)
         encoder.old encoder.new }
 {
     coords.clear();

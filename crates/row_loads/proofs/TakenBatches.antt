@@ -9,7 +9,7 @@ use Rattle.csv_load.specs.FileRecords.{RecordFields}
 use Rattle.csv_load.specs.Loads.{LoadState}
 use Rattle.row_encoding.specs.CodedInserts.{HasCoords}
 use Rattle.row_encoding.specs.CodedLoads.{LoadGoesOn, BatchHasEnded, HaveTextLookedAt, TakesBatch, records_between}
-use Rattle.row_encoding.specs.DictsAsEncoder.{HasName, MayEndWith, Suit}
+use Rattle.row_encoding.specs.DictsAsEncoder.{HasName, HaveNothingElse, MayEndWith, Suit}
 use Rattle.row_encoding.specs.FinalCodes.{Grow, InTheEnd}
 use Rattle.row_encoding.specs.declared.load.BadRecords.{BadRecords}
 use Rattle.row_encoding.specs.declared.load.BatchEnd.{BatchEnd}
@@ -32,7 +32,7 @@ decl_there cubes place d e is there = there ∙ get_or_from_slice_get cubes plac
 
 pub names_gained : (cubes : Cubes) (place : ℕ) (d e : Decl) (IsGiven : ℕ → List ℕ → Type 0)
     (new : List (List Dictionary)) → AreWholeCubes cubes → slice_get cubes.schemas.items place ≡ Some e → d ≡ e
-    → Grow MayEndWith Suit HasName place d IsGiven cubes.names new
+    → Grow MayEndWith Suit HasName HaveNothingElse place d IsGiven cubes.names new
     → HaveGained cubes (record { schemas = cubes.schemas; names = new; rows = cubes.rows })
 names_gained cubes place d e IsGiven new h is same grow =
     gained cubes new h

@@ -3,13 +3,13 @@ use Rattle.std.proofs.Common.{◌≡◌, ℕ, List, map, sym, subst}
 use Rattle.agg_fold.specs.Coded.{row_for}
 use Rattle.agg_fold.specs.Standing.{IsTable, StandsFor}
 use Rattle.agg_fold.specs.declared.groups.Groups.{Groups}
-use Rattle.core_clients.proofs.ClientRuns.{known-in-run}
-use Rattle.core_clients.specs.Knowing.{HasRunOfClient}
+use Rattle.core_callers.proofs.ClientRuns.{known-in-run}
+use Rattle.core_callers.specs.Knowing.{HasRunOfClient}
 use Rattle.core_events.proofs.Knowledge.{known-by-calls}
 use Rattle.core_events.specs.Clients.{ClientState, client_state}
 use Rattle.core_events.specs.Events.{Opening}
 use Rattle.core_program.specs.CoreFits.{CoreEntry}
-use Rattle.core_runs.specs.Queries.{HasAnswered, rows_fetched}
+use Rattle.core_serial.specs.Queries.{HasAnswered, rows_fetched}
 use Rattle.core_serial.proofs.CubeSerial.{found-stands, found-table}
 use Rattle.core_serial.specs.CubeRows.{rows_to_find}
 use Rattle.cube_core.specs.declared.cell.CoreCell.{CoreCell}

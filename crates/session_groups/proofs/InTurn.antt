@@ -9,7 +9,7 @@ use Rattle.cube_values.specs.declared.span.Span.{Span}
 use Rattle.core_board_cells.specs.BoardCells.{AnswerSays, call_job}
 use Rattle.core_events.specs.Groups.{Received}
 use Rattle.core_events.specs.Jobs.{JobOutcome, DropBox, Scan, Rollback, Found, is_refusal}
-use Rattle.core_runs.specs.Queries.{rows_fetched, rows_of_answer}
+use Rattle.core_serial.specs.Queries.{rows_fetched, rows_of_answer}
 use Rattle.cube_core.specs.declared.jobs.FlushAnswer.TheVariants as flush
 use Rattle.cube_core.specs.declared.jobs.JobAnswer.{JobAnswer}
 use Rattle.cube_core.specs.declared.jobs.JobAnswer.TheVariants as reply

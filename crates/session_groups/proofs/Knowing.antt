@@ -8,16 +8,16 @@ use Rattle.agg_fold.specs.declared.groups.Groups.{Groups}
 use Rattle.board_callers.specs.Callers.{HasHistoryOf}
 use Rattle.core_board.specs.Links.{AreEventsOf}
 use Rattle.core_board_cells.specs.BoardCells.{IsEntryEvent, call_job}
-use Rattle.core_clients.proofs.ClientRuns.{client-run}
-use Rattle.core_clients.proofs.KnownCalls.{earlier-run}
-use Rattle.core_clients.specs.Knowing.{Claim, HasRunOfClient, IsClientOf, IsLaterRun, IsSessionOf}
+use Rattle.core_callers.proofs.ClientRuns.{client-run}
+use Rattle.core_callers.proofs.KnownCalls.{earlier-run}
+use Rattle.core_callers.specs.Knowing.{Claim, HasRunOfClient, IsClientOf, IsLaterRun, IsSessionOf}
 use Rattle.core_events.proofs.Knowledge.{known-by-calls}
 use Rattle.core_events.specs.Clients.{ClientState, calls_of, client_state, state_from_calls}
 use Rattle.core_events.specs.Events.{Opening, CoreEvent}
 use Rattle.core_events.specs.Groups.{Asks, Drops, GroupKind, JobGroup, RollsBack, has_all_below, has_refusal, kind_of, mails_of}
 use Rattle.core_events.specs.Jobs.{JobOutcome, is_refusal}
 use Rattle.core_program.specs.CoreFits.{CoreEntry, FitsOwnCalls, OpensCells}
-use Rattle.core_runs.specs.Queries.{HasAnswered, rows_fetched}
+use Rattle.core_serial.specs.Queries.{HasAnswered, rows_fetched}
 use Rattle.cube_core.specs.CoreSteps.{CoreStep}
 use Rattle.cube_core.specs.declared.cell.CoreCell.{CoreCell}
 use Rattle.cube_core.specs.declared.jobs.JobAnswer.{JobAnswer}

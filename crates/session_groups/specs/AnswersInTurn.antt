@@ -7,7 +7,7 @@ use Rattle.cube_values.specs.declared.row.CodedRow.{CodedRow}
 use Rattle.agg_fold.specs.Standing.{Adds, HasRoom, StandsFor}
 use Rattle.agg_fold.specs.declared.groups.Groups.{Groups}
 use Rattle.core_events.specs.Jobs.{JobOutcome, Found, is_refusal}
-use Rattle.core_runs.specs.Queries.{rows_of_answer}
+use Rattle.core_serial.specs.Queries.{rows_of_answer}
 use Rattle.cube_core.specs.declared.jobs.FlushAnswer.{FlushAnswer}
 use Rattle.cube_core.specs.declared.jobs.FlushAnswer.TheVariants as flush
 use Rattle.cube_core.specs.declared.jobs.JobAnswer.{JobAnswer}

@@ -1,7 +1,6 @@
 -- A session looks for cubes, makes one, leaves notes and asks for the counters and for names.
 use Rattle.std.proofs.Common.{ℕ, ◌+◌, List, [], ◌∷◌, Option, max, inl, refl}
 use Rattle.cube_values.specs.declared.snapshot.Snapshot.{Snapshot}
-use Rattle.cube_language.specs.Cubes.{IsStorable}
 use Rattle.cube_language.specs.declared.decl.Decl.{Decl}
 use Rattle.cube_journal.specs.declared.counters.Counters.{Counters}
 use Rattle.cube_journal.specs.declared.note.Note.{Note}
@@ -16,7 +15,7 @@ use Rattle.core_cells.specs.declared.names.NamesCall.{NamesCall}
 use Rattle.core_cells.specs.declared.names.NamesCall.TheVariants as names
 use Rattle.core_events.specs.Clients.{ClientState, after_client_call, cubes_by_answer, greater_of}
 use Rattle.core_events.specs.Events.{Opening, IsSession, ClientCall, OnNames, NoChange}
-use Rattle.core_events.specs.Fitting.{FitsCall, MayNote}
+use Rattle.core_events.specs.Fitting.{CanBeMade, FitsCall, MayNote}
 use Rattle.core_links.specs.DeskEvents.{FitsDeskCall, desk_event}
 use Rattle.core_links.specs.NamesEvents.{names_event}
 use Rattle.session_holds.specs.HoldStates.{ComesTo, IsIdle, IsReadyWith, with_own_entry}
@@ -50,15 +49,15 @@ misses o a statement name own k r =
     record { stands = entered o a own k.holds k r.holds.held r.holds.leader; knows = refl }
 
 create-fits : (o : Opening) (a statement : ℕ) (decl : Decl) (k : ClientState) → IsSession o a → IsIdle o a k
-    → IsStorable decl → (said : DeskAnswer) → FitsCall o a (desk_event a k (call.CreateCube a statement decl) said) k
-create-fits o a statement decl k session idle storable (answer.Created made) =
-    (record { session = session; under = inl refl; free = idle.holds.held; ready = idle.ready }, storable)
-create-fits o a statement decl k session idle storable said = tt
+    → CanBeMade decl → (said : DeskAnswer) → FitsCall o a (desk_event a k (call.CreateCube a statement decl) said) k
+create-fits o a statement decl k session idle can (answer.Created made) =
+    (record { session = session; under = inl refl; free = idle.holds.held; ready = idle.ready }, can)
+create-fits o a statement decl k session idle can said = tt
 
 pub may-create : (o : Opening) (a statement : ℕ) (decl : Decl) (k : ClientState) → IsSession o a → IsIdle o a k
-    → IsStorable decl → FitsDeskCall o a (call.CreateCube a statement decl) k
-may-create o a statement decl k session idle storable =
-    record { number = refl; event = create-fits o a statement decl k session idle storable }
+    → CanBeMade decl → FitsDeskCall o a (call.CreateCube a statement decl) k
+may-create o a statement decl k session idle can =
+    record { number = refl; event = create-fits o a statement decl k session idle can }
 
 pub creates : (o : Opening) (a statement : ℕ) (decl : Decl) (made : CubeAnswer) (k : ClientState) → IsIdle o a k
     → ComesTo o a (call.CreateCube a statement decl) (answer.Created made) k

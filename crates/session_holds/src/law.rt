@@ -4,7 +4,6 @@ ghost use Rattle.std.specs.Prelude.{◌≡◌, ℕ, ◌+◌, ◌<◌, ◌≤◌,
 ghost use Rattle.cube_journal.specs.declared.counters.Counters.{Counters};
 ghost use Rattle.cube_journal.specs.declared.journal_entry.AbortCause.{AbortCause};
 ghost use Rattle.cube_journal.specs.declared.note.Note.{Note};
-ghost use Rattle.cube_language.specs.Cubes.{IsStorable};
 ghost use Rattle.cube_language.specs.declared.decl.Decl.{Decl};
 ghost use Rattle.cube_values.specs.declared.query.BoundQuery.{BoundQuery};
 ghost use Rattle.cube_values.specs.declared.row.CodedRow.{CodedRow};
@@ -19,7 +18,7 @@ ghost use Rattle.core_cells.specs.declared.names.NamesAnswer.{NamesAnswer};
 ghost use Rattle.core_cells.specs.declared.names.NamesCall.{NamesCall};
 ghost use Rattle.core_events.specs.Clients.{ClientState, after_client_call, cubes_by_answer, greater_of, holds_with, holds_without, number_by_code, opening_client, reader_up_to, state_from_calls, writer_at};
 ghost use Rattle.core_events.specs.Events.{Opening, ClientCall, Encode, IsSession, OnNames};
-ghost use Rattle.core_events.specs.Fitting.{IsQueryOf, MayNote, MayPutRow};
+ghost use Rattle.core_events.specs.Fitting.{CanBeMade, IsQueryOf, MayNote, MayPutRow};
 ghost use Rattle.core_links.specs.DeskEvents.{FitsDeskCall};
 ghost use Rattle.core_links.specs.NamesEvents.{names_event};
 ghost use Rattle.session_holds.specs.HoldStates.{ComesTo, EndsOwn, HasRolledBack, IsIdle, IsReading, IsReadyWith, IsUnderOwnNumber, IsWriting, after_desk_call, with_own_entry};
@@ -71,7 +70,7 @@ pub fn sessions_look_and_note()
         → ComesTo o a (call.FindCube a statement name) (answer.Found Unknown) k
         (with_own_entry k.holds k) (IsReadyWith o a own) }
     ensures may_create { (o : Opening) (a statement : ℕ) (decl : Decl) (k : ClientState)
-        → IsSession o a → IsIdle o a k → IsStorable decl
+        → IsSession o a → IsIdle o a k → CanBeMade decl
         → FitsDeskCall o a (call.CreateCube a statement decl) k }
     ensures created { (o : Opening) (a statement : ℕ) (decl : Decl) (made : CubeAnswer)
         (k : ClientState) → IsIdle o a k

@@ -8,8 +8,8 @@ use Rattle.board_callers.specs.Callers.{HasHistoryOf}
 use Rattle.client_calls.specs.ClientCalls.{HasFetched, LearnsByFetch, ask_entry, post_entry}
 use Rattle.core_board.specs.Links.{AreEventsOf}
 use Rattle.core_board_cells.specs.BoardCells.{AnswerSays, IsEntryEvent}
-use Rattle.core_clients.proofs.KnownCalls.{earlier-run, post-learns}
-use Rattle.core_clients.specs.Knowing.{IsClientOf, IsLaterRun, IsMailAt, IsSessionOf, Knows, MayFetchFrom, MayPostJob, last_posted}
+use Rattle.core_callers.proofs.KnownCalls.{earlier-run, post-learns}
+use Rattle.core_callers.specs.Knowing.{IsClientOf, IsLaterRun, IsMailAt, IsSessionOf, Knows, MayFetchFrom, MayPostJob, last_posted}
 use Rattle.core_events.proofs.Knowledge.{known-by-calls}
 use Rattle.core_events.specs.Clients.{ClientState, after_client_call, calls_of, client_state, state_from_calls}
 use Rattle.core_events.specs.Events.{Opening, Fetch, NoChange, Post, ClientCall, CoreEvent, By}
@@ -26,6 +26,7 @@ use Rattle.cube_core.specs.declared.jobs.JobAnswer.TheVariants as reply
 use Rattle.cube_core.specs.declared.jobs.Work.TheVariants as work
 use Rattle.cube_core.specs.declared.shard.ShardAnswer.TheVariants as answer
 use Rattle.job_groups.proofs.GroupSteps.{after-waits}
+use Rattle.job_groups.specs.AskedEach.{HasMore}
 use Rattle.known_holds.specs.KnownHolds.{HoldsReady, HoldsTheSame}
 use Rattle.linked_shards.specs.CellShards.{CanCallCoreShard, CoreShardStands, CoreShardStep, linked-shards}
 use Rattle.linked_shards.specs.declared.cell.CoreShard.{CoreShard}
@@ -38,8 +39,8 @@ use Rattle.session_holds.specs.HoldStates.{IsReadyWith, IsReading, IsWriting}
 use Rattle.session_requests.proofs.Outcomes.{round-ends}
 use Rattle.session_requests.specs.SessionRequests.{IsRoundOutcome, LearnsOfRound, MayNoteRound, TellsRound, round_outcome, round_told}
 use Rattle.shard_events.specs.ShardsInRuns.{FitsShard, ShardAnswerSays}
-use Rattle.core_clients.proofs.ClientRuns.{client-run}
-use Rattle.core_clients.specs.Knowing.{HasRunOfClient}
+use Rattle.core_callers.proofs.ClientRuns.{client-run}
+use Rattle.core_callers.specs.Knowing.{HasRunOfClient}
 
 -- What an answer tells of a FLUSH.
 
@@ -281,12 +282,23 @@ module _ (cells : List (CoreCell CoreShard)) (caller session : ℕ)
         history)
 
     pub record HasEndedRound (answer : FlushAnswer) : Type 0 where
+      pub goes_on : HasMore own now
       pub learns_it : LearnsOfRound cells caller session answer own now
       pub same : HoldsTheSame FitsShard CoreShardStands ShardAnswerSays session cells caller own new_cells new_caller now
       pub notes : MayNoteRound new_cells new_caller session now answer
 
     pub round-end : (answer : FlushAnswer) → answer ≡ round_told said → HasEndedRound answer
     round-end answer is = record {
+      goes_on =
+          let asks = replicate fetched-now.waits (ask_entry caller session cell NotYet) in
+          let answered_one = ask_entry caller session cell (Got said) ∷ [] in
+          record {
+            more = (post ∷ []) ++ (asks ++ answered_one);
+            whole =
+                fetched-now.whole
+                ∙ append_assoc posted asks answered_one
+                ∙ append_assoc own (post ∷ []) (asks ++ answered_one);
+          };
       learns_it = subst (λ (x : FlushAnswer). LearnsOfRound cells caller session x own now) (sym is)
           (learns-round now said fetched-now learned-now tells-end);
       same = coe 1 0

@@ -1,7 +1,8 @@
 //! A round, asked of the flusher.
 ghost use Rattle.std.specs.Prelude.{◌≡◌, ◌+◌, ◌≤◌, Option};
-ghost use Rattle.core_clients.specs.Knowing.{IsClientOf, IsMailAt, IsSessionOf, ServesClient};
+ghost use Rattle.core_callers.specs.Knowing.{IsClientOf, IsMailAt, IsSessionOf, ServesClient};
 ghost use Rattle.cube_values.specs.declared.snapshot.Snapshot.{Snapshot};
+ghost use Rattle.job_groups.specs.AskedEach.{HasMore};
 ghost use Rattle.known_holds.specs.KnownHolds.{HoldsReady, HoldsTheSame};
 ghost use Rattle.linked_shards.specs.CellShards.{CoreShardStands};
 ghost use Rattle.session_requests.specs.SessionRequests.{LearnsOfRound, MayNoteRound};
@@ -44,6 +45,7 @@ pub fn ask_flush<R: Wait, P: CellCaller<ShardCells>>(
     ensures opening { P.opening caller.new ≡ P.opening caller.old }
     ensures number { P.number caller.new ≡ P.number caller.old }
     ensures others { P.others caller.new ≡ P.others caller.old }
+    ensures more { HasMore (P.own caller.old) (P.own caller.new) }
     ensures learns { LearnsOfRound (P.opening caller.old) (P.number caller.old) session result
         (P.own caller.old) (P.own caller.new) }
     ensures same { HoldsTheSame FitsShard CoreShardStands ShardAnswerSays session

@@ -4,8 +4,8 @@ ghost use Rattle.std.specs.Option.{option_map_or};
 ghost use Rattle.client_calls.specs.ClientCalls.{desk_entry};
 ghost use Rattle.core_cells.specs.declared.desk.DeskAnswer.TheVariants as answer;
 ghost use Rattle.core_cells.specs.declared.desk.DeskCall.TheVariants as call;
-ghost use Rattle.core_clients.specs.Knowing.{IsClientOf, IsSessionOf};
-ghost use Rattle.cube_language.specs.Cubes.{IsStorable};
+ghost use Rattle.core_callers.specs.Knowing.{IsClientOf, IsSessionOf};
+ghost use Rattle.core_events.specs.Fitting.{CanBeMade};
 ghost use Rattle.cube_values.specs.declared.snapshot.Snapshot.{Snapshot};
 ghost use Rattle.known_holds.specs.KnownHolds.{HoldsNothing, HoldsReady, HoldsTheSame};
 ghost use Rattle.session_snapshots.specs.SessionCalls.{MayLeaveNote};
@@ -72,7 +72,7 @@ pub fn create_cube<S: LinkedShard, R: Wait, P: CellCaller<CoreCells<S>>>(
     requires client { IsClientOf S.fits S.stands S.says (P.opening caller.old)
         (P.number caller.old) session }
     requires session { IsSessionOf S.fits S.stands S.says (P.opening caller.old) session }
-    requires storable { IsStorable decl }
+    requires made { CanBeMade decl }
     requires holds { HoldsNothing S.fits S.stands S.says (P.opening caller.old)
         (P.number caller.old) session (P.own caller.old) }
     ensures board { P.calls_on board.now caller.new }

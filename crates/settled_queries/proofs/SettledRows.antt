@@ -4,20 +4,20 @@ use Rattle.std.proofs.lemmas.Bool.{false≢true}
 use Rattle.cube_journal.specs.Counters.{held_by}
 use Rattle.cube_values.specs.Sees.{sees}
 use Rattle.cube_values.specs.declared.snapshot.Snapshot.{Snapshot}
-use Rattle.core_desk.proofs.Agreement.{agree}
+use Rattle.core_parts.proofs.Agreement.{agree}
 use Rattle.core_events.specs.Cells.{counters_of_run}
 use Rattle.core_events.specs.Clients.{calls_of, client_state}
 use Rattle.core_events.specs.Events.{Opening, CoreEvent}
 use Rattle.core_events.specs.Runs.{IsCoreRun}
 use Rattle.core_events.specs.Serial.{CubeOperation, counts_for, has_committed, operations_of}
-use Rattle.core_runs.proofs.Asking.{AsksBy}
+use Rattle.core_serial.proofs.Asking.{AsksBy}
 use Rattle.core_serial.proofs.OwnCalls.{own-operations}
 use Rattle.core_serial.specs.CubeRows.{rows_of_serial_run}
 use Rattle.core_serial.specs.HeldSnapshots.{HoldsAtRest}
 use Rattle.core_serial.specs.OwnOperations.{operations_by_calls}
 use Rattle.core_settled.proofs.Settled.{commits-stay, left-same, open-rows, operations-stay, run-before, seen-settled}
 use Rattle.core_settled.specs.SettledEpochs.{IsSettledEpoch}
-use Rattle.core_transactions.proofs.CountedRows.{asks-writer}
+use Rattle.core_serial.proofs.CountedRows.{asks-writer}
 use Rattle.settled_queries.proofs.Openers.{owner-opened}
 use Rattle.settled_queries.specs.OwnSoFar.{operations_with_own, rows_with_own}
 

@@ -79,7 +79,7 @@ apart_moved query sizes most more one other first second slot there g l e p q h 
 
 -- what a round has of each cube
 pub none_copied : (from to : ℕ) → IsSlotCopy from to None []
-none_copied from to = record { rising = tt; each = λ number. inr refl }
+none_copied from to = record { rising = tt; each = λ number. inr refl; there = λ number. tt }
 
 pub copied_at : (from to : ℕ) (cubes : List (Option CubeState)) (parts : List (List BrickPart)) → AllZip (IsSlotCopy from to) cubes parts → (cube : ℕ) → IsSlotCopy from to (get_or cubes cube None) (get_or parts cube [])
 copied_at from to [] [] h cube = none_copied from to

@@ -1,18 +1,19 @@
 -- The bricks of one cube on a shard, where anything of the cube came. Of each number there is what the brick has; a
 -- brick that is not there, and each brick of a cube of which nothing came, is seen as it would be born now.
-use Rattle.std.specs.Prelude.{◌≡◌, ℕ, ◌≤◌, Bool, List, [], length, filter, Option, IfSome}
+use Rattle.std.specs.Prelude.{◌≡◌, ℕ, ◌<◌, ◌≤◌, Bool, List, [], length, filter, Option, IfSome, IsSomeAnd}
 use Rattle.std.specs.Option.{option_map_or}
 use Rattle.cube_values.specs.declared.row.CodedRow.{CodedRow}
 use Rattle.cube_values.specs.declared.query.BoundQuery.{BoundQuery}
 use Rattle.cube_values.specs.declared.shape.CubeShape.{CubeShape}
 use Rattle.cube_values.specs.declared.shape.Size.{Size}
+use Rattle.cube_values.specs.Shapes.{bricks_of}
 use Rattle.agg_fold.specs.declared.groups.Groups.{Groups}
 use Rattle.agg_fold.specs.Standing.{StandsFor}
 use Rattle.brick_map.specs.declared.deletion.Deletion.{Deletion}
 use Rattle.cube_rounds.specs.Bricks.{BrickPart}
 use Rattle.cube_rounds.specs.Demands.{AreRising}
 use Rattle.brick_map.specs.Copied.{IsCopied, part_numbered, round_part_with}
-use Rattle.brick_map.specs.Births.{BrickContent, CubeState, brick_in, rows_count, rows_of_brick}
+use Rattle.brick_map.specs.Births.{BrickContent, CubeState, brick_in, cube_sizes, rows_count, rows_of_brick}
 
 -- What a brick has of which nothing came.
 abbrev pub untouched : BrickContent
@@ -58,8 +59,11 @@ pub record AreGroupsOf (query : BoundQuery) (sizes : List Size) (most : ℕ) (ea
   pub few : length rows ≤ most
   pub by_brick : (number : ℕ) → rows_of_brick sizes number rows ≡ each number
 
--- What a round has of the cube: the parts rise, and of each number there is what the round has of the brick.
+-- What a round has of the cube: the parts rise, of each number there is what the round has of the brick, and each is of a
+-- brick that the cube has.
 pub record IsSlotCopy (from to : ℕ) (slot : Option CubeState) (parts : List BrickPart) : Type 0 where
   pub rising : AreRising 0 parts
   pub each : (number : ℕ) → let c = slot_brick slot number in
       IsCopied (round_part_with from to number c) c.rows (part_numbered number parts)
+  pub there : (number : ℕ) → IfSome (part_numbered number parts)
+      (λ part. IsSomeAnd slot (λ cube. number < bricks_of (cube_sizes cube)))

@@ -3,6 +3,7 @@ use Rattle.std.proofs.Common.{◌≡◌, ℕ, ◌%◌, ◌≤◌, ◌^◌, ◌==
 use Rattle.cube_values.specs.declared.query.BoundQuery.{BoundQuery}
 use Rattle.cube_values.specs.declared.row.CodedRow.{CodedRow}
 use Rattle.cube_values.specs.declared.shape.CubeShape.{CubeShape}
+use Rattle.cube_values.specs.Shapes.{bricks_of}
 use Rattle.agg_fold.specs.declared.groups.Groups.{Groups}
 use Rattle.brick_map.specs.Copied.{part_numbered}
 use Rattle.cube_core.specs.declared.shard.ShardAnswer.{ShardAnswer}
@@ -21,7 +22,7 @@ use Rattle.shard_cell.specs.Slots.{HasShape}
 use Rattle.viewed_shards.proofs.ShardAnswers.{shards_answer_as_viewed}
 use Rattle.shard_events.specs.ShardCalls.{CanAskShard, CanCallShard, HasGroupsOf, ShardStep}
 use Rattle.shard_events.specs.ShardsInRuns.{AreGroupsFor, FitsQuery, FitsShard, IsShapeInRun, ShardAnswerSays, ShardsAreLinked, StandsInRun, view_of_copies}
-use Rattle.shard_events.proofs.BrickCopies.{brick_copied}
+use Rattle.shard_events.proofs.BrickCopies.{brick_copied, none_past, part_is_whole, there_by_shape}
 use Rattle.shard_events.proofs.CallSteps.{all_uniform, appended_stands, by_bricks, marked_stands, purged_stands, rolled_stands}
 use Rattle.shard_events.proofs.OwnViews.{compared_idle, copied_idle, found_idle, full_idle, full_view, memory_idle, same_stands, viewed_whole}
 use Rattle.shard_events.proofs.RowlessBricks.{none_apart, none_found}
@@ -180,16 +181,27 @@ steps o number low s new view (call.Purge epoch) answer.Done h f r step = record
 steps o number low s new view (call.CopyRound from to) (answer.Copied copies) h f r step =
     let job = call_job (call.CopyRound from to) in record {
       outcome = Copied (view_of_copies copies);
-      said = λ cube brick. refl;
-      answers = λ cube brick own. brick_copied low from to brick (shard_brick s cube brick) (view cube brick)
-          (record {
-            whole = h.whole cube brick;
-            later = h.later cube brick;
-            alike = h.own cube brick own;
-            later_view = r.later cube brick;
-            begins = r.safe.0;
-            above = r.safe.1;
-          }) (part_numbered brick (slice_index_or copies cube [])) ((step.1 cube).each brick);
+      said = record {
+        same = λ cube brick. refl;
+        rising = λ cube. (step.1 cube).rising;
+        whole = λ cube brick. part_is_whole from to brick (shard_brick s cube brick) (h.whole cube brick)
+            (part_numbered brick (slice_index_or copies cube [])) ((step.1 cube).each brick);
+      };
+      answers = record {
+        own = λ cube brick own. brick_copied low from to brick (shard_brick s cube brick) (view cube brick)
+            (record {
+              whole = h.whole cube brick;
+              later = h.later cube brick;
+              alike = h.own cube brick own;
+              later_view = r.later cube brick;
+              begins = r.safe.0;
+              above = r.safe.1;
+            }) (part_numbered brick (slice_index_or copies cube [])) ((step.1 cube).each brick);
+        others = λ cube brick past.
+            let found = part_numbered brick (slice_index_or copies cube []) in
+            none_past (bricks_of (o.shapes cube).shape.sizes) brick found
+            (there_by_shape (o.shapes cube) (cube_at s cube) brick found (h.shapes cube) ((step.1 cube).there brick)) past;
+      };
       after = stays o number low s new view job (Copied (view_of_copies copies)) h step.0
           (λ cube brick. copied_idle o job (view_of_copies copies) cube brick (view cube brick) (number == brick % o.shards));
     }

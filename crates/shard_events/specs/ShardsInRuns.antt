@@ -1,6 +1,6 @@
 -- A shard in a run of the core: which calls fit it, what it is taken for, and for which outcomes of jobs its answers stand.
 -- Source: this project's own.
-use Rattle.std.specs.Prelude.{◌≡◌, ℕ, ◌%◌, ◌^◌, ◌<◌, ◌≤◌, List, [], ◌∷◌, length, All, slice_index_or}
+use Rattle.std.specs.Prelude.{◌≡◌, ◌≢◌, ℕ, ◌%◌, ◌^◌, ◌<◌, ◌≤◌, List, [], ◌∷◌, length, All, IfSome, slice_index_or}
 use Rattle.std.specs.Option.{option_map_or}
 use Rattle.cube_language.specs.declared.decl.TheConstants.{MOST_CUBES}
 use Rattle.cube_values.specs.declared.entry.Entry.{Entry}
@@ -8,6 +8,7 @@ use Rattle.cube_values.specs.declared.entry.Entry.TheVariants.{Run, Mark}
 use Rattle.cube_values.specs.declared.query.BoundQuery.{BoundQuery}
 use Rattle.cube_values.specs.declared.row.CodedRow.{CodedRow}
 use Rattle.cube_values.specs.declared.shape.CubeShape.{CubeShape}
+use Rattle.cube_values.specs.EpochsVector.{IsVector}
 use Rattle.cube_values.specs.Queries.{IsSoundQuery}
 use Rattle.cube_values.specs.Shapes.{IsSoundCube}
 use Rattle.cube_values.specs.Spans.{IsSoundPart}
@@ -22,6 +23,7 @@ use Rattle.cube_core.specs.declared.shard.ShardAnswer.TheVariants as answer
 use Rattle.cube_core.specs.declared.shard.ShardCall.{ShardCall}
 use Rattle.cube_core.specs.declared.shard.ShardCall.TheVariants as call
 use Rattle.cube_rounds.specs.Bricks.{BrickPart}
+use Rattle.cube_rounds.specs.Demands.{AreRising}
 use Rattle.core_events.specs.Events.{Opening}
 use Rattle.core_events.specs.Jobs.{CoreJob, Scan, Delta, CopyRound, JobOutcome, Done, ShardFull, Found, Compared, Copied, OutOfMemory}
 use Rattle.core_events.specs.ShardView.{ShardView}
@@ -88,6 +90,17 @@ pub record AreGroupsFor (query : BoundQuery) (rows : List CodedRow) (groups : Gr
 abbrev pub view_of_copies : List (List BrickPart) → ShardView
 view_of_copies copies cube brick = option_map_or part_view (part_numbered brick (slice_index_or copies cube [])) []
 
+-- A part of a brick has entries, and they are a vector over its rows.
+pub record IsWholePart (part : BrickPart) : Type 0 where
+  pub some : part.entries ≢ []
+  pub vector : IsVector part.entries (length part.rows)
+
+-- The copies of a round have a view's bricks: of each cube by rising numbers, each part whole.
+pub record ShowCopies (copies : List (List BrickPart)) (view : ShardView) : Type 0 where
+  pub same : (cube brick : ℕ) → view cube brick ≡ view_of_copies copies cube brick
+  pub rising : (cube : ℕ) → AreRising 0 (slice_index_or copies cube [])
+  pub whole : (cube brick : ℕ) → IfSome (part_numbered brick (slice_index_or copies cube [])) IsWholePart
+
 -- The outcomes of a job for which an answer of a shard stands.
 abbrev pub ShardAnswerSays : CoreJob → ShardAnswer → JobOutcome → Type 0
 ShardAnswerSays job answer.Done outcome = outcome ≡ Done
@@ -95,8 +108,7 @@ ShardAnswerSays job (answer.ShardFull rows) outcome = outcome ≡ ShardFull rows
 ShardAnswerSays (Scan query snapshot) (answer.Scanned found) (Found rows) = AreGroupsFor query rows found.groups
 ShardAnswerSays (Delta query from to) (answer.Changed change) (Compared came went) =
     AreGroupsFor query came change.came.groups × AreGroupsFor query went change.went.groups
-ShardAnswerSays (CopyRound from to) (answer.Copied copies) (Copied view) =
-    (cube brick : ℕ) → view cube brick ≡ view_of_copies copies cube brick
+ShardAnswerSays (CopyRound from to) (answer.Copied copies) (Copied view) = ShowCopies copies view
 ShardAnswerSays job answer.NoMemory outcome = outcome ≡ OutOfMemory
 ShardAnswerSays job a outcome = ⊥
 

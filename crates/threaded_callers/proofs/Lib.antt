@@ -1,5 +1,7 @@
 mod Elements
 mod Hands
 mod Tasks
+mod LastWorkers
+mod Starts
 mod SideEnds
 mod WholeRuns

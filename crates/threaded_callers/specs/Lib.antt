@@ -1,4 +1,5 @@
 pub mod Hands
 pub mod Tasks
 pub mod Ends
+pub mod Starts
 pub mod Sides

@@ -1,13 +1,15 @@
 -- Main's side of the threads, while the flusher and the workers have theirs.
 -- Source: this project's own.
-use Rattle.std.specs.Prelude.{◌≡◌, ℕ, Bool, List, []}
+use Rattle.std.specs.Prelude.{◌≡◌, ◌+◌, ◌<◌, ℕ, Bool, List, [], IsTrue, length, slice_index_or}
 use Rattle.board_callers.specs.Callers.{first_calls}
 use Rattle.turn_board.specs.Hands.{HasCallsOf, first_number}
 use Rattle.turn_board.specs.Passes.{callers_of, opening_of}
 use Rattle.turn_board.specs.declared.board.Board.{Board}
 use Rattle.turn_board.specs.declared.cells.Cells.{Ghosts}
 use Rattle.threaded_callers.specs.Ends.{AmongCallers, FlusherEnded, FlusherStopped, MainEnded, SessionsEnded, WorkDone, WorkersStopped}
-use Rattle.threaded_callers.specs.Tasks.{AreReady, IsMain, IsTaskOf, hands_in, others_in, view_in}
+use Rattle.threaded_callers.specs.Starts.{HaveThreads}
+use Rattle.threaded_callers.specs.Tasks.{AreReady, IsHeldBy, IsMain, IsReady, IsTaskOf, IsWorked, hands_in, others_in, view_in}
+use Rattle.threaded_callers.specs.declared.starter.ThreadStarter.{ThreadStarter}
 use Rattle.threaded_callers.specs.declared.task.Task.{Task}
 
 module _ {C T Q A M W : Type 0} {g : Ghosts C T Q A} (main_may : M → ℕ → List T → Type 0)
@@ -52,3 +54,28 @@ module _ {C T Q A M W F : Type 0} {g : Ghosts C T Q A} (stopped : FlusherStopped
     pub play : MainEnded stopped ended session_done flusher_done (callers_of b) (opening_of b)
         (AmongCallers (others_in main')) began flushed number main.work main'.work sessions sessions' flusher.work
         flusher'.work (view_in main').past (first_calls (hands_in main'))
+
+module _ {C T Q A M W K F : Type 0} {g : Ghosts C T Q A} (main_may : M → ℕ → List T → Type 0)
+    (session_may : W → ℕ → List T → ℕ → Type 0) (worker_may : K → ℕ → List T → ℕ → Type 0)
+    (flusher_may : F → ℕ → List T → ℕ → Type 0) (b : Board C T Q A) where
+  -- Main's side and the workers may begin.
+  pub record MayServe (main : Task C M T Q A g) (sessions : List (Task C W T Q A g)) (workers : List (Task C K T Q A g))
+      (flusher : Task C F T Q A g) : Type 0 where
+    pub play : MayPlay main_may session_may b main sessions
+    pub serve : (from : ℕ) × AreReady worker_may b from workers
+    pub flush : (number : ℕ) × IsReady flusher_may b number flusher
+
+module _ {C T Q A M W K F : Type 0} {g : Ghosts C T Q A} (stopped : FlusherStopped T Q A M)
+    (stops : WorkersStopped T Q A M) (session_done : WorkDone T Q A W) (worker_done : WorkDone T Q A K)
+    (flusher_done : WorkDone T Q A F) (b : Board C T Q A) where
+  -- All ended, and the threads that they had.
+  pub record HaveServed (began flushed : Bool) (main main' : Task C M T Q A g)
+      (sessions sessions' : List (Task C W T Q A g)) (workers workers' : List (Task C K T Q A g))
+      (flusher flusher' : Task C F T Q A g) (starter starter' : ThreadStarter) : Type 0 where
+    pub long : length workers' ≡ length workers
+    pub worked : (k : ℕ) (d : Task C K T Q A g) → k < length workers
+        → IsWorked worker_done b (slice_index_or workers k d) (slice_index_or workers' k d)
+    pub threads : HaveThreads (1 + length workers) began starter starter'
+    pub first : IsTrue began → IsTrue flushed
+    pub ended : (number : ℕ) → IsHeldBy b number [] flusher → HasFinished stopped stops session_done flusher_done b began
+        flushed number main main' sessions sessions' flusher flusher'

@@ -1,21 +1,18 @@
 //! Main's side: the sessions, and the flusher beside them.
-ghost use Rattle.std.specs.Prelude.{◌≡◌, ◌+◌, ◌<◌, ◌^◌, ℕ, true, false, [], IsTrue};
+ghost use Rattle.std.specs.Prelude.{◌≡◌, ℕ, true, false, [], IsTrue};
 ghost use Rattle.threaded_callers.specs.Sides.{HasEnded, HasFinished, HaveEnded, MayPlay};
+ghost use Rattle.threaded_callers.specs.Starts.{HaveThreads};
 ghost use Rattle.threaded_callers.specs.Tasks.{IsHeldBy, IsReady, IsTaskOf, IsWorked};
-ghost use Rattle.turn_board.specs.Passes.{callers_of};
 
 use crate::main_task::{gather_into, gather_one_into, stop_flusher, stop_workers};
+use crate::starter::ThreadStarter;
 use crate::task::Task;
 use crate::work::{CallerWork, MainWork};
-use crate::working::{work_task, work_where};
+use crate::working::{WorkPromise, work_through, work_where};
+use std::snapshot::Snapshot;
 use std::sync::Wait;
-use std::sync::atomic::AtomicU64;
-use std::sync::atomic::Ordering::SeqCst;
-use std::thread::{Threads, join};
+use std::thread::{Scope, Threads};
 use turn_board::{Board, Cells};
-
-// How often main rests until those that it needs have begun: some seconds. Whoever begins rings it.
-const MOST_RESTS: u32 = 1_000;
 
 /// Main, the sessions and the flusher, once their works have ended, and whose were begun.
 #[derive(Drop)]
@@ -27,55 +24,27 @@ pub struct Played<C: Cells, M, W, F> {
     pub flushed: bool,
 }
 
-// Main and the sessions, beside a flusher.
+// Main and the sessions.
 #[derive(Drop)]
 struct MainSide<C: Cells, M, W> {
     main: Task<C, M>,
     sessions: Vec<Task<C, W>>,
-    began: bool,
 }
 
-// Whether so many have begun. Main waits for them a while, since a thread may be refused.
-fn have_begun<C: Cells, R: Wait, M>(
-    rt: &R,
-    board: &Board<C>,
-    main: &Task<C, M>,
-    begun: &AtomicU64,
-    count: u64,
-) -> bool
-    requires { IsTaskOf board.now main.now }
-{
-    for _ in 0..MOST_RESTS {
-        if begun.load(SeqCst) >= count {
-            return true;
-        }
-        main.rest(rt, board);
-    }
-    false
-}
-
-// The sessions work, each on a thread of its own, or none does. Then main stops the flusher.
+// The sessions work, each on a thread of its own where one can be had, or none does. Then main stops the flusher.
 fn play_sessions<
     C: Cells + Send + Sync,
     R: Threads + Wait + Sync,
     M: MainWork<C>,
     W: CallerWork<C> + Send,
->(
-    rt: &R,
-    board: &Board<C>,
-    begun: &AtomicU64,
-    begins: bool,
-    main: &mut Task<C, M>,
-    sessions: &mut [Task<C, W>],
-)
+>(rt: &R, board: &Board<C>, begins: bool, main: &mut Task<C, M>, sessions: &mut [Task<C, W>])
 where
     C::Cell: Send + Sync,
-    requires callers { 0 < callers_of board.now }
     requires may { MayPlay M.may_begin W.may_begin board.now main.old sessions.old }
     ensures { HaveEnded M.has_stopped W.has_done board.now begins main.old main.new sessions.old
         sessions.new }
 {
-    work_where(rt, board, begun, sessions, begins);
+    work_where(rt, board, sessions, begins);
     gather_into(board, main, sessions);
     stop_flusher(rt, board, main);
 }
@@ -89,143 +58,122 @@ fn play_side<
 >(
     rt: &R,
     board: &Board<C>,
-    begun: &AtomicU64,
-    began: bool,
+    begins: bool,
     main: Task<C, M>,
     sessions: Vec<Task<C, W>>,
 ) -> MainSide<C, M, W>
 where
     C::Cell: Send + Sync,
-    requires callers { 0 < callers_of board.now }
     requires may { MayPlay M.may_begin W.may_begin board.now main sessions.items }
-    ensures began { result.began ≡ began }
-    ensures ended { HaveEnded M.has_stopped W.has_done board.now began main result.main
-        sessions.items result.sessions.items }
+    ensures { HaveEnded M.has_stopped W.has_done board.now begins main result.main sessions.items
+        result.sessions.items }
 {
     let mut main = main;
     let mut sessions = sessions;
-    play_sessions(rt, board, begun, began, &mut main, sessions.as_mut_slice());
-    MainSide {
-        main,
-        sessions,
-        began,
-    }
+    play_sessions(rt, board, begins, &mut main, sessions.as_mut_slice());
+    MainSide { main, sessions }
 }
 
-// The sessions work where the flusher has begun.
-fn play_if_begun<
-    C: Cells + Send + Sync,
-    R: Threads + Wait + Sync,
+// Main's side and the flusher, whose work was done on some thread.
+struct FlushedSide<C: Cells, M, W, F> {
+    side: MainSide<C, M, W>,
+    flusher: Task<C, F>,
+    began: bool,
+}
+
+// The flusher works on a thread of its own, and the sessions beside it. Where it gets none, no session begins, and its work
+// is done here once main has stopped it.
+fn flush_beside<
+    's,
+    E,
+    C: Cells + Send + Sync + 's,
+    R: Threads + Wait + Sync + 's,
     M: MainWork<C> + Drop,
     W: CallerWork<C> + Send + Drop,
+    F: CallerWork<C> + Send + Drop + 's,
 >(
-    rt: &R,
-    board: &Board<C>,
-    begun: &AtomicU64,
-    count: u64,
-    main: Task<C, M>,
-    sessions: Vec<Task<C, W>>,
-) -> MainSide<C, M, W>
-where
-    C::Cell: Send + Sync,
-    requires callers { 0 < callers_of board.now }
-    requires may { MayPlay M.may_begin W.may_begin board.now main sessions.items }
-    ensures { HaveEnded M.has_stopped W.has_done board.now result.began main result.main
-        sessions.items result.sessions.items }
-{
-    let began = have_begun(rt, board, &main, begun, count);
-    play_side(rt, board, begun, began, main, sessions)
-}
-
-// The flusher works.
-fn flush<C: Cells, R: Wait, F: CallerWork<C>>(
-    rt: &R,
-    board: &Board<C>,
-    begun: &AtomicU64,
-    flusher: Task<C, F>,
-) -> Task<C, F>
-    requires callers { 0 < callers_of board.now }
-    requires ready { (number : ℕ) × IsReady F.may_begin board.now number flusher }
-    ensures { IsWorked F.has_done board.now flusher result }
-{
-    let mut flusher = flusher;
-    work_task(rt, board, begun, &mut flusher);
-    flusher
-}
-
-// The flusher works on a thread of its own, beside the sessions.
-fn play_with_flusher<
-    C: Cells + Send + Sync,
-    R: Threads + Wait + Sync,
-    M: MainWork<C> + Send + Drop,
-    W: CallerWork<C> + Send + Drop,
-    F: CallerWork<C> + Send + Drop,
->(
-    rt: &R,
-    board: &Board<C>,
-    begun: &AtomicU64,
-    count: u64,
+    rt: &'s R,
+    scope: &Scope<'s, E>,
+    starter: &mut ThreadStarter,
+    board: &'s Board<C>,
     main: Task<C, M>,
     sessions: Vec<Task<C, W>>,
     flusher: Task<C, F>,
-) -> (Task<C, F>, MainSide<C, M, W>)
+) -> FlushedSide<C, M, W, F>
 where
     C::Cell: Send + Sync,
-    requires callers { 0 < callers_of board.now }
     requires may { MayPlay M.may_begin W.may_begin board.now main sessions.items }
     requires flusher { (number : ℕ) × IsReady F.may_begin board.now number flusher }
-    ensures flusher { IsWorked F.has_done board.now flusher result.0 }
-    ensures ended { HaveEnded M.has_stopped W.has_done board.now result.1.began main result.1.main
-        sessions.items result.1.sessions.items }
+    ensures flusher { IsWorked F.has_done board.now flusher result.flusher }
+    ensures ended { HaveEnded M.has_stopped W.has_done board.now result.began main
+        result.side.main sessions.items result.side.sessions.items }
+    ensures threads { HaveThreads 1 result.began starter.old starter.new }
 {
-    join(
-        rt,
-        || -> Task<C, F>
-            requires callers { 0 < callers_of board.now }
+    let promise = WorkPromise {
+        board,
+        before: Snapshot::of(&flusher),
+    };
+    match starter.start(
+        scope,
+        promise,
+        move || -> Task<C, F>
             requires ready { (number : ℕ) × IsReady F.may_begin board.now number flusher }
             ensures { IsWorked F.has_done board.entry.now flusher result }
-        { flush(rt, board, begun, flusher) },
-        || -> MainSide<C, M, W>
-            requires callers { 0 < callers_of board.now }
-            requires may { MayPlay M.may_begin W.may_begin board.now main sessions.items }
-            ensures { HaveEnded M.has_stopped W.has_done board.entry.now result.began main
-                result.main sessions.items result.sessions.items }
-        { play_if_begun(rt, board, begun, count, main, sessions) },
-    )
+        { work_through(rt, board, flusher) },
+    ) {
+        Ok(handle) => {
+            let side = play_side(rt, board, true, main, sessions);
+            FlushedSide {
+                side,
+                flusher: handle.join(rt),
+                began: true,
+            }
+        }
+        Err(refused) => {
+            let side = play_side(rt, board, false, main, sessions);
+            FlushedSide {
+                side,
+                flusher: (refused.value)(),
+                began: false,
+            }
+        }
+    }
 }
 
 // So it does, and main takes its pass in.
 fn play_beside_flusher<
-    C: Cells + Send + Sync,
-    R: Threads + Wait + Sync,
-    M: MainWork<C> + Send + Drop,
+    's,
+    E,
+    C: Cells + Send + Sync + 's,
+    R: Threads + Wait + Sync + 's,
+    M: MainWork<C> + Drop,
     W: CallerWork<C> + Send + Drop,
-    F: CallerWork<C> + Send + Drop,
+    F: CallerWork<C> + Send + Drop + 's,
 >(
-    rt: &R,
-    board: &Board<C>,
-    begun: &AtomicU64,
-    count: u64,
+    rt: &'s R,
+    scope: &Scope<'s, E>,
+    starter: &mut ThreadStarter,
+    board: &'s Board<C>,
     main: Task<C, M>,
     sessions: Vec<Task<C, W>>,
     flusher: Task<C, F>,
 ) -> Played<C, M, W, F>
 where
     C::Cell: Send + Sync,
-    requires callers { 0 < callers_of board.now }
     requires may { MayPlay M.may_begin W.may_begin board.now main sessions.items }
     requires flusher { (number : ℕ) × IsReady F.may_begin board.now number flusher }
+    ensures threads { HaveThreads 1 result.began starter.old starter.new }
     ensures flushed { result.flushed ≡ true }
     ensures ended { (number : ℕ) → IsHeldBy board.now number [] flusher
         → HasEnded M.has_stopped W.has_done F.has_done board.now result.began true number main
         result.main sessions.items result.sessions.items flusher result.flusher }
 {
-    let (mut flusher, side) = play_with_flusher(rt, board, begun, count, main, sessions, flusher);
-    let MainSide {
-        mut main,
-        sessions,
+    let FlushedSide {
+        side,
+        mut flusher,
         began,
-    } = side;
+    } = flush_beside(rt, scope, starter, board, main, sessions, flusher);
+    let MainSide { mut main, sessions } = side;
     gather_one_into(board, &mut main, &mut flusher);
     Played {
         main,
@@ -236,7 +184,7 @@ where
     }
 }
 
-// Nobody of main's side works: the workers have not all begun.
+// Nobody of main's side works: a worker was refused a thread.
 fn play_nothing<
     C: Cells + Send + Sync,
     R: Threads + Wait + Sync,
@@ -245,17 +193,18 @@ fn play_nothing<
     F: CallerWork<C> + Drop,
 >(
     rt: &R,
+    _starter: &ThreadStarter,
     board: &Board<C>,
-    begun: &AtomicU64,
     main: Task<C, M>,
     sessions: Vec<Task<C, W>>,
     flusher: Task<C, F>,
 ) -> Played<C, M, W, F>
 where
     C::Cell: Send + Sync,
-    requires callers { 0 < callers_of board.now }
+    requires refused { _starter.now.refused ≡ true }
     requires may { MayPlay M.may_begin W.may_begin board.now main sessions.items }
     requires flusher { IsTaskOf board.now flusher }
+    ensures threads { HaveThreads 1 result.began _starter.now _starter.now }
     ensures began { result.began ≡ false }
     ensures flushed { result.flushed ≡ false }
     ensures ended { (number : ℕ) → IsHeldBy board.now number [] flusher
@@ -263,12 +212,7 @@ where
         result.main sessions.items result.sessions.items flusher result.flusher }
 {
     let mut flusher = flusher;
-    let side = play_side(rt, board, begun, false, main, sessions);
-    let MainSide {
-        mut main,
-        sessions,
-        began: _,
-    } = side;
+    let MainSide { mut main, sessions } = play_side(rt, board, false, main, sessions);
     gather_one_into(board, &mut main, &mut flusher);
     Played {
         main,
@@ -279,70 +223,73 @@ where
     }
 }
 
-// The sessions and the flusher work where the workers have begun.
+// The sessions and the flusher work where no worker was refused a thread. The flusher waits for workers, so it does not work
+// here unless each of them has one.
 fn play<
-    C: Cells + Send + Sync,
-    R: Threads + Wait + Sync,
-    M: MainWork<C> + Send + Drop,
+    's,
+    E,
+    C: Cells + Send + Sync + 's,
+    R: Threads + Wait + Sync + 's,
+    M: MainWork<C> + Drop,
     W: CallerWork<C> + Send + Drop,
-    F: CallerWork<C> + Send + Drop,
+    F: CallerWork<C> + Send + Drop + 's,
 >(
-    rt: &R,
-    board: &Board<C>,
-    begun: &AtomicU64,
-    workers: u64,
+    rt: &'s R,
+    scope: &Scope<'s, E>,
+    starter: &mut ThreadStarter,
+    board: &'s Board<C>,
     main: Task<C, M>,
     sessions: Vec<Task<C, W>>,
     flusher: Task<C, F>,
 ) -> Played<C, M, W, F>
 where
     C::Cell: Send + Sync,
-    requires callers { 0 < callers_of board.now }
-    requires few { workers + 1 < 2 ^ 64 }
     requires may { MayPlay M.may_begin W.may_begin board.now main sessions.items }
     requires flusher { (number : ℕ) × IsReady F.may_begin board.now number flusher }
+    ensures threads { HaveThreads 1 result.began starter.old starter.new }
     ensures first { IsTrue result.began → IsTrue result.flushed }
     ensures ended { (number : ℕ) → IsHeldBy board.now number [] flusher
         → HasEnded M.has_stopped W.has_done F.has_done board.now result.began result.flushed number
         main result.main sessions.items result.sessions.items flusher result.flusher }
 {
-    let serving = have_begun(rt, board, &main, begun, workers);
-    if serving {
-        play_beside_flusher(rt, board, begun, workers + 1, main, sessions, flusher)
+    let refused = starter.has_refused();
+    if refused {
+        play_nothing(rt, starter, board, main, sessions, flusher)
     } else {
-        play_nothing(rt, board, begun, main, sessions, flusher)
+        play_beside_flusher(rt, scope, starter, board, main, sessions, flusher)
     }
 }
 
 // So they do, and then main ends its work.
 pub(crate) fn play_whole<
-    C: Cells + Send + Sync,
-    R: Threads + Wait + Sync,
-    M: MainWork<C> + Send + Drop,
+    's,
+    E,
+    C: Cells + Send + Sync + 's,
+    R: Threads + Wait + Sync + 's,
+    M: MainWork<C> + Drop,
     W: CallerWork<C> + Send + Drop,
-    F: CallerWork<C> + Send + Drop,
+    F: CallerWork<C> + Send + Drop + 's,
 >(
-    rt: &R,
-    board: &Board<C>,
-    begun: &AtomicU64,
-    workers: u64,
+    rt: &'s R,
+    scope: &Scope<'s, E>,
+    starter: &mut ThreadStarter,
+    board: &'s Board<C>,
     main: Task<C, M>,
     sessions: Vec<Task<C, W>>,
     flusher: Task<C, F>,
 ) -> Played<C, M, W, F>
 where
     C::Cell: Send + Sync,
-    requires callers { 0 < callers_of board.now }
-    requires few { workers + 1 < 2 ^ 64 }
     requires may { MayPlay M.may_begin W.may_begin board.now main sessions.items }
     requires flusher { (number : ℕ) × IsReady F.may_begin board.now number flusher }
+    ensures threads { HaveThreads 1 result.began starter.old starter.new }
     ensures first { IsTrue result.began → IsTrue result.flushed }
     ensures ended { (number : ℕ) → IsHeldBy board.now number [] flusher
         → HasFinished M.has_stopped M.has_ended W.has_done F.has_done board.now result.began
         result.flushed number main result.main sessions.items result.sessions.items flusher
         result.flusher }
 {
-    let mut played = play(rt, board, begun, workers, main, sessions, flusher);
+    let mut played = play(rt, scope, starter, board, main, sessions, flusher);
     stop_workers(rt, board, &mut played.main, played.began);
     played
 }

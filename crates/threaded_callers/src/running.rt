@@ -1,105 +1,29 @@
 //! All works on threads, and the board that is shut behind them.
-ghost use Rattle.std.specs.Prelude.{◌≡◌, ◌+◌, ◌<◌, ◌^◌, ℕ, [], IsTrue, length, slice_index_or};
+ghost use Rattle.std.specs.Prelude.{◌≡◌, ◌+◌, ◌<◌, ℕ, [], false, IsTrue, length, slice_index_or};
 ghost use Rattle.threaded_callers.specs.Ends.{HaveRun};
-ghost use Rattle.threaded_callers.specs.Sides.{HasFinished, MayPlay};
-ghost use Rattle.threaded_callers.specs.Tasks.{AreReady, IsHeldBy, IsReady, IsWorked, others_in};
+ghost use Rattle.threaded_callers.specs.Sides.{MayPlay};
+ghost use Rattle.threaded_callers.specs.Starts.{HaveThreads};
+ghost use Rattle.threaded_callers.specs.Tasks.{AreReady, IsReady};
 ghost use Rattle.turn_board.specs.Calls.{IsFirst};
 ghost use Rattle.turn_board.specs.Passes.{IsPassOf, callers_of, opening_of, view_of};
 
 use crate::main_task::gather_into;
-use crate::playing::{Played, play_whole};
+use crate::playing::Played;
+use crate::serving::{Joined, Served, serve};
 use crate::sharing::{share_out, split_first};
+use crate::starter::ThreadStarter;
 use crate::task::Task;
 use crate::work::{CallerWork, MainWork};
-use crate::working::work_all;
 use std::sync::Wait;
-use std::sync::atomic::AtomicU64;
-use std::thread::{Threads, join};
+use std::thread::Threads;
 use turn_board::{Board, Cells, Pass};
 
-/// The cells that a board left, and the tasks once all have ended.
+/// The cells that a board left, the tasks once all have ended, and who started their threads.
 pub struct Ended<C: Cells, M, W, K, F> {
     pub cells: Vec<C::Cell>,
     pub workers: Vec<Task<C, K>>,
     pub played: Played<C, M, W, F>,
-}
-
-// The workers work, each on a thread of its own.
-fn serve<C: Cells + Send + Sync, R: Threads + Wait + Sync, K: CallerWork<C> + Send>(
-    rt: &R,
-    board: &Board<C>,
-    begun: &AtomicU64,
-    workers: Vec<Task<C, K>>,
-) -> Vec<Task<C, K>>
-where
-    C::Cell: Send + Sync,
-    requires main { 0 < callers_of board.now }
-    requires ready { (from : ℕ) × AreReady K.may_begin board.now from workers.items }
-    ensures long { length result.items ≡ length workers.items }
-    ensures worked { (k : ℕ) (d : _) → k < length workers.items → IsWorked K.has_done board.now
-        (slice_index_or workers.items k d) (slice_index_or result.items k d) }
-{
-    let mut workers = workers;
-    work_all(rt, board, begun, workers.as_mut_slice());
-    workers
-}
-
-// They do so beside main's side.
-fn play_beside_workers<
-    C: Cells + Send + Sync,
-    R: Threads + Wait + Sync,
-    M: MainWork<C> + Send + Drop,
-    W: CallerWork<C> + Send + Drop,
-    K: CallerWork<C> + Send + Drop,
-    F: CallerWork<C> + Send + Drop,
->(
-    rt: &R,
-    board: &Board<C>,
-    begun: &AtomicU64,
-    main: Task<C, M>,
-    sessions: Vec<Task<C, W>>,
-    workers: Vec<Task<C, K>>,
-    flusher: Task<C, F>,
-) -> (Vec<Task<C, K>>, Played<C, M, W, F>)
-where
-    C::Cell: Send + Sync,
-    requires callers { 0 < callers_of board.now }
-    requires few { length workers.items + 1 < 2 ^ 64 }
-    requires may { MayPlay M.may_begin W.may_begin board.now main sessions.items }
-    requires workers { (from : ℕ) × AreReady K.may_begin board.now from workers.items }
-    requires flusher { (number : ℕ) × IsReady F.may_begin board.now number flusher }
-    ensures long { length result.0.items ≡ length workers.items }
-    ensures worked { (k : ℕ) (d : _) → k < length workers.items → IsWorked K.has_done board.now
-        (slice_index_or workers.items k d) (slice_index_or result.0.items k d) }
-    ensures first { IsTrue result.1.began → IsTrue result.1.flushed }
-    ensures ended { (number : ℕ) → IsHeldBy board.now number [] flusher
-        → HasFinished M.has_stopped M.has_ended W.has_done F.has_done board.now result.1.began
-        result.1.flushed number main result.1.main sessions.items result.1.sessions.items flusher
-        result.1.flusher }
-{
-    let count = workers.len() as u64;
-    join(
-        rt,
-        || -> Vec<Task<C, K>>
-            requires main { 0 < callers_of board.now }
-            requires ready { (from : ℕ) × AreReady K.may_begin board.now from workers.items }
-            ensures long { length result.items ≡ length workers.items }
-            ensures worked { (k : ℕ) (d : _) → k < length workers.items
-                → IsWorked K.has_done board.entry.now (slice_index_or workers.items k d)
-                (slice_index_or result.items k d) }
-        { serve(rt, board, begun, workers) },
-        || -> Played<C, M, W, F>
-            requires callers { 0 < callers_of board.now }
-            requires few { count + 1 < 2 ^ 64 }
-            requires may { MayPlay M.may_begin W.may_begin board.now main sessions.items }
-            requires flusher { (number : ℕ) × IsReady F.may_begin board.now number flusher }
-            ensures first { IsTrue result.began → IsTrue result.flushed }
-            ensures ended { (number : ℕ) → IsHeldBy board.entry.now number [] flusher
-                → HasFinished M.has_stopped M.has_ended W.has_done F.has_done board.entry.now
-                result.began result.flushed number main result.main sessions.items
-                result.sessions.items flusher result.flusher }
-        { play_whole(rt, board, begun, count, main, sessions, flusher) },
-    )
+    pub starter: ThreadStarter,
 }
 
 /// Gives each task a caller of a board's first pass: main the first, the sessions, the workers and the
@@ -146,17 +70,19 @@ pub fn give_callers<C: Cells, M: MainWork<C>, W: CallerWork<C>, K: CallerWork<C>
 /// that of main here, in order: once the sessions have ended it stops the flusher, and once that has
 /// ended the workers. Then the board is shut.
 ///
-/// Where a thread is refused the sessions do not begin, and main stops the others, whose works are
-/// then done here if they have no thread. So nobody waits for a thread that there is not.
+/// A session whose thread is refused is done here. A worker or the flusher has to work beside the
+/// sessions: where one of these is refused a thread no session begins, main stops the others, and what
+/// has no thread is done here then. So nobody waits for a thread that there is not.
 pub fn run_on_threads<
     C: Cells + Send + Sync,
     R: Threads + Wait + Sync,
-    M: MainWork<C> + Send + Drop,
+    M: MainWork<C> + Drop,
     W: CallerWork<C> + Send + Drop,
     K: CallerWork<C> + Send + Drop,
     F: CallerWork<C> + Send + Drop,
 >(
     rt: &R,
+    starter: ThreadStarter,
     board: Board<C>,
     main: Task<C, M>,
     sessions: Vec<Task<C, W>>,
@@ -165,22 +91,23 @@ pub fn run_on_threads<
 ) -> Ended<C, M, W, K, F>
 where
     C::Cell: Send + Sync,
-    requires callers { 0 < callers_of board }
-    requires few { length workers.items + 1 < 2 ^ 64 }
     requires play { MayPlay M.may_begin W.may_begin board main sessions.items }
     requires serve { AreReady K.may_begin board (1 + length sessions.items) workers.items }
     requires flush { IsReady F.may_begin board (1 + length sessions.items + length workers.items)
         flusher }
+    ensures threads { HaveThreads (1 + length workers.items) result.played.began starter
+        result.starter }
     ensures first { IsTrue result.played.began → IsTrue result.played.flushed }
     ensures run { HaveRun C.step C.fits M.has_stopped M.has_ended W.has_done K.has_done F.has_done
         (callers_of board) (opening_of board) result.played.began result.played.flushed main.work
         result.played.main.work sessions.items result.played.sessions.items workers.items
         result.workers.items flusher.work result.played.flusher.work result.cells.items }
 {
-    let begun = AtomicU64::new(0);
-    let (mut workers, mut played) = play_beside_workers(
-        rt, &board, &begun, main, sessions, workers, flusher,
-    );
+    let Joined { served, starter } = serve(rt, starter, &board, main, sessions, workers, flusher);
+    let Served {
+        mut workers,
+        mut played,
+    } = served;
     gather_into(&board, &mut played.main, workers.as_mut_slice());
     let pass = played.main.take_pass(&board);
     let cells = board.shut(rt, pass);
@@ -188,5 +115,6 @@ where
         cells,
         workers,
         played,
+        starter,
     }
 }

@@ -3,7 +3,6 @@ ghost use Rattle.std.specs.Prelude.{◌≡◌, Some, None};
 ghost use Rattle.threaded_callers.specs.Tasks.{IsTaskOf};
 ghost use Rattle.turn_board.specs.Passes.{IsPassOf};
 
-use std::sync::Wait;
 use turn_board::{Board, Cells, Pass};
 
 /// A work, and the pass of the caller that does it.
@@ -27,15 +26,6 @@ impl<C: Cells, W> Task<C, W> {
         ensures pass { self.new.pass ≡ Some pass }
     {
         self.pass = Some(pass);
-    }
-
-    // Its caller rests.
-    pub(crate) fn rest<R: Wait>(&self, rt: &R, board: &Board<C>)
-        requires { IsTaskOf board.now self.now }
-    {
-        if let Some(pass) = &self.pass {
-            board.rest(rt, pass);
-        }
     }
 
     // Its pass, which it then no longer has.

@@ -2,46 +2,63 @@
 ghost use Rattle.std.specs.Prelude.{◌≡◌, ℕ, ◌+◌, ◌<◌, length, slice_index_or};
 ghost use Rattle.threaded_callers.specs.Ends.{TaskEnds};
 ghost use Rattle.threaded_callers.specs.Tasks.{AreReady, IsReady, IsWorked};
-ghost use Rattle.turn_board.specs.Passes.{callers_of};
 
 use crate::task::Task;
 use crate::work::CallerWork;
+use std::snapshot::Snapshot;
 use std::sync::Wait;
-use std::sync::atomic::AtomicU64;
-use std::sync::atomic::Ordering::SeqCst;
 use std::thread;
-use std::thread::Threads;
+use std::thread::{Promise, Threads};
 use turn_board::{Board, Cells};
 
-// Does the work of a task, and tells main that it has begun.
+// Does the work of a task.
 pub(crate) fn work_task<C: Cells, R: Wait, W: CallerWork<C>>(
     rt: &R,
     board: &Board<C>,
-    begun: &AtomicU64,
     task: &mut Task<C, W>,
 )
-    requires main { 0 < callers_of board.now }
     requires ready { (number : ℕ) × IsReady W.may_begin board.now number task.old }
     ensures { IsWorked W.has_done board.now task.old task.new }
 {
-    begun.fetch_add(1, SeqCst);
-    board.ring(0);
     match &mut task.pass {
         Some(pass) => task.work.work(rt, board, pass),
         None => unreachable!(),
     }
 }
 
+// Does it, and gives the task back.
+pub(crate) fn work_through<C: Cells, R: Wait, W: CallerWork<C>>(
+    rt: &R,
+    board: &Board<C>,
+    task: Task<C, W>,
+) -> Task<C, W>
+    requires ready { (number : ℕ) × IsReady W.may_begin board.now number task }
+    ensures { IsWorked W.has_done board.now task result }
+{
+    let mut task = task;
+    work_task(rt, board, &mut task);
+    task
+}
+
+// What is known of a task that comes back from another thread: its work was done.
+#[derive(Drop)]
+pub(crate) struct WorkPromise<'b, C: Cells, W> {
+    pub(crate) board: &'b Board<C>,
+    pub(crate) before: Snapshot<Task<C, W>>,
+}
+
+impl<'b, C: Cells, W: CallerWork<C>> Promise<Task<C, W>> for WorkPromise<'b, C, W> {
+    ghost kept_by = { λ p task. IsWorked W.has_done p.board.now p.before.value task };
+}
+
 // Does the works of all tasks, each on a thread of its own where one can be started.
 pub(crate) fn work_all<C: Cells + Send + Sync, R: Threads + Wait + Sync, W: CallerWork<C> + Send>(
     rt: &R,
     board: &Board<C>,
-    begun: &AtomicU64,
     tasks: &mut [Task<C, W>],
 )
 where
     C::Cell: Send + Sync,
-    requires main { 0 < callers_of board.now }
     requires ready { (from : ℕ) × AreReady W.may_begin board.now from tasks.old }
     ensures { (k : ℕ) (d : _) → k < length tasks.old → IsWorked W.has_done board.now
         (slice_index_or tasks.old k d) (slice_index_or tasks.new k d) }
@@ -51,10 +68,9 @@ where
         tasks,
         tasks.len().max(1),
         &|_, task: &mut Task<C, W>|
-            requires main { 0 < callers_of board.now }
             requires ready { (number : ℕ) × IsReady W.may_begin board.now number task.old }
             ensures { IsWorked W.has_done board.entry.now task.old task.new }
-        { work_task(rt, board, begun, task) },
+        { work_task(rt, board, task) },
     );
 }
 
@@ -62,19 +78,17 @@ where
 pub(crate) fn work_where<C: Cells + Send + Sync, R: Threads + Wait + Sync, W: CallerWork<C> + Send>(
     rt: &R,
     board: &Board<C>,
-    begun: &AtomicU64,
     tasks: &mut [Task<C, W>],
     begins: bool,
 )
 where
     C::Cell: Send + Sync,
-    requires main { 0 < callers_of board.now }
     requires ready { (from : ℕ) × AreReady W.may_begin board.now from tasks.old }
     ensures { (from k : ℕ) (d : _) → AreReady W.may_begin board.now from tasks.old
         → k < length tasks.old → TaskEnds W.has_done board.now begins (from + k)
         (slice_index_or tasks.old k d) (slice_index_or tasks.new k d) }
 {
     if begins {
-        work_all(rt, board, begun, tasks);
+        work_all(rt, board, tasks);
     }
 }

@@ -1,4 +1,4 @@
-use Rattle.known_cubes.proofs.CubesMade.{are-cubes, few-cubes, storable-cubes}
+use Rattle.known_cubes.proofs.CubesMade.{are-cubes, cubes-made, few-cubes, storable-cubes}
 use Rattle.known_cubes.proofs.DeskCubes.{cube-shapes, history-cubes}
 use Rattle.known_cubes.proofs.law.desk_cubes_are_those_of_the_history.Goals as goal
 
@@ -14,6 +14,9 @@ returns-clause-few g c = few-cubes
 
 pub returns-clause-storable : goal.returns-clause-storable
 returns-clause-storable g c = storable-cubes
+
+pub returns-clause-made : goal.returns-clause-made
+returns-clause-made g c = cubes-made
 
 pub returns-clause-differ : goal.returns-clause-differ
 returns-clause-differ g c = are-cubes

@@ -19,7 +19,7 @@ values-preserved g c = record {
       value_places (dim_at c.args.cube.now.dims c.args.dim) (texts_at (lists_at names c.args.place) c.args.dim) c.args.values.now c.values.value-index
       c.value-item.result c.values-test.true c.value-item.is (c.values.invariant.places names (c.append_number.ensures.grow.later names end))
       (c.in_ok-append_number.ensures.places names end);
-  grow = grow_more c.values.invariant.grow c.append_number.ensures.grow (among_values c.args.dim c.args.values.now c.values.value-index c.value-item.result c.values-test.true c.value-item.is);
+  grow = grow_more g.met.E.Encoder.carries_on c.values.invariant.grow c.append_number.ensures.grow (among_values c.args.dim c.args.values.now c.values.value-index c.value-item.result c.values-test.true c.value-item.is);
 }
 
 pub returns-clause-places : goal.returns-clause-places

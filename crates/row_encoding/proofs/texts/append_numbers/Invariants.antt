@@ -10,5 +10,5 @@ invariant-values g l = record {
       → l.numbers.items ≡ l.fn.numbers.items ++ codes_among (texts_at lists l.dim) (take l.value-index l.values));
   places : InTheEnd (g.E.Encoder.may_end l.encoder) l.place (λ lists.
       HavePlacesAmong (dim_at l.cube.dims l.dim) (texts_at lists l.dim) (take l.value-index l.values));
-  grow : Grow g.E.Encoder.may_end g.E.Encoder.suits g.E.Encoder.has_name l.place l.cube (ShortTextAmong l.dim l.values) l.fn.encoder l.encoder;
+  grow : Grow g.E.Encoder.may_end g.E.Encoder.suits g.E.Encoder.has_name g.E.Encoder.keeps l.place l.cube (ShortTextAmong l.dim l.values) l.fn.encoder l.encoder;
 }

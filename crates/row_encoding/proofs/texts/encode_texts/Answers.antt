@@ -10,7 +10,7 @@ use Rattle.row_encoding.proofs.texts.encode_texts.Goals as goal
 
 pub returns-in_err-append_numbers-clause-grow : goal.returns-in_err-append_numbers-clause-grow
 returns-in_err-append_numbers-clause-grow g c =
-    grow_more c.conditions.invariant.grow c.append_numbers.ensures.grow
+    grow_more g.met.E.Encoder.carries_on c.conditions.invariant.grow c.append_numbers.ensures.grow
     (among_conditions c.args.conditions.now c.conditions.condition-index c.condition-item.result c.values_of_test.result.now c.conditions-test.true c.condition-item.is c.values_of_test.ensures)
 
 pub conditions-preserved : goal.conditions-preserved
@@ -23,7 +23,7 @@ conditions-preserved g c = record {
       condition_places c.args.cube.now.dims (lists_at names c.args.place) c.args.conditions.now c.conditions.condition-index c.condition-item.result
       c.values_of_test.result.now c.conditions-test.true c.condition-item.is c.values_of_test.ensures
       (c.conditions.invariant.places names (c.append_numbers.ensures.grow.later names end)) (c.in_ok-append_numbers.ensures.places names end);
-  grow = grow_more c.conditions.invariant.grow c.append_numbers.ensures.grow
+  grow = grow_more g.met.E.Encoder.carries_on c.conditions.invariant.grow c.append_numbers.ensures.grow
       (among_conditions c.args.conditions.now c.conditions.condition-index c.condition-item.result c.values_of_test.result.now c.conditions-test.true c.condition-item.is c.values_of_test.ensures);
 }
 

@@ -1,4 +1,4 @@
-use Rattle.core_clients.specs.Knowing.{Knows, MayFetchFrom}
+use Rattle.core_callers.specs.Knowing.{Knows, MayFetchFrom}
 use Rattle.linked_shards.specs.CellShards.{CoreShardStands}
 use Rattle.session_requests.proofs.AskedRounds.{may-fetch, may-post, round-end, tells-end}
 use Rattle.shard_events.specs.ShardsInRuns.{FitsShard, ShardAnswerSays}
@@ -34,6 +34,22 @@ round_answer_in-requires g c =
     (opening posted) (number posted) (own posted) did.opening did.number did.own
     (opening fetched) (number fetched) (own fetched) c.fetch_answer.result
     got.opening got.number got.fetched got.learns got.history
+
+pub returns-clause-more : goal.returns-clause-more
+returns-clause-more g c =
+    let opening = g.P.CellCaller.opening in
+    let number = g.P.CellCaller.number in
+    let own = g.P.CellCaller.own in
+    let posted = c.post_job.new.caller in
+    let fetched = c.fetch_answer.new.caller in
+    let did = c.post_job.ensures in
+    let got = c.fetch_answer.ensures in
+    (round-end (opening c.args.caller.now) (number c.args.caller.now) c.args.session c.requires.client c.requires.session
+    c.args.size.now.shards c.args.statement c.requires.mail (own c.args.caller.now) c.requires.ready.0 c.requires.ready.1
+    (opening posted) (number posted) (own posted) did.opening did.number did.own
+    (opening fetched) (number fetched) (own fetched) c.fetch_answer.result
+    got.opening got.number got.fetched got.learns got.history
+    c.round_answer_in.result c.round_answer_in.ensures).goes_on
 
 pub returns-clause-learns : goal.returns-clause-learns
 returns-clause-learns g c =

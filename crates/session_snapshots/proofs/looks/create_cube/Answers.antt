@@ -12,7 +12,7 @@ call_desk_cell-requires-clause-may g c =
     (g.P.CellCaller.own c.args.caller.now) (call.CreateCube c.args.session c.args.statement c.args.decl)
     (λ o k. IsIdle o c.args.session k) c.requires.session c.requires.holds
     (λ o k a_session idle. may-create o c.args.session c.args.statement c.args.decl k
-    a_session idle c.requires.storable)
+    a_session idle c.requires.made)
 
 pub returns-clause-holds : goal.returns-clause-holds
 returns-clause-holds g c =

@@ -4,12 +4,12 @@ use Rattle.threaded_callers.proofs.playing.play_beside_flusher.Goals as goal
 
 pub gather_one_into-requires-clause-task : goal.gather_one_into-requires-clause-task
 gather_one_into-requires-clause-task g c =
-    (c.play_with_flusher-flusher.ensures.flusher c.requires.flusher.0 c.requires.flusher.1.held).held.of
+    (c.flush_beside-side.ensures.flusher c.requires.flusher.0 c.requires.flusher.1.held).held.of
 
 pub returns-clause-ended : goal.returns-clause-ended
 returns-clause-ended g c number held =
-    let p = c.play_with_flusher-flusher in let r = p.ensures.flusher number held in let e = c.gather_one_into.ensures in
+    let p = c.flush_beside-side in let r = p.ensures.flusher number held in let e = c.gather_one_into.ensures in
     flusher_ends c.args.board.now g.M.MainWork.has_stopped g.W.CallerWork.has_done g.F.CallerWork.has_done
-    p.result.1.began true number c.args.main p.result.1.main c.gather_one_into.new.main c.args.sessions.items
-    p.result.1.sessions.items c.args.flusher p.result.0 c.gather_one_into.new.task p.ensures.ended
+    p.result.began true number c.args.main p.result.side.main c.gather_one_into.new.main c.args.sessions.items
+    p.result.side.sessions.items c.args.flusher p.result.flusher c.gather_one_into.new.task p.ensures.ended
     (record { own = r.own; held = r.held; ends = r.work }) e.main e.keeps e.own e.gathered e.work e.task

@@ -1,0 +1,5 @@
+pub mod Serving
+pub mod Answered
+pub mod KnownCalls
+pub mod ClientRuns
+pub mod FlusherCalls

@@ -1,0 +1,4 @@
+pub mod Workers
+pub mod AnswersOfCalls
+pub mod Knowing
+pub mod Flushing

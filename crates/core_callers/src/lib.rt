@@ -1,0 +1,19 @@
+//! What each caller of the core knows by its own calls, and the calls that then fit: a worker, a
+//! client, and the flusher; and which answers a call may have.
+#![tactic(auto)]
+
+mod answers;
+mod clients;
+mod flusher;
+mod workers;
+
+pub use answers::answers_fit_their_calls;
+pub use clients::{
+    clients_fit_by_what_they_know, clients_know_their_runs, clients_learn_by_each_call,
+    own_calls_go_on,
+};
+pub use flusher::{
+    the_flusher_fits_by_what_it_knows, the_flusher_goes_on_by_its_calls, the_flusher_is_a_client,
+    the_flusher_knows_its_runs, the_flusher_learns_by_each_call,
+};
+pub use workers::workers_serve_their_shards;

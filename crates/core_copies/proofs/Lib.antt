@@ -1,4 +1,0 @@
-pub mod OverKept
-pub mod OpenRounds
-pub mod CopiedBricks
-pub mod StoreRows

@@ -1,4 +1,0 @@
-pub mod FetchedAnswers
-pub mod HeldReaders
-pub mod DeltaRows
-pub mod FetchedDeltas

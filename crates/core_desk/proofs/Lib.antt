@@ -1,9 +1,0 @@
-pub mod Lookups
-pub mod DeskSteps
-pub mod Agreement
-pub mod InOrder
-pub mod Finished
-pub mod Blindness
-pub mod MayCalls
-pub mod KnownCubes
-pub mod RoundEnds

@@ -1,0 +1,15 @@
+pub mod FetchedAnswers
+pub mod HeldReaders
+pub mod DeltaRows
+pub mod FetchedDeltas
+pub mod OverKept
+pub mod OpenRounds
+pub mod CopiedBricks
+pub mod StoreRows
+pub mod Sessions
+pub mod Entries
+pub mod RoundNotes
+pub mod OwnNotes
+pub mod CubeNames
+pub mod LegalJournals
+pub mod NoteCalls

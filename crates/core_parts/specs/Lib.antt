@@ -1,0 +1,2 @@
+pub mod BrickTransactions
+pub mod Histories

@@ -1,5 +1,0 @@
-pub mod Isolation
-pub mod Asking
-pub mod FoundRows
-pub mod ToldBricks
-pub mod SerialQueries

@@ -1,5 +1,0 @@
-use Rattle.core_runs.proofs.ToldBricks.{seen-of-told}
-use Rattle.core_runs.proofs.law.bricks_keep_what_they_were_told.Goals as goal
-
-pub returns : goal.returns
-returns c = seen-of-told

@@ -1,3 +1,0 @@
-pub mod Isolation
-pub mod Queries
-pub mod Told

@@ -1,5 +1,0 @@
-use Rattle.core_serial.proofs.CubeSerial.{found-permuted}
-use Rattle.core_serial.proofs.law.queries_run_serially.Goals as goal
-
-pub returns : goal.returns
-returns c = found-permuted

@@ -1,9 +1,0 @@
-use Rattle.core_transactions.proofs.CountedRows.{committed-posted}
-use Rattle.core_transactions.proofs.Fates.{committed-unrolled}
-use Rattle.core_transactions.proofs.law.committed_transactions_are_done.Goals as goal
-
-pub returns-clause-done : goal.returns-clause-done
-returns-clause-done c = committed-posted
-
-pub returns-clause-stays : goal.returns-clause-stays
-returns-clause-stays c = committed-unrolled
