@@ -1,0 +1,4 @@
+pub mod Moments
+pub mod ToldSince
+pub mod KeptPlaces
+pub mod RoundsOfRuns

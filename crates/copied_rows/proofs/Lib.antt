@@ -1,0 +1,2 @@
+pub mod ShardRows
+pub mod CopiedBricks

@@ -1,0 +1,10 @@
+pub mod DeclaredCubes
+pub mod ProperCubes
+pub mod NewNames
+pub mod ByPlaces
+pub mod FittingRows
+pub mod FittingBricks
+pub mod MadeCubes
+pub mod NamesSince
+pub mod KeptLists
+pub mod WholeRounds

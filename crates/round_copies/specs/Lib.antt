@@ -1,0 +1,3 @@
+pub mod CopyAnswers
+pub mod RoundCopies
+pub mod WithinRounds
