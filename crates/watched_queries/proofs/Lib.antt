@@ -1,0 +1,5 @@
+pub mod ReaderMoments
+pub mod FollowedWatches
+pub mod WatchOutcomes
+pub mod OpenedReaders
+pub mod WatchAnswers

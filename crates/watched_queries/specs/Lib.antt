@@ -1,0 +1,4 @@
+pub mod ReadersInRuns
+pub mod WatchSteps
+pub mod WatchesInRuns
+pub mod WatchCalls
