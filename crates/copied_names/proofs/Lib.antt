@@ -1,0 +1,4 @@
+pub mod CopyCalls
+pub mod NoRounds
+pub mod CopiedLists
+pub mod Moments

@@ -1,0 +1,117 @@
+-- A run that goes on from a caller's calls passes the moment right after them.
+use Rattle.std.proofs.Common.{◌≡◌, ◌∙◌, ℕ, eqb, Bool, true, false, cond, List, [], ◌∷◌, ◌++◌, append-nil, refl, sym, ap, subst}
+use Rattle.core_board.specs.Links.{AreEventsAfter, AreEventsOf}
+use Rattle.core_board_cells.specs.BoardCells.{IsEntryEvent, IsShardLinked}
+use Rattle.core_callers.specs.Knowing.{IsLaterRun}
+use Rattle.core_events.specs.Events.{Opening, CoreEvent}
+use Rattle.core_events.specs.Jobs.{CoreJob, JobOutcome}
+use Rattle.core_events.specs.ShardView.{ShardView}
+use Rattle.core_program.specs.CoreFits.{CoreEntry, OpensCells}
+use Rattle.core_program.specs.LinkedCells.{linked-cells}
+use Rattle.cube_core.specs.declared.cell.CoreCell.{CoreCell}
+use Rattle.cube_core.specs.declared.shard.ShardAnswer.{ShardAnswer}
+use Rattle.cube_core.specs.declared.shard.ShardCall.{ShardCall}
+use Rattle.known_cubes.proofs.DeskCubes.{earlier-run}
+use Rattle.turn_board.specs.History.{of_caller}
+use Rattle.copied_names.specs.CopiedNames.{IsMomentAfter}
+
+-- A history up to the last of a caller's own calls.
+record Cut (by : ℕ) (own log : List CoreEntry) : Type 0 where
+  first : List CoreEntry
+  rest : List CoreEntry
+  whole : log ≡ first ++ rest
+  mine : of_caller by first ≡ own
+
+abbrev first_of : CoreEntry → List CoreEntry → CoreEntry
+first_of other [] = other
+first_of other (e ∷ log) = e
+
+abbrev behind_first : List CoreEntry → List CoreEntry
+behind_first [] = []
+behind_first (e ∷ log) = log
+
+no-more : (e : CoreEntry) (log : List CoreEntry) → (e ∷ log) ≡ [] → ⊥
+no-more e log is = subst is-more is tt
+  where
+    is-more : List CoreEntry → Type 0
+    is-more [] = ⊥
+    is-more (x ∷ xs) = Unit {0}
+
+with-entry : (b : Bool) (by : ℕ) (x : CoreEntry) (own rest : List CoreEntry) (e : CoreEntry) (log : List CoreEntry)
+    → eqb e.caller by ≡ b → (x ∷ own ++ rest) ≡ cond b (e ∷ of_caller by log) (of_caller by log)
+    → ((own ++ rest) ≡ of_caller by log → Cut by own log)
+    → ((x ∷ own ++ rest) ≡ of_caller by log → Cut by (x ∷ own) log)
+    → Cut by (x ∷ own) (e ∷ log)
+with-entry true by x own rest e log here is less same =
+    let c = less (ap behind_first is) in
+    record {
+      first = e ∷ c.first;
+      rest = c.rest;
+      whole = ap (λ (l : List CoreEntry). e ∷ l) c.whole;
+      mine =
+          (λ i. cond (here i) (e ∷ of_caller by c.first) (of_caller by c.first))
+          ∙ (λ i. sym (ap (first_of x) is) i ∷ c.mine i);
+    }
+with-entry false by x own rest e log other is less same =
+    let c = same is in
+    record {
+      first = e ∷ c.first;
+      rest = c.rest;
+      whole = ap (λ (l : List CoreEntry). e ∷ l) c.whole;
+      mine = (λ i. cond (other i) (e ∷ of_caller by c.first) (of_caller by c.first)) ∙ c.mine;
+    }
+
+cut : (by : ℕ) (own rest log : List CoreEntry) → (own ++ rest) ≡ of_caller by log → Cut by own log
+cut by [] rest log is = record { first = []; rest = log; whole = refl; mine = refl }
+cut by (x ∷ own) rest [] is = absurd (no-more x (own ++ rest) is)
+cut by (x ∷ own) rest (e ∷ log) is =
+    with-entry (eqb e.caller by) by x own rest e log refl is (cut by own rest log) (cut by (x ∷ own) rest log)
+
+module _ {S : Type 0} (fits : Opening → ℕ → ShardCall → Type 0) (stands : Opening → ℕ → ℕ → S → ShardView → Type 0)
+    (says : CoreJob → ShardAnswer → JobOutcome → Type 0) (o : Opening) where
+  abbrev event : List CoreEvent → CoreEntry → CoreEvent → Type 0
+  event es e x = IsEntryEvent fits stands says o es e x
+
+  record EventsBetween (first rest : List CoreEntry) (start es : List CoreEvent) : Type 0 where
+    moment : List CoreEvent
+    before : AreEventsAfter event start first moment
+    behind : AreEventsAfter event moment rest es
+
+  between : (first rest : List CoreEntry) (start es : List CoreEvent) → AreEventsAfter event start (first ++ rest) es
+      → EventsBetween first rest start es
+  between [] rest start es are = record { moment = start; before = refl; behind = are }
+  between (e ∷ first) rest start es are =
+      let more = between first rest (are.0 ∷ start) es are.2 in
+      record { moment = more.moment; before = (are.0, are.1, more.before); behind = more.behind }
+
+module _ {S : Type 0} (fits : Opening → ℕ → ShardCall → Type 0) (stands : Opening → ℕ → ℕ → S → ShardView → Type 0)
+    (says : CoreJob → ShardAnswer → JobOutcome → Type 0) (can_shard : S → ShardCall → Type 0)
+    (step_shard : S → ShardCall → ShardAnswer → S → Type 0) (link : IsShardLinked can_shard step_shard fits stands says) where
+  pub passes : (cells : List (CoreCell S)) (o : Opening) (caller : ℕ) (own log : List CoreEntry) (run : List CoreEvent)
+      → IsLaterRun fits stands says cells o caller own log run
+      → (es : List CoreEvent) × IsMomentAfter fits stands says cells o caller own log run es
+  passes cells o caller own log run later =
+      let c = cut caller own later.begins.0 log later.begins.1 in
+      let opens : OpensCells fits stands says o cells c.first =
+      (linked-cells can_shard step_shard fits stands says link).earlier o cells c.first c.rest
+      (subst (λ (l : List CoreEntry). OpensCells fits stands says o cells l) c.whole later.opens)
+      in
+      let b =
+      between fits stands says o c.first c.rest [] run
+      (subst (λ (l : List CoreEntry). AreEventsOf (IsEntryEvent fits stands says o) l run) c.whole later.events)
+      in (
+        b.moment,
+        record {
+          earlier = c.first;
+          rest = c.rest;
+          whole = c.whole;
+          mine = c.mine;
+          run_then = record {
+            opens = opens;
+            begins = ([], append-nil own ∙ sym c.mine);
+            events = b.before;
+            is_run = earlier-run fits stands says o c.rest b.moment run b.behind later.is_run;
+          };
+          goes_on = b.behind;
+        },
+      )

@@ -1,0 +1,31 @@
+use Rattle.std.proofs.Common.{List, subst}
+use Rattle.turn_board.specs.History.{event}
+use Rattle.core_callers.specs.AnswersOfCalls.{HaveAnswers}
+use Rattle.core_cells.specs.declared.names.NamesCall.TheVariants as names
+use Rattle.core_program.specs.CoreFits.{CoreEntry}
+use Rattle.cube_core.specs.declared.cell.CoreCall.TheVariants as call
+use Rattle.copied_names.proofs.asking.ask_for_copy.Goals as goal
+
+pub call-requires-clause-there : goal.call-requires-clause-there
+call-requires-clause-there g c =
+    (c.clients_fit_by_what_they_know.ensures.names (g.P.CellCaller.opening c.args.caller.now) (g.P.CellCaller.number c.args.caller.now) c.args.client
+    (g.P.CellCaller.own c.args.caller.now) (names.CopyFrom c.args.cube c.args.dim 0) c.requires.client c.requires.may).there
+
+pub call-requires-clause-fits : goal.call-requires-clause-fits
+call-requires-clause-fits g c =
+    c.clients_fit_by_what_they_know.ensures.names (g.P.CellCaller.opening c.args.caller.now) (g.P.CellCaller.number c.args.caller.now) c.args.client
+    (g.P.CellCaller.own c.args.caller.now) (names.CopyFrom c.args.cube c.args.dim 0) c.requires.client c.requires.may
+
+pub copy_in-requires : goal.copy_in-requires
+copy_in-requires g c =
+    let all =
+    c.answers_fit_their_calls.ensures.all (g.P.CellCaller.opening c.call.new.self) (g.P.CellCaller.number c.call.new.self)
+    (g.P.CellCaller.own c.call.new.self) c.call.ensures.history
+    in (
+      c.args.cube,
+      c.args.dim,
+      0,
+      c.answers_fit_their_calls.ensures.last (g.P.CellCaller.own c.args.caller.now)
+          (event (g.P.CellCaller.number c.args.caller.now) 1 (call.Names (names.CopyFrom c.args.cube c.args.dim 0)) c.call.result)
+          (subst (λ (own : List CoreEntry). HaveAnswers own) c.call.ensures.own all),
+    )

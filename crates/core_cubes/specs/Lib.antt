@@ -1,0 +1,4 @@
+pub mod StatementCalls
+pub mod MadeAndFound
+pub mod ExecutedWatched
+pub mod StandingCubes

@@ -1,0 +1,5 @@
+pub mod KnownNumbers
+pub mod AskedNames
+pub mod NamesInTheEnd
+pub mod CoreEncoders
+pub mod StaysAsWhoAsks

@@ -1,0 +1,37 @@
+use Rattle.std.proofs.Common.{◌≡◌, ◌+◌, [], ◌∷◌, Some, refl, arith}
+use Rattle.core_states.proofs.Refused.{either-plain, if-refused, refuses-by-mode}
+use Rattle.core_states.specs.ExecutedInCore.{ExecutesInCore}
+use Rattle.cube_journal.specs.Refusals.{code}
+use Rattle.cube_journal.specs.declared.journal_entry.JournalEntry.TheVariants as entry
+use Rattle.cube_journal.specs.declared.reply.Reply.{Reply}
+use Rattle.cube_language.specs.declared.statement.Statement.{Statement}
+use Rattle.cube_run.specs.RunRecords.{Says}
+use Rattle.cube_run.specs.StepOutcomes.{refused_by_mode}
+use Rattle.session_replies.specs.Modes.{mode_of}
+use Rattle.core_states.proofs.Refused.{counted}
+use Rattle.core_states.proofs.refusals.refuse_by_mode.Goals as goal
+
+pub returns-clause-executed : goal.returns-clause-executed
+returns-clause-executed g c =
+    let session = c.args.session.now in
+    let own = (g.P.CellCaller.own c.args.caller.now) in
+    let now = g.P.CellCaller.own c.refuse_plainly.new.caller in
+    if-refused g.S.LinkedShard.fits g.S.LinkedShard.stands g.S.LinkedShard.says (g.P.CellCaller.opening c.args.caller.now) (g.P.CellCaller.number c.args.caller.now) session own now
+    c.refuse_plainly.result (c.args.refusal)
+    (λ (said : Reply). (s : Statement) → refused_by_mode (mode_of session.mode) s ≡ Some c.args.refusal
+    → ExecutesInCore g.S.LinkedShard.fits g.S.LinkedShard.stands g.S.LinkedShard.says (g.P.CellCaller.opening c.args.caller.now) (g.P.CellCaller.number c.args.caller.now) (Says s)
+    session own (counted session) now said)
+    c.refuse_plainly.ensures.said c.refuse_plainly.ensures.left
+    (λ left s may. refuses-by-mode g.S.LinkedShard.fits g.S.LinkedShard.stands g.S.LinkedShard.says (g.P.CellCaller.opening c.args.caller.now) (g.P.CellCaller.number c.args.caller.now) session own now s c.args.refusal may left)
+
+pub returns-clause-more : goal.returns-clause-more
+returns-clause-more g c =
+    let few = c.requires.counted in
+    record { number = refl; statements = refl; every = refl; counted = omega (arith, few) }
+
+pub returns-clause-plain : goal.returns-clause-plain
+returns-clause-plain g c =
+    either-plain g.S.LinkedShard.fits g.S.LinkedShard.stands g.S.LinkedShard.says (g.P.CellCaller.opening c.args.caller.now) (g.P.CellCaller.number c.args.caller.now)
+    c.args.session.now.number (g.P.CellCaller.own c.args.caller.now) (g.P.CellCaller.own c.refuse_plainly.new.caller)
+    (entry.Refused c.args.session.now.number (c.args.session.now.statements + 1) (code (c.args.refusal)) ∷ [])
+    c.refuse_plainly.result c.refuse_plainly.ensures.left c.refuse_plainly.ensures.stopped

@@ -1,0 +1,33 @@
+use Rattle.std.proofs.Common.{◌+◌, [], ◌∷◌, refl, arith}
+use Rattle.core_states.proofs.Refused.{either-plain, if-refused, refuses-syntax}
+use Rattle.core_states.specs.ExecutedInCore.{ExecutesInCore}
+use Rattle.cube_journal.specs.Refusals.{code}
+use Rattle.cube_journal.specs.declared.journal_entry.JournalEntry.TheVariants as entry
+use Rattle.cube_journal.specs.declared.refusal.Refusal.TheVariants as refusal
+use Rattle.cube_run.specs.RunRecords.{SaysNone}
+use Rattle.core_states.proofs.Refused.{counted}
+use Rattle.core_states.proofs.refusals.refuse_syntax.Goals as goal
+
+pub returns-clause-executed : goal.returns-clause-executed
+returns-clause-executed g c =
+    let session = c.args.session.now in
+    let own = (g.P.CellCaller.own c.args.caller.now) in
+    let now = g.P.CellCaller.own c.refuse_plainly.new.caller in
+    if-refused g.S.LinkedShard.fits g.S.LinkedShard.stands g.S.LinkedShard.says (g.P.CellCaller.opening c.args.caller.now) (g.P.CellCaller.number c.args.caller.now) session own now
+    c.refuse_plainly.result (refusal.Syntax c.args.fault)
+    (ExecutesInCore g.S.LinkedShard.fits g.S.LinkedShard.stands g.S.LinkedShard.says (g.P.CellCaller.opening c.args.caller.now) (g.P.CellCaller.number c.args.caller.now)
+    (SaysNone c.args.fault.at) session own (counted session) now)
+    c.refuse_plainly.ensures.said c.refuse_plainly.ensures.left
+    (λ left. refuses-syntax g.S.LinkedShard.fits g.S.LinkedShard.stands g.S.LinkedShard.says (g.P.CellCaller.opening c.args.caller.now) (g.P.CellCaller.number c.args.caller.now) session own now c.args.fault.at left)
+
+pub returns-clause-more : goal.returns-clause-more
+returns-clause-more g c =
+    let few = c.requires.counted in
+    record { number = refl; statements = refl; every = refl; counted = omega (arith, few) }
+
+pub returns-clause-plain : goal.returns-clause-plain
+returns-clause-plain g c =
+    either-plain g.S.LinkedShard.fits g.S.LinkedShard.stands g.S.LinkedShard.says (g.P.CellCaller.opening c.args.caller.now) (g.P.CellCaller.number c.args.caller.now)
+    c.args.session.now.number (g.P.CellCaller.own c.args.caller.now) (g.P.CellCaller.own c.refuse_plainly.new.caller)
+    (entry.Refused c.args.session.now.number (c.args.session.now.statements + 1) (code (refusal.Syntax c.args.fault)) ∷ [])
+    c.refuse_plainly.result c.refuse_plainly.ensures.left c.refuse_plainly.ensures.stopped

@@ -1,0 +1,3 @@
+pub mod StandingInCore
+pub mod LeftBehind
+pub mod ExecutedInCore

@@ -1,0 +1,2 @@
+pub mod FlushNotes
+pub mod RoundsAfter

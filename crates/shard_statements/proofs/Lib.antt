@@ -1,0 +1,3 @@
+pub mod GroupsLeave
+pub mod TakenBack
+pub mod Executing
