@@ -1,0 +1,2 @@
+pub mod ShardedRows
+pub mod LearnedPosts

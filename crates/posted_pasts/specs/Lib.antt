@@ -1,0 +1,3 @@
+pub mod PostsBehind
+pub mod PostsAdded
+pub mod DoneChanges
