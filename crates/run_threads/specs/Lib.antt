@@ -1,0 +1,2 @@
+pub mod CoreWorks
+pub mod CoreRuns
