@@ -1,0 +1,4 @@
+pub mod FoundTotals
+pub mod OnCore
+pub mod RangeEnds
+pub mod ToldNames

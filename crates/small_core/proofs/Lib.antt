@@ -1,0 +1,2 @@
+pub mod NewFlusher
+pub mod NewHands
