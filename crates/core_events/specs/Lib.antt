@@ -7,3 +7,5 @@ pub mod Cells
 pub mod Fitting
 pub mod Runs
 pub mod Serial
+pub mod BrickTransactions
+pub mod Histories

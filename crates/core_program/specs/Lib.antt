@@ -1,2 +1,6 @@
 pub mod CoreFits
 pub mod LinkedCells
+pub mod Workers
+pub mod AnswersOfCalls
+pub mod Knowing
+pub mod Flushing

@@ -11,9 +11,9 @@ use Rattle.core_events.specs.Clients.{Holding, ClientState, client_state, client
 use Rattle.core_events.specs.Cells.{WorkerState, worker_of, queue_of, reply_for}
 use Rattle.core_events.specs.Fitting.{FitsCall, IsNumberOf, MayScan, BeginsGroup, JoinsGroup, FitsWork, round_progress}
 use Rattle.core_events.specs.Runs.{IsCoreRun}
-use Rattle.core_parts.specs.Histories.{DoneJob, job_done}
-use Rattle.core_parts.proofs.Places.{JobPlace, Nowhere, Asked, Answered, is_out, place, place_after_post, place_after_fetch, place_after_call, place_where, place_with_done, place_after_move}
-use Rattle.core_parts.proofs.Posted.{run-posted, ended-empty, ends-empty, empty-has-none, none-out, done-asked}
+use Rattle.core_events.specs.Histories.{DoneJob, job_done}
+use Rattle.core_events.proofs.Places.{JobPlace, Nowhere, Asked, Answered, is_out, place, place_after_post, place_after_fetch, place_after_call, place_where, place_with_done, place_after_move}
+use Rattle.core_events.proofs.Posted.{run-posted, ended-empty, ends-empty, empty-has-none, none-out, done-asked}
 use Rattle.core_serial.proofs.Isolation.{holds-stay}
 
 -- A job is of a group that has no answer of its mail.

@@ -17,11 +17,11 @@ use Rattle.core_events.specs.Fitting.{FitsCall, OwnsWriter}
 use Rattle.core_events.specs.Runs.{IsCoreRun}
 use Rattle.core_events.specs.Serial.{commits, has_committed, has_aborted, counts_for}
 use Rattle.core_serial.specs.Told.{told_of, told_after_move, rolled_back}
-use Rattle.core_parts.proofs.Agreement.{agree, opening-of}
-use Rattle.core_parts.proofs.Finished.{run-finished, or-is}
-use Rattle.core_parts.proofs.DeskSteps.{client_entry}
-use Rattle.core_parts.proofs.Places.{place}
-use Rattle.core_parts.proofs.Posted.{run-posted, ready-empty, empty-has-none, none-out}
+use Rattle.core_events.proofs.Agreement.{agree, opening-of}
+use Rattle.core_events.proofs.Finished.{run-finished, or-is}
+use Rattle.core_events.proofs.DeskSteps.{client_entry}
+use Rattle.core_events.proofs.Places.{place}
+use Rattle.core_events.proofs.Posted.{run-posted, ready-empty, empty-has-none, none-out}
 use Rattle.core_serial.proofs.Isolation.{JobFits, job-fits, shown-within, asked-fits, made-asked}
 use Rattle.core_serial.proofs.ToldBricks.{writer-of, run-rolled, is_rolling}
 use Rattle.std.specs.List.{count_by}
@@ -32,10 +32,10 @@ use Rattle.aosi_desk.specs.declared.cube.CubeAnswer.TheVariants.{Created, Exists
 use Rattle.aosi_desk.specs.declared.cube.CubeFound.TheVariants as cube_found
 use Rattle.aosi_desk.specs.declared.cube.CubeFound.TheVariants.{Unknown}
 use Rattle.core_events.specs.Runs.{rows_in_span}
-use Rattle.core_parts.specs.BrickTransactions.{entries_of_epoch, rows_after_entries, brick_rows_left}
-use Rattle.core_parts.proofs.Blindness.{run-blind}
-use Rattle.core_parts.proofs.DeskSteps.{HoldChange, Opens, Ends, Keeps, change_by, held_after, client-held}
-use Rattle.core_parts.proofs.Finished.{with-one-is, without-one-is}
+use Rattle.core_events.specs.BrickTransactions.{entries_of_epoch, rows_after_entries, brick_rows_left}
+use Rattle.core_events.proofs.Blindness.{run-blind}
+use Rattle.core_events.proofs.DeskSteps.{HoldChange, Opens, Ends, Keeps, change_by, held_after, client-held}
+use Rattle.core_events.proofs.Finished.{with-one-is, without-one-is}
 use Rattle.core_serial.specs.Queries.{HasAnswered, rows_fetched}
 use Rattle.core_serial.proofs.Asking.{AsksBy, run-held}
 use Rattle.core_serial.proofs.SerialQueries.{answered-serial}

@@ -13,7 +13,7 @@ use Rattle.core_events.specs.Events.{Opening}
 use Rattle.core_events.specs.Cells.{sizes_of_cube, rows_of_brick, box_has_brick}
 use Rattle.core_events.specs.Fitting.{CutsNoBrick}
 use Rattle.core_events.specs.Serial.{CubeOperation, PutRows, DropRows, rows_after_transaction, rows_left_below}
-use Rattle.core_parts.specs.BrickTransactions.{entries_of_epoch, rows_after_entries, brick_rows_left}
+use Rattle.core_events.specs.BrickTransactions.{entries_of_epoch, rows_after_entries, brick_rows_left}
 
 -- Rows that have coordinates of the cube.
 abbrev pub AreOfCube : Opening → ℕ → List CodedRow → Type 0

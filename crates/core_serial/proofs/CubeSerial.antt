@@ -22,9 +22,9 @@ use Rattle.core_events.specs.Cells.{sizes_of_cube, shard_view_of, rows_of_brick}
 use Rattle.core_events.specs.Fitting.{OwnsWriter}
 use Rattle.core_events.specs.Runs.{IsCoreRun, rows_in_span}
 use Rattle.core_events.specs.Serial.{counts_for, has_committed, operations_of}
-use Rattle.core_parts.proofs.Counts.{count-filter}
-use Rattle.core_parts.specs.BrickTransactions.{entries_of_epoch, brick_rows_left}
-use Rattle.core_parts.proofs.Finished.{or-is}
+use Rattle.core_events.proofs.Counts.{count-filter}
+use Rattle.core_events.specs.BrickTransactions.{entries_of_epoch, brick_rows_left}
+use Rattle.core_events.proofs.Finished.{or-is}
 use Rattle.core_serial.specs.Queries.{HasAnswered, rows_fetched, rows_asked}
 use Rattle.core_serial.specs.Told.{rolled_back, told_of}
 use Rattle.core_serial.proofs.Asking.{AsksBy, run-held}

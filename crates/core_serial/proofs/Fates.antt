@@ -17,12 +17,12 @@ use Rattle.core_events.specs.Cells.{counters_of_run, shard_view_of, rows_of_bric
 use Rattle.core_events.specs.Fitting.{FitsCall, OwnsWriter, FitsWork, FitsReply, RoundProgress, round_progress}
 use Rattle.core_events.specs.Runs.{IsCoreRun, CallSays, MoveSays, ShardSays}
 use Rattle.core_events.specs.Serial.{commits, has_committed, aborts, has_aborted}
-use Rattle.core_parts.specs.Histories.{DoneJob, job_done}
+use Rattle.core_events.specs.Histories.{DoneJob, job_done}
 use Rattle.core_serial.specs.Told.{told_of, told_after_job, told_after_move, rolled_back, rolled_after_move, rolled_after_job}
-use Rattle.core_parts.proofs.Finished.{run-finished, has-more, has-without, or-is, done_after, gone_after, done_with, gone_with, done-same, gone-same}
-use Rattle.core_parts.proofs.DeskSteps.{client_entry, state_with_entry, run-step}
-use Rattle.core_parts.proofs.Places.{JobPlace, Nowhere, Asked, Answered, is_out, place, place_after_post, place_after_fetch, place_after_call, place_where, place_with_done, place_after_move}
-use Rattle.core_parts.proofs.Posted.{run-posted}
+use Rattle.core_events.proofs.Finished.{run-finished, has-more, has-without, or-is, done_after, gone_after, done_with, gone_with, done-same, gone-same}
+use Rattle.core_events.proofs.DeskSteps.{client_entry, state_with_entry, run-step}
+use Rattle.core_events.proofs.Places.{JobPlace, Nowhere, Asked, Answered, is_out, place, place_after_post, place_after_fetch, place_after_call, place_where, place_with_done, place_after_move}
+use Rattle.core_events.proofs.Posted.{run-posted}
 use Rattle.core_serial.proofs.Isolation.{JobFits, job-fits, job-stays, own-holds, holds-stay, lse-rises, shown-within, asked-fits, made-asked}
 use Rattle.core_serial.proofs.Asking.{SuitsAt, run-suits, own-fits, moved-asked}
 use Rattle.core_serial.proofs.FoundRows.{all-below}

@@ -17,13 +17,13 @@ use Rattle.core_events.specs.Clients.{client_state, client_after_call, ends_grou
 use Rattle.core_events.specs.Cells.{counters_of_run, shard_view_of, rows_of_brick, brick_after_move, sizes_of_cube, WorkerState, Free, Took, Worked, worker_of}
 use Rattle.core_events.specs.Fitting.{OwnsWriter, FitsWork, FitsReply, RoundProgress, round_progress}
 use Rattle.core_events.specs.Runs.{IsCoreRun, CallSays, MoveSays, ShardSays, AreByBrick, rows_in_span}
-use Rattle.core_parts.specs.Histories.{DoneJob, job_done}
+use Rattle.core_events.specs.Histories.{DoneJob, job_done}
 use Rattle.core_serial.specs.Isolation.{IsOfOther}
 use Rattle.core_serial.specs.Queries.{rows_of_answer, rows_fetched, rows_asked, HasAnswered}
-use Rattle.core_parts.proofs.Agreement.{agree, opening-of, one-session}
-use Rattle.core_parts.proofs.Finished.{held-writer, run-finished}
-use Rattle.core_parts.proofs.Places.{JobPlace, Nowhere, Asked, Answered, place, place_after_post, place_after_fetch, place_after_call, place_where, place_with_done, place_after_move}
-use Rattle.core_parts.proofs.Posted.{run-posted}
+use Rattle.core_events.proofs.Agreement.{agree, opening-of, one-session}
+use Rattle.core_events.proofs.Finished.{held-writer, run-finished}
+use Rattle.core_events.proofs.Places.{JobPlace, Nowhere, Asked, Answered, place, place_after_post, place_after_fetch, place_after_call, place_where, place_with_done, place_after_move}
+use Rattle.core_events.proofs.Posted.{run-posted}
 use Rattle.core_serial.proofs.Isolation.{JobFits, asked-fits, made-asked, isolated}
 use Rattle.core_serial.proofs.Asking.{SuitsAt, AsksBy, is_asking, run-suits, run-held}
 

@@ -19,16 +19,16 @@ use Rattle.core_events.specs.Clients.{Holding, ClientState, client_state, client
 use Rattle.core_events.specs.Cells.{counters_of_run, shard_view_of, brick_after_job, brick_after_move, rows_of_brick, box_has_brick, WorkerState, Free, Took, Worked, worker_of, queue_of, reply_for}
 use Rattle.core_events.specs.Fitting.{FitsCall, OwnsWriter, FitsMove, FitsWork, round_progress}
 use Rattle.core_events.specs.Runs.{IsCoreRun, CallSays}
-use Rattle.core_parts.specs.Histories.{DoneJob, job_done}
+use Rattle.core_events.specs.Histories.{DoneJob, job_done}
 use Rattle.core_serial.specs.Isolation.{IsOfOther}
-use Rattle.core_parts.proofs.DeskSteps.{client_entry, state_with_entry, run-step}
-use Rattle.core_parts.proofs.Agreement.{agree}
-use Rattle.core_parts.proofs.InOrder.{StateAllows, AllowsEntry, run-allowed, run-order}
-use Rattle.core_parts.proofs.Finished.{held-writer, run-finished}
-use Rattle.core_parts.proofs.Blindness.{run-blind, sees-safe}
-use Rattle.core_parts.proofs.BrickRows.{append-unseen, mark-unseen, rollback-unseen, purge-unseen}
-use Rattle.core_parts.proofs.Places.{JobPlace, Nowhere, Asked, Answered, is_out, place, place_after_post, place_after_fetch, place_after_call, place_where, place_with_done, place_after_move, IsBusy, nowhere-asked, asked-answered}
-use Rattle.core_parts.proofs.Posted.{run-posted, ends-empty, empty-has-none}
+use Rattle.core_events.proofs.DeskSteps.{client_entry, state_with_entry, run-step}
+use Rattle.core_events.proofs.Agreement.{agree}
+use Rattle.core_events.proofs.InOrder.{StateAllows, AllowsEntry, run-allowed, run-order}
+use Rattle.core_events.proofs.Finished.{held-writer, run-finished}
+use Rattle.core_events.proofs.Blindness.{run-blind, sees-safe}
+use Rattle.core_events.proofs.BrickRows.{append-unseen, mark-unseen, rollback-unseen, purge-unseen}
+use Rattle.core_events.proofs.Places.{JobPlace, Nowhere, Asked, Answered, is_out, place, place_after_post, place_after_fetch, place_after_call, place_where, place_with_done, place_after_move, IsBusy, nowhere-asked, asked-answered}
+use Rattle.core_events.proofs.Posted.{run-posted, ends-empty, empty-has-none}
 
 -- LSE never falls, and no client was shown a greater one.
 

@@ -10,7 +10,7 @@ use Rattle.core_events.specs.Fitting.{FitsCall}
 use Rattle.core_events.specs.Runs.{IsCoreRun}
 use Rattle.core_events.specs.Serial.{CubeOperation, operations_after, operations_of}
 use Rattle.core_events.proofs.Knowledge.{known-by-calls}
-use Rattle.core_parts.proofs.Finished.{or-is}
+use Rattle.core_events.proofs.Finished.{or-is}
 use Rattle.core_serial.specs.PostedEntries.{opens_writer, has_opened}
 use Rattle.core_serial.proofs.Fates.{HasFate, fates-move}
 use Rattle.core_serial.proofs.OwnPosts.{opens-next, post-other}

@@ -11,12 +11,12 @@ use Rattle.core_events.specs.Clients.{Holding, ClientState, client_state, client
 use Rattle.core_events.specs.Cells.{counters_of_run}
 use Rattle.core_events.specs.Fitting.{FitsCall, OwnsWriter}
 use Rattle.core_events.specs.Runs.{IsCoreRun}
-use Rattle.core_parts.proofs.Finished.{or-is}
-use Rattle.core_parts.proofs.DeskSteps.{client_entry, state_with_entry, run-step}
-use Rattle.core_parts.proofs.Places.{place}
+use Rattle.core_events.proofs.Finished.{or-is}
+use Rattle.core_events.proofs.DeskSteps.{client_entry, state_with_entry, run-step}
+use Rattle.core_events.proofs.Places.{place}
 use Rattle.core_events.specs.Clients.{calls_of, reader_up_to}
-use Rattle.core_parts.specs.BrickTransactions.{entries_of_epoch}
-use Rattle.core_parts.proofs.Lookups.{with_one, without_one, held-under-append, held-under-without}
+use Rattle.core_events.specs.BrickTransactions.{entries_of_epoch}
+use Rattle.core_events.proofs.Lookups.{with_one, without_one, held-under-append, held-under-without}
 use Rattle.core_serial.specs.PostedEntries.{entries_of_job, posted_after_post, posted_after, posted_of, posted_by_calls, opens_writer, has_opened}
 use Rattle.core_serial.proofs.Fates.{HaveFates, fates-call, fates-move, or-left, or-right}
 use Rattle.core_serial.proofs.PostedJobs.{epoch-append, IsOtherEpoch, none-fresh}

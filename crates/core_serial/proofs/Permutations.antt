@@ -12,7 +12,7 @@ use Rattle.std.proofs.lemmas.List.Elements.{filter-append}
 use Rattle.std.proofs.lemmas.List.Sorted.{IsPermutation-refl, IsPermutation-cons, IsPermutation-sym, IsPermutation-trans, IsPermutation-middle, sum_by-IsPermutation}
 use Rattle.std.proofs.lemmas.Slice.Eq.{bytes_eq-Decides, slice_eq-Decides}
 use Rattle.cube_values.specs.declared.row.CodedRow.{CodedRow}
-use Rattle.core_parts.proofs.Counts.{count-append, count-cons, count-filter, in-order}
+use Rattle.core_events.proofs.Counts.{count-append, count-cons, count-filter, in-order}
 
 abbrev same_row : CodedRow → CodedRow → Bool
 same_row a b = bytes_eq a.coords b.coords && pointwise int_eq a.metrics b.metrics

@@ -11,11 +11,11 @@ use Rattle.core_events.specs.Cells.{counters_of_run, rows_of_brick, box_has_bric
 use Rattle.core_events.specs.Fitting.{OwnsWriter, BeginsGroup, JoinsGroup}
 use Rattle.core_events.specs.Runs.{IsCoreRun}
 use Rattle.core_serial.specs.Told.{told_after_job}
-use Rattle.core_parts.proofs.Finished.{run-finished}
-use Rattle.core_parts.proofs.Places.{JobPlace, Nowhere, Asked, Answered}
+use Rattle.core_events.proofs.Finished.{run-finished}
+use Rattle.core_events.proofs.Places.{JobPlace, Nowhere, Asked, Answered}
 use Rattle.core_serial.proofs.Isolation.{JobFits}
 use Rattle.core_serial.proofs.ToldBricks.{HasWriter, writer-of, one-writer, rolling-unready, is_rolling}
-use Rattle.core_parts.specs.BrickTransactions.{entries_of_epoch}
+use Rattle.core_events.specs.BrickTransactions.{entries_of_epoch}
 use Rattle.core_serial.specs.PostedEntries.{entries_of_job}
 use Rattle.core_serial.proofs.Fates.{HasFate, HaveFates}
 

@@ -17,13 +17,13 @@ use Rattle.core_events.specs.Cells.{counters_of_run, sizes_of_cube, rows_of_bric
 use Rattle.core_events.specs.Fitting.{FitsCall, OwnsWriter, MayPutRow, CutsNoBrick, BeginsGroup, JoinsGroup}
 use Rattle.core_events.specs.Runs.{IsCoreRun}
 use Rattle.core_events.specs.Serial.{CubeOperation, PutRows, DropRows, operations_with, operations_of, commits, has_committed}
-use Rattle.core_parts.proofs.Agreement.{opening-of}
-use Rattle.core_parts.proofs.Finished.{run-finished, or-is, has-without}
-use Rattle.core_parts.proofs.InOrder.{run-allowed}
+use Rattle.core_events.proofs.Agreement.{opening-of}
+use Rattle.core_events.proofs.Finished.{run-finished, or-is, has-without}
+use Rattle.core_events.proofs.InOrder.{run-allowed}
 use Rattle.core_serial.proofs.FoundRows.{all-below}
 use Rattle.core_serial.proofs.Isolation.{job-fits, holds-stay, shown-within}
 use Rattle.core_serial.proofs.ToldBricks.{writer-of, own-back, own-rolls, is_rolling}
-use Rattle.core_parts.specs.BrickTransactions.{entries_of_epoch}
+use Rattle.core_events.specs.BrickTransactions.{entries_of_epoch}
 use Rattle.core_serial.specs.PostedEntries.{entries_of_job, posted_after_post, posted_after, posted_of}
 use Rattle.core_serial.proofs.Fates.{HasFate, fates-call, fates-move, commit-of}
 use Rattle.core_serial.proofs.PostedJobs.{epoch-append, IsOtherEpoch, IsClean, ready-clean, post-clean, spoiled-less, none-fresh, fate-below, other-epoch}

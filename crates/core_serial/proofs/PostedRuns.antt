@@ -10,16 +10,16 @@ use Rattle.core_events.specs.Clients.{ClientState, client_state, client_after_ca
 use Rattle.core_events.specs.Cells.{counters_of_run, shard_view_of, rows_of_brick, box_has_brick, WorkerState, Free, Took, Worked, worker_of, queue_of, reply_for}
 use Rattle.core_events.specs.Fitting.{FitsCall, OwnsWriter, FitsWork, FitsReply, RoundProgress, round_progress}
 use Rattle.core_events.specs.Runs.{IsCoreRun, MoveSays, ShardSays}
-use Rattle.core_parts.specs.Histories.{DoneJob, job_done}
+use Rattle.core_events.specs.Histories.{DoneJob, job_done}
 use Rattle.core_serial.specs.Told.{told_of, told_after_move}
-use Rattle.core_parts.proofs.Places.{JobPlace, Nowhere, Asked, Answered, is_out, place, place_after_post, place_after_fetch, place_after_call, place_where, place_after_move, IsBusy}
-use Rattle.core_parts.proofs.Posted.{run-posted, ends-empty, empty-has-none, none-out}
+use Rattle.core_events.proofs.Places.{JobPlace, Nowhere, Asked, Answered, is_out, place, place_after_post, place_after_fetch, place_after_call, place_where, place_after_move, IsBusy}
+use Rattle.core_events.proofs.Posted.{run-posted, ends-empty, empty-has-none, none-out}
 use Rattle.core_serial.proofs.Isolation.{job-fits, holds-stay, shown-within, asked-fits}
 use Rattle.core_serial.proofs.Asking.{SuitsAt, run-suits, moved-asked}
 use Rattle.core_serial.proofs.ToldBricks.{writer-of, is_rolling}
-use Rattle.core_parts.specs.BrickTransactions.{entries_of_epoch}
-use Rattle.core_parts.proofs.Posted.{not-out}
-use Rattle.core_parts.proofs.InOrder.{run-allowed}
+use Rattle.core_events.specs.BrickTransactions.{entries_of_epoch}
+use Rattle.core_events.proofs.Posted.{not-out}
+use Rattle.core_events.proofs.InOrder.{run-allowed}
 use Rattle.core_serial.proofs.ToldBricks.{own-back, own-rolls}
 use Rattle.core_serial.specs.PostedEntries.{entries_of_job, posted_after_post, posted_after, posted_of}
 use Rattle.core_serial.proofs.Fates.{HaveFates, run-fates, fates-call}

@@ -10,8 +10,8 @@ use Rattle.core_events.specs.Cells.{counters_of_run, shard_view_of, rows_of_bric
 use Rattle.core_events.specs.Fitting.{OwnsWriter}
 use Rattle.core_events.specs.Runs.{IsCoreRun}
 use Rattle.std.specs.Prelude.{List}
-use Rattle.core_parts.proofs.Agreement.{agree}
-use Rattle.core_parts.proofs.Posted.{ready-empty}
+use Rattle.core_events.proofs.Agreement.{agree}
+use Rattle.core_events.proofs.Posted.{ready-empty}
 use Rattle.core_serial.proofs.Asking.{AsksBy}
 use Rattle.core_serial.proofs.ToldBricks.{seen-of-told}
 use Rattle.core_serial.proofs.CountedRows.{held-settled, asks-writer, and-parts}

@@ -12,10 +12,10 @@ use Rattle.core_events.specs.Events.{Opening, CoreEvent}
 use Rattle.core_events.specs.Clients.{client_state}
 use Rattle.core_events.specs.Cells.{counters_of_run, rows_of_brick}
 use Rattle.core_events.specs.Runs.{IsCoreRun, rows_in_span}
-use Rattle.core_parts.specs.BrickTransactions.{brick_rows_left}
-use Rattle.core_parts.proofs.Counts.{count-filter}
-use Rattle.core_parts.proofs.SerialRows.{epochs_below, serial-counts, sees-below}
-use Rattle.core_parts.proofs.Agreement.{agree}
+use Rattle.core_events.specs.BrickTransactions.{brick_rows_left}
+use Rattle.core_events.proofs.Counts.{count-filter}
+use Rattle.core_events.proofs.SerialRows.{epochs_below, serial-counts, sees-below}
+use Rattle.core_events.proofs.Agreement.{agree}
 use Rattle.core_serial.specs.Queries.{HasAnswered, rows_fetched}
 use Rattle.core_serial.specs.Told.{rolled_back, told_of}
 use Rattle.core_serial.proofs.Asking.{run-held}

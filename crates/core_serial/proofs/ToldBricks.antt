@@ -20,16 +20,16 @@ use Rattle.core_events.specs.Cells.{counters_of_run, shard_view_of, rows_of_bric
 use Rattle.core_events.specs.Fitting.{FitsCall, OwnsWriter}
 use Rattle.core_events.specs.Runs.{IsCoreRun}
 use Rattle.core_serial.specs.Told.{told_of, told_after_job, told_after_move, rolled_back, rolled_after_job, rolled_after_move}
-use Rattle.core_parts.proofs.Agreement.{agree}
-use Rattle.core_parts.proofs.InOrder.{AllowsEntry, StateAllows, run-allowed, run-order}
-use Rattle.core_parts.proofs.Lookups.{with_one, without_one, held-under-without}
-use Rattle.core_parts.proofs.DeskSteps.{client_entry, state_with_entry, run-step, HoldChange, Opens, Ends, Keeps, change_by, change_by_entry, held_after, client-held}
-use Rattle.core_parts.proofs.Finished.{Held, held-writer, run-finished}
-use Rattle.core_parts.proofs.Blindness.{run-blind, least-pending, sees-safe}
-use Rattle.core_parts.proofs.Places.{Asked, place}
+use Rattle.core_events.proofs.Agreement.{agree}
+use Rattle.core_events.proofs.InOrder.{AllowsEntry, StateAllows, run-allowed, run-order}
+use Rattle.core_events.proofs.Lookups.{with_one, without_one, held-under-without}
+use Rattle.core_events.proofs.DeskSteps.{client_entry, state_with_entry, run-step, HoldChange, Opens, Ends, Keeps, change_by, change_by_entry, held_after, client-held}
+use Rattle.core_events.proofs.Finished.{Held, held-writer, run-finished}
+use Rattle.core_events.proofs.Blindness.{run-blind, least-pending, sees-safe}
+use Rattle.core_events.proofs.Places.{Asked, place}
 use Rattle.core_serial.proofs.Isolation.{JobFits, asked-fits, made-asked, lse-rises}
 use Rattle.core_serial.proofs.Asking.{SuitsAt, run-suits, own-fits}
-use Rattle.core_parts.proofs.KeptBricks.{KeepsTold, keeps-append, keeps-mark, keeps-rollback, keeps-purge, keeps-rise, keeps-same}
+use Rattle.core_events.proofs.KeptBricks.{KeepsTold, keeps-append, keeps-mark, keeps-rollback, keeps-purge, keeps-rise, keeps-same}
 
 -- The writer of a job that is asked: its epoch is pending, and its session the only one.
 pub record HasWriter (o : Opening) (es : List CoreEvent) (a epoch : ℕ) : Type 0 where

@@ -5,3 +5,6 @@ pub mod PostedEntries
 pub mod CubeRows
 pub mod HeldSnapshots
 pub mod OwnOperations
+pub mod Deltas
+pub mod Copies
+pub mod Journals

@@ -1,11 +1,17 @@
-//! Snapshot isolation and serial execution, of bricks, of transactions and of whole cubes, over any
-//! list of events of the core in which each call fits.
+//! What the core does is what its transactions do one after the other: queries, copies of a round,
+//! deltas and the journal.
 #![tactic(auto)]
 
+mod copies;
+mod deltas;
+mod journal;
 mod serial;
 mod snapshots;
 mod transactions;
 
+pub use copies::rounds_keep_committed_transactions;
+pub use deltas::deltas_are_between_readers;
+pub use journal::{journals_are_legal, notes_and_ends_meet_their_conditions};
 pub use serial::{
     answers_are_plain_folds, queries_run_serially, snapshots_see_serial_runs,
     transactions_are_what_their_sessions_posted,

@@ -7,7 +7,7 @@ ghost use Rattle.cube_values.specs.declared.row.CodedRow.{CodedRow};
 ghost use Rattle.cube_values.specs.declared.snapshot.Snapshot.{Snapshot};
 ghost use Rattle.cube_values.specs.Sees.{sees};
 ghost use Rattle.cube_journal.specs.Counters.{held_by};
-ghost use Rattle.core_parts.specs.BrickTransactions.{brick_rows_left};
+ghost use Rattle.core_events.specs.BrickTransactions.{brick_rows_left};
 ghost use Rattle.core_events.specs.Cells.{counters_of_run, rows_of_brick, shard_view_of};
 ghost use Rattle.core_events.specs.Clients.{client_state};
 ghost use Rattle.core_events.specs.Events.{Opening, CoreEvent, At, Work};

@@ -5,7 +5,7 @@ ghost use Rattle.std.specs.List.{count_by};
 ghost use Rattle.cube_values.specs.declared.query.BoundQuery.{BoundQuery};
 ghost use Rattle.cube_values.specs.declared.row.CodedRow.{CodedRow};
 ghost use Rattle.cube_values.specs.declared.snapshot.Snapshot.{Snapshot};
-ghost use Rattle.core_parts.specs.BrickTransactions.{brick_rows_left, entries_of_epoch};
+ghost use Rattle.core_events.specs.BrickTransactions.{brick_rows_left, entries_of_epoch};
 ghost use Rattle.core_events.specs.Cells.{rows_of_brick};
 ghost use Rattle.core_events.specs.Clients.{calls_of, client_state};
 ghost use Rattle.core_events.specs.Events.{Opening, CoreEvent};

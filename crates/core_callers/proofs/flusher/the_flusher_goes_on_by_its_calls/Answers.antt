@@ -1,5 +1,0 @@
-use Rattle.core_callers.proofs.FlusherCalls.{more-calls}
-use Rattle.core_callers.proofs.flusher.the_flusher_goes_on_by_its_calls.Goals as goal
-
-pub returns : goal.returns
-returns c = more-calls

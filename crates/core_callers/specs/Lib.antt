@@ -1,4 +1,0 @@
-pub mod Workers
-pub mod AnswersOfCalls
-pub mod Knowing
-pub mod Flushing

@@ -1,5 +1,0 @@
-use Rattle.core_outputs.proofs.FetchedDeltas.{deltas-differ}
-use Rattle.core_outputs.proofs.deltas.deltas_are_between_readers.Goals as goal
-
-pub returns : goal.returns
-returns c = deltas-differ

@@ -1,3 +1,0 @@
-pub mod Deltas
-pub mod Copies
-pub mod Journals

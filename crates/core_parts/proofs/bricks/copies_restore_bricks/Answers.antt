@@ -1,5 +1,0 @@
-use Rattle.core_parts.proofs.CopyRows.{copies-restore}
-use Rattle.core_parts.proofs.bricks.copies_restore_bricks.Goals as goal
-
-pub returns : goal.returns
-returns c = copies-restore

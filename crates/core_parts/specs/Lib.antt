@@ -1,2 +1,0 @@
-pub mod BrickTransactions
-pub mod Histories
