@@ -4,8 +4,8 @@ use Rattle.mail_cell.specs.declared.answer.Fetched.TheVariants.{Got, NotYet}
 use Rattle.client_calls.specs.ClientCalls.{HasFetched, LearnsByFetch, ask_entry}
 use Rattle.core_board.specs.Links.{AreEventsOf}
 use Rattle.core_board_cells.specs.BoardCells.{IsEntryEvent}
-use Rattle.core_callers.specs.Knowing.{GoOnBy, GoOnByFetch, IsLaterRun, Knows, MayFetchFrom, last_posted}
-use Rattle.core_callers.proofs.KnownCalls.{earlier-run}
+use Rattle.core_program.specs.Knowing.{GoOnBy, GoOnByFetch, IsLaterRun, Knows, MayFetchFrom, last_posted}
+use Rattle.core_program.proofs.KnownCalls.{earlier-run}
 use Rattle.core_events.specs.Clients.{calls_of, state_from_calls}
 use Rattle.core_events.specs.Events.{Opening, Fetch, NoChange, ClientCall, CoreEvent, By}
 use Rattle.core_events.specs.Groups.{has_number}

@@ -13,7 +13,7 @@ use Rattle.core_cells.specs.declared.names.NamesAnswer.{NamesAnswer}
 use Rattle.core_cells.specs.declared.names.NamesCall.{NamesCall}
 use Rattle.core_board.specs.Links.{AreEventsOf}
 use Rattle.core_board_cells.specs.BoardCells.{AnswerSays, IsEntryEvent}
-use Rattle.core_callers.specs.Knowing.{last_posted}
+use Rattle.core_program.specs.Knowing.{last_posted}
 use Rattle.core_events.specs.Clients.{calls_of}
 use Rattle.core_events.specs.Events.{Opening, Fetch, NoChange, CoreEvent, By}
 use Rattle.core_events.specs.Jobs.{CoreJob, JobOutcome}

@@ -1,6 +1,6 @@
 //! What comes back from a client's calls, by the kind of the call.
 ghost use Rattle.std.specs.Prelude.{◌≡◌, ℕ};
-ghost use Rattle.core_callers.specs.AnswersOfCalls.{CoreAnswers, DeskAnswers, MailAnswers, NamesAnswers};
+ghost use Rattle.core_program.specs.AnswersOfCalls.{CoreAnswers, DeskAnswers, MailAnswers, NamesAnswers};
 ghost use Rattle.core_cells.specs.declared.desk.DeskCall.{DeskCall};
 ghost use Rattle.core_cells.specs.declared.mail.MailAnswer.TheVariants as got;
 ghost use Rattle.core_cells.specs.declared.mail.MailCall.TheVariants as mail;

@@ -1,15 +1,14 @@
 //! A call on the desk, and one on the names.
 ghost use Rattle.std.specs.Prelude.{◌≡◌, [], ◌∷◌, ◌++◌};
 ghost use Rattle.client_calls.specs.ClientCalls.{desk_entry, names_entry};
-ghost use Rattle.core_callers.specs.AnswersOfCalls.{DeskAnswers, NamesAnswers};
-ghost use Rattle.core_callers.specs.Knowing.{IsClientOf, Knows, MayCallDesk, MayCallNames};
+ghost use Rattle.core_program.specs.AnswersOfCalls.{DeskAnswers, NamesAnswers};
+ghost use Rattle.core_program.specs.Knowing.{IsClientOf, Knows, MayCallDesk, MayCallNames};
 
 use crate::answers::{desk_answer_in, names_answer_in};
 use board_callers::CellCaller;
 use core_board_cells::LinkedShard;
-use core_callers::{answers_fit_their_calls, clients_fit_by_what_they_know};
 use core_cells::{DeskAnswer, DeskCall, NamesAnswer, NamesCall};
-use core_program::CoreCells;
+use core_program::{CoreCells, answers_fit_their_calls, clients_fit_by_what_they_know};
 use cube_core::CoreCall;
 use std::sync::Wait;
 use turn_board::Board;

@@ -2,7 +2,7 @@
 ghost use Rattle.std.specs.Prelude.{◌≡◌, ◌+◌, ◌≤◌, [], ◌∷◌, ◌++◌};
 ghost use Rattle.board_callers.specs.Callers.{HasHistoryOf};
 ghost use Rattle.client_calls.specs.ClientCalls.{HasFetched, LearnsByFetch, ask_entry, close_entry, post_entry};
-ghost use Rattle.core_callers.specs.Knowing.{IsClientOf, IsMailAt, Knows, MayFetchFrom, MayPostJob, ServesClient};
+ghost use Rattle.core_program.specs.Knowing.{IsClientOf, IsMailAt, Knows, MayFetchFrom, MayPostJob, ServesClient};
 ghost use Rattle.core_program.specs.CoreFits.{FitsOwnCalls};
 ghost use Rattle.cube_core.specs.CoreSteps.{CoreStep};
 ghost use Rattle.turn_board.specs.Passes.{callers_of};
@@ -10,11 +10,11 @@ ghost use Rattle.turn_board.specs.Passes.{callers_of};
 use crate::answers::{expect_closed, expect_posted, fetched_in};
 use board_callers::CellCaller;
 use core_board_cells::LinkedShard;
-use core_callers::{
-    answers_fit_their_calls, clients_fit_by_what_they_know, clients_learn_by_each_call,
-};
 use core_cells::MailCall;
-use core_program::{CoreCells, CoreSize};
+use core_program::{
+    CoreCells, CoreSize, answers_fit_their_calls, clients_fit_by_what_they_know,
+    clients_learn_by_each_call,
+};
 use cube_core::{CoreCall, Job, JobAnswer};
 use mail_cell::Fetched;
 use std::sync::Wait;

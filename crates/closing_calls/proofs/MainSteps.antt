@@ -6,8 +6,8 @@ use Rattle.core_board.specs.Links.{AreEventsOf}
 use Rattle.core_board_cells.specs.BoardCells.{IsEntryEvent}
 use Rattle.core_cells.specs.declared.desk.DeskAnswer.TheVariants as answer
 use Rattle.core_cells.specs.declared.desk.DeskCall.TheVariants as call
-use Rattle.core_callers.proofs.KnownCalls.{close-learns, desk-learns, earlier-run}
-use Rattle.core_callers.specs.Knowing.{GoOnBy, IsClientOf, IsLaterRun, IsMailAt}
+use Rattle.core_program.proofs.KnownCalls.{close-learns, desk-learns, earlier-run}
+use Rattle.core_program.specs.Knowing.{GoOnBy, IsClientOf, IsLaterRun, IsMailAt}
 use Rattle.core_events.specs.Clients.{ClientState, calls_of, state_from_calls}
 use Rattle.core_events.specs.Events.{Opening, CloseMail, CountersNow, OnDesk, ClientCall, CoreEvent}
 use Rattle.core_events.specs.Groups.{is_ready}

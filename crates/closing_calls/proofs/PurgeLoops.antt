@@ -4,8 +4,8 @@ use Rattle.std.proofs.lemmas.List.{length-replicate}
 use Rattle.client_calls.specs.ClientCalls.{HasFetched, LearnsByFetch, post_entry}
 use Rattle.core_board.specs.Links.{AreEventsOf}
 use Rattle.core_board_cells.specs.BoardCells.{IsEntryEvent, job_asked}
-use Rattle.core_callers.proofs.KnownCalls.{post-learns}
-use Rattle.core_callers.specs.Knowing.{IsClientOf, Knows, MayFetchFrom, MayPostJob}
+use Rattle.core_program.proofs.KnownCalls.{post-learns}
+use Rattle.core_program.specs.Knowing.{IsClientOf, Knows, MayFetchFrom, MayPostJob}
 use Rattle.core_events.specs.Events.{Opening, CoreEvent, Post}
 use Rattle.core_program.specs.CoreFits.{CoreEntry, OpensCells}
 use Rattle.cube_core.specs.declared.cell.CoreCell.{CoreCell}

@@ -2,10 +2,10 @@
 ghost use Rattle.std.specs.Prelude.{◌≡◌, [], ◌∷◌, ◌++◌};
 ghost use Rattle.client_calls.specs.ClientCalls.{desk_entry};
 ghost use Rattle.closing_calls.specs.ClosingCalls.{MainStays};
-ghost use Rattle.core_callers.specs.AnswersOfCalls.{DeskAnswers};
+ghost use Rattle.core_program.specs.AnswersOfCalls.{DeskAnswers};
 ghost use Rattle.core_cells.specs.declared.desk.DeskAnswer.TheVariants as answer;
 ghost use Rattle.core_cells.specs.declared.desk.DeskCall.TheVariants as call;
-ghost use Rattle.core_callers.specs.Knowing.{IsClientOf};
+ghost use Rattle.core_program.specs.Knowing.{IsClientOf};
 ghost use Rattle.linked_shards.specs.CellShards.{CoreShardStands};
 ghost use Rattle.session_requests.specs.SessionRequests.{KnowsSafe};
 ghost use Rattle.shard_events.specs.ShardsInRuns.{FitsShard, ShardAnswerSays};

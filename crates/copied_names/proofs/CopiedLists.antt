@@ -9,8 +9,8 @@ use Rattle.std.proofs.lemmas.List.Elements.{All-append, All-cons, All-head, All-
 use Rattle.std.proofs.lemmas.Option.{slice_get-get_or, slice_get-map, slice_get_within}
 use Rattle.client_calls.specs.ClientCalls.{names_entry}
 use Rattle.condition_spans.specs.Codes.{lists_at, texts_at}
-use Rattle.core_callers.proofs.KnownCalls.{earlier-run}
-use Rattle.core_callers.specs.Knowing.{IsLaterRun}
+use Rattle.core_program.proofs.KnownCalls.{earlier-run}
+use Rattle.core_program.specs.Knowing.{IsLaterRun}
 use Rattle.core_cells.specs.declared.names.NamesAnswer.TheVariants as told
 use Rattle.core_cells.specs.declared.names.NamesCall.TheVariants as names
 use Rattle.core_events.specs.Cells.{desk_of, dictionary_of}

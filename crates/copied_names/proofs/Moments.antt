@@ -2,7 +2,7 @@
 use Rattle.std.proofs.Common.{◌≡◌, ◌∙◌, ℕ, eqb, Bool, true, false, cond, List, [], ◌∷◌, ◌++◌, append-nil, refl, sym, ap, subst}
 use Rattle.core_board.specs.Links.{AreEventsAfter, AreEventsOf}
 use Rattle.core_board_cells.specs.BoardCells.{IsEntryEvent, IsShardLinked}
-use Rattle.core_callers.specs.Knowing.{IsLaterRun}
+use Rattle.core_program.specs.Knowing.{IsLaterRun}
 use Rattle.core_events.specs.Events.{Opening, CoreEvent}
 use Rattle.core_events.specs.Jobs.{CoreJob, JobOutcome}
 use Rattle.core_events.specs.ShardView.{ShardView}

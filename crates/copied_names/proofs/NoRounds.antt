@@ -6,7 +6,7 @@ use Rattle.std.proofs.lemmas.Bool.{false≢true}
 use Rattle.core_board.specs.Links.{AreEventsAfter, is_of_rounds}
 use Rattle.core_board_cells.proofs.OwnEntries.{client-high, own-rounds}
 use Rattle.core_board_cells.specs.BoardCells.{IsEntryEvent, server_of}
-use Rattle.core_callers.specs.Knowing.{Knows, MayCallNames}
+use Rattle.core_program.specs.Knowing.{Knows, MayCallNames}
 use Rattle.core_cells.specs.declared.names.NamesAnswer.{NamesAnswer}
 use Rattle.core_cells.specs.declared.names.NamesAnswer.TheVariants as told
 use Rattle.core_cells.specs.declared.names.NamesCall.TheVariants as names

@@ -7,7 +7,7 @@ use Rattle.condition_spans.specs.Codes.{lists_at}
 use Rattle.core_agreements.specs.NamedQueries.{EndAs}
 use Rattle.core_board.specs.Links.{AreEventsAfter}
 use Rattle.core_board_cells.specs.BoardCells.{IsEntryEvent}
-use Rattle.core_callers.specs.Knowing.{IsClientOf, IsLaterRun, IsSessionOf}
+use Rattle.core_program.specs.Knowing.{IsClientOf, IsLaterRun, IsSessionOf}
 use Rattle.core_cells.specs.declared.names.NamesAnswer.{NamesAnswer}
 use Rattle.core_cells.specs.declared.names.NamesAnswer.TheVariants as told
 use Rattle.core_cells.specs.declared.names.NamesCall.TheVariants as names

@@ -3,8 +3,8 @@
 ghost use Rattle.std.specs.Prelude.{◌≡◌, ℕ, [], ◌∷◌, ◌++◌};
 ghost use Rattle.board_callers.specs.Callers.{HasHistoryOf};
 ghost use Rattle.copied_names.specs.CopiedNames.{copied_answer, copy_entry};
-ghost use Rattle.core_callers.specs.AnswersOfCalls.{CoreAnswers, NamesAnswers};
-ghost use Rattle.core_callers.specs.Knowing.{IsClientOf, Knows, MayCallNames};
+ghost use Rattle.core_program.specs.AnswersOfCalls.{CoreAnswers, NamesAnswers};
+ghost use Rattle.core_program.specs.Knowing.{IsClientOf, Knows, MayCallNames};
 ghost use Rattle.core_cells.specs.declared.names.NamesCall.TheVariants as names;
 ghost use Rattle.core_program.specs.CoreFits.{FitsOwnCalls};
 ghost use Rattle.cube_core.specs.CoreSteps.{CoreStep};
@@ -13,9 +13,8 @@ ghost use Rattle.cube_core.specs.declared.cell.CoreCall.TheVariants as call;
 
 use board_callers::CellCaller;
 use core_board_cells::LinkedShard;
-use core_callers::{answers_fit_their_calls, clients_fit_by_what_they_know};
 use core_cells::{NamesAnswer, NamesCall};
-use core_program::CoreCells;
+use core_program::{CoreCells, answers_fit_their_calls, clients_fit_by_what_they_know};
 use cube_core::{CoreAnswer, CoreCall};
 use cube_values::Texts;
 use std::alloc::AllocError;

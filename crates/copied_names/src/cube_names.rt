@@ -13,9 +13,8 @@ ghost use Rattle.round_copies.specs.RoundCopies.{AreNamesTold, HasMoreWith, HasN
 use crate::asking::ask_for_copy;
 use board_callers::CellCaller;
 use core_board_cells::LinkedShard;
-use core_callers::clients_know_their_runs;
 use core_names::names_calls_keep_what_is_held;
-use core_program::CoreCells;
+use core_program::{CoreCells, clients_know_their_runs};
 use cube_schema::Schema;
 use cube_values::{NameLists, TextLists, Texts};
 use std::alloc::{AllocError, Global};

@@ -2,7 +2,7 @@
 
 ghost use Rattle.std.specs.Prelude.{ℕ, List};
 ghost use Rattle.copied_names.specs.CopiedNames.{IsMomentAfter};
-ghost use Rattle.core_callers.specs.Knowing.{IsLaterRun};
+ghost use Rattle.core_program.specs.Knowing.{IsLaterRun};
 ghost use Rattle.core_events.specs.Events.{CoreEvent, Opening};
 ghost use Rattle.core_program.specs.CoreFits.{CoreEntry};
 ghost use Rattle.cube_core.specs.declared.cell.CoreCell.{CoreCell};

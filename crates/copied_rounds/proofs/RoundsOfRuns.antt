@@ -3,16 +3,16 @@ use Rattle.std.proofs.Common.{◌≡◌, ◌∙◌, ℕ, Bool, true, false, List
 use Rattle.std.specs.List.{zip, AllByRecursion}
 use Rattle.std.proofs.lemmas.List.{length-map}
 use Rattle.std.proofs.lemmas.Option.{slice_get_within}
-use Rattle.core_callers.proofs.ClientRuns.{client-run}
-use Rattle.core_callers.proofs.FlusherCalls.{is-client}
-use Rattle.core_callers.proofs.KnownCalls.{earlier-run}
-use Rattle.core_callers.specs.Flushing.{IsFlusherOf}
-use Rattle.core_callers.specs.Knowing.{IsLaterRun}
+use Rattle.core_program.proofs.ClientRuns.{client-run}
+use Rattle.core_program.proofs.FlusherCalls.{is-client}
+use Rattle.core_program.proofs.KnownCalls.{earlier-run}
+use Rattle.core_program.specs.Flushing.{IsFlusherOf}
+use Rattle.core_program.specs.Knowing.{IsLaterRun}
 use Rattle.core_events.specs.Cells.{desk_of, dictionary_of}
 use Rattle.core_events.specs.Clients.{client_state}
 use Rattle.core_events.specs.Events.{Opening, CoreEvent}
 use Rattle.core_events.specs.ShardView.{ShardView}
-use Rattle.core_outputs.specs.Copies.{HasCopied, copies_by}
+use Rattle.core_serial.specs.Copies.{HasCopied, copies_by}
 use Rattle.core_program.specs.CoreFits.{CoreEntry}
 use Rattle.copied_rounds.proofs.KeptPlaces.{counts-are, part-shown, texts-are, texts_of}
 use Rattle.copied_rounds.proofs.ToldSince.{cubes-since, earlier-calls, known-now, log_then, moment, names-since, run-then}

@@ -4,11 +4,11 @@ use Rattle.std.proofs.lemmas.List.Elements.{All-contains_itself, All-filter, Con
 use Rattle.client_calls.specs.ClientCalls.{desk_entry, names_entry}
 use Rattle.core_board.specs.Links.{AreEventsOf}
 use Rattle.core_board_cells.specs.BoardCells.{IsEntryEvent, client_of}
-use Rattle.core_callers.proofs.ClientRuns.{known-in-run}
-use Rattle.core_callers.proofs.FlusherCalls.{is-client}
-use Rattle.core_callers.proofs.KnownCalls.{client-part}
-use Rattle.core_callers.specs.Flushing.{IsFlusherOf}
-use Rattle.core_callers.specs.Knowing.{HasRunOfClient, IsLaterRun}
+use Rattle.core_program.proofs.ClientRuns.{known-in-run}
+use Rattle.core_program.proofs.FlusherCalls.{is-client}
+use Rattle.core_program.proofs.KnownCalls.{client-part}
+use Rattle.core_program.specs.Flushing.{IsFlusherOf}
+use Rattle.core_program.specs.Knowing.{HasRunOfClient, IsLaterRun}
 use Rattle.core_cells.specs.declared.desk.DeskAnswer.TheVariants as answer
 use Rattle.core_cells.specs.declared.desk.DeskCall.TheVariants as call
 use Rattle.core_cells.specs.declared.names.NamesAnswer.TheVariants as told

@@ -7,7 +7,7 @@ use Rattle.cube_language.specs.declared.decl.Decl.{Decl}
 use Rattle.cube_schema.specs.Schemas.{cube_of}
 use Rattle.cube_rounds.specs.Demands.{DimNames}
 use Rattle.cube_rounds.specs.declared.round.Round.{Round}
-use Rattle.core_callers.specs.Knowing.{IsLaterRun}
+use Rattle.core_program.specs.Knowing.{IsLaterRun}
 use Rattle.core_events.specs.Cells.{desk_of}
 use Rattle.core_events.specs.Events.{Opening, CoreEvent}
 use Rattle.core_program.specs.CoreFits.{CoreEntry}

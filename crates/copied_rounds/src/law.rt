@@ -7,8 +7,8 @@ ghost use Rattle.copied_rounds.specs.CopiedRounds.{
   IsRoundBehindKept,
   OpenForRounds,
 };
-ghost use Rattle.core_callers.specs.Flushing.{IsFlusherOf};
-ghost use Rattle.core_callers.specs.Knowing.{IsLaterRun};
+ghost use Rattle.core_program.specs.Flushing.{IsFlusherOf};
+ghost use Rattle.core_program.specs.Knowing.{IsLaterRun};
 ghost use Rattle.core_events.specs.Events.{CoreEvent, Opening};
 ghost use Rattle.core_program.specs.CoreFits.{CoreEntry};
 ghost use Rattle.cube_core.specs.declared.cell.CoreCell.{CoreCell};

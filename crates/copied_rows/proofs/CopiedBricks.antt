@@ -2,8 +2,8 @@
 use Rattle.std.proofs.Common.{◌≡◌, ℕ, ◌%◌, ◌==◌, Bool, true, false, List, [], ◌∷◌, refl, sym, eqb-true, if◌then◌else◌}
 use Rattle.std.specs.List.{Contains}
 use Rattle.std.proofs.lemmas.List.Elements.{All-contains, All-from_recursion, All-nil, All-weaker, recursion_from_All}
-use Rattle.core_outputs.specs.Copies.{HasCopied, copies_by, copy_in}
-use Rattle.core_outputs.proofs.FetchedAnswers.{AnswersFit, run-answers}
+use Rattle.core_serial.specs.Copies.{HasCopied, copies_by, copy_in}
+use Rattle.core_serial.proofs.FetchedAnswers.{AnswersFit, run-answers}
 use Rattle.core_events.specs.Cells.{shard_view_of, Took, worker_of}
 use Rattle.core_events.specs.Clients.{client_state, ends_group}
 use Rattle.core_events.specs.Events.{Opening, flusher, ClientCall, WorkerMove, CoreEvent, By, At}

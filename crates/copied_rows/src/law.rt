@@ -1,7 +1,7 @@
 //! Laws of what shards have and copy, over every run of the core.
 
 ghost use Rattle.std.specs.Prelude.{ℕ, List, All};
-ghost use Rattle.core_outputs.specs.Copies.{HasCopied, copies_by};
+ghost use Rattle.core_serial.specs.Copies.{HasCopied, copies_by};
 ghost use Rattle.core_events.specs.Cells.{shard_view_of};
 ghost use Rattle.core_events.specs.Clients.{client_state};
 ghost use Rattle.core_events.specs.Events.{Opening, CoreEvent};

@@ -18,8 +18,8 @@ use Rattle.core_events.specs.Clients.{calls_of}
 use Rattle.core_events.specs.Events.{Opening, IsSession, OpenWrite, OpenRead, Commit, AbortEnd, CloseRead, TakeNote, CreateCube, FindCube, CubesFrom, CountersNow, RoundOpen, RoundClose, StoreFailed, ClientCall, OnDesk, OnNames, Post, Fetch, CloseMail, NoChange, CoreEvent, By, At}
 use Rattle.core_events.specs.Runs.{IsCoreRun}
 use Rattle.core_events.specs.Serial.{has_committed}
-use Rattle.core_parts.proofs.DeskSteps.{client_entry}
-use Rattle.core_outputs.proofs.Entries.{journal_with}
+use Rattle.core_events.proofs.DeskSteps.{client_entry}
+use Rattle.core_serial.proofs.Entries.{journal_with}
 use Rattle.core_serial.specs.PostedEntries.{has_opened, opens_writer}
 use Rattle.core_serial.proofs.OwnPosts.{opens-next}
 use Rattle.serial_transactions.specs.SerialTransactions.{transactions_of_epoch}

@@ -18,11 +18,11 @@ use Rattle.core_events.specs.Events.{Opening, IsSession, OpenWrite, OpenRead, Co
 use Rattle.core_events.specs.Fitting.{OwnsWriter}
 use Rattle.core_events.specs.Runs.{IsCoreRun}
 use Rattle.core_events.specs.Serial.{commits, has_committed}
-use Rattle.core_parts.proofs.Agreement.{agree}
-use Rattle.core_parts.proofs.DeskSteps.{client_entry, run-step}
-use Rattle.core_parts.proofs.Finished.{or-is}
-use Rattle.core_parts.proofs.Lookups.{held-under-append, held-under-without, with_one, without_one}
-use Rattle.core_outputs.proofs.Entries.{journal_with}
+use Rattle.core_events.proofs.Agreement.{agree}
+use Rattle.core_events.proofs.DeskSteps.{client_entry, run-step}
+use Rattle.core_events.proofs.Finished.{or-is}
+use Rattle.core_events.proofs.Lookups.{held-under-append, held-under-without, with_one, without_one}
+use Rattle.core_serial.proofs.Entries.{journal_with}
 use Rattle.core_serial.specs.PostedEntries.{has_opened, opens_writer}
 use Rattle.core_serial.proofs.OwnPosts.{opens-next}
 use Rattle.core_settled.proofs.Settled.{ec-rises}

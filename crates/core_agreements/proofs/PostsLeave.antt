@@ -24,7 +24,7 @@ use Rattle.cube_run.specs.RunRecords.{Catalog}
 use Rattle.query_plan.specs.Ties.{StandForValues, TakesRegion, stored_for}
 use Rattle.one_session.specs.Changes.{AreNamedApart, ComeFor, Go, rows_in_cube}
 use Rattle.one_session.proofs.Coded.{changes_stand, other_name}
-use Rattle.core_parts.proofs.Counts.{count-append, count-filter}
+use Rattle.core_events.proofs.Counts.{count-append, count-filter}
 use Rattle.core_events.specs.Serial.{CubeOperation, DropRows, rows_after_transaction}
 use Rattle.core_serial.proofs.Permutations.{counts-permuted, permuted-by-counts}
 use Rattle.core_agreements.specs.PostsForOperations.{PostsStandFor, StandForAll, batches_posted, no_posts, other_dropped, region_dropped, rows_of_batches, rows_put}

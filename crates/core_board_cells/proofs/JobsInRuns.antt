@@ -8,15 +8,15 @@ use Rattle.core_events.specs.Fitting.{FitsMove}
 use Rattle.core_events.specs.Jobs.{CoreJob, Append, DropBox, Scan, Delta, Rollback, Purge, CopyRound, Flush, JobOutcome, Done}
 use Rattle.core_events.specs.Runs.{IsCoreRun}
 use Rattle.cube_core.specs.declared.shard.ShardCall.{ShardCall}
-use Rattle.core_parts.proofs.Agreement.{agree}
-use Rattle.core_parts.proofs.Blindness.{sees-safe}
-use Rattle.core_parts.proofs.Places.{Asked, place}
+use Rattle.core_events.proofs.Agreement.{agree}
+use Rattle.core_events.proofs.Blindness.{sees-safe}
+use Rattle.core_events.proofs.Places.{Asked, place}
 use Rattle.core_serial.proofs.Asking.{AsksBy, Suits, SuitsAt, run-suits, run-held}
 use Rattle.core_serial.proofs.Isolation.{JobFits, asked-fits, work-asked, lse-rises}
 use Rattle.core_serial.proofs.ToldBricks.{writer-of, above-lse}
-use Rattle.core_outputs.proofs.HeldReaders.{run-compares}
-use Rattle.core_outputs.proofs.CopiedBricks.{run-free}
-use Rattle.core_outputs.proofs.OpenRounds.{of-open-round}
+use Rattle.core_serial.proofs.HeldReaders.{run-compares}
+use Rattle.core_serial.proofs.CopiedBricks.{run-free}
+use Rattle.core_serial.proofs.OpenRounds.{of-open-round}
 use Rattle.core_board_cells.specs.BoardCells.{call_job, SeesAllUpTo, FitsLse, IsCallInRun}
 
 -- A snapshot that a client asks by sees all up to LSE.

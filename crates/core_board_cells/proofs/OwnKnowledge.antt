@@ -20,7 +20,7 @@ use Rattle.core_events.specs.Events.{Opening, flusher, flush_mail, OnDesk, OnNam
 use Rattle.core_events.specs.Jobs.{CoreJob, JobOutcome}
 use Rattle.core_events.specs.ShardView.{ShardView}
 use Rattle.core_events.proofs.Knowledge.{known-by-calls}
-use Rattle.core_parts.specs.Histories.{last_after, last_after_post, last_post, job_served}
+use Rattle.core_events.specs.Histories.{last_after, last_after_post, last_post, job_served}
 use Rattle.core_links.specs.DeskEvents.{desk_event}
 use Rattle.core_links.specs.MailEvents.{HandsOn, IsMailEvent}
 use Rattle.core_board.specs.Links.{HangsOn, IsToldByCaller, MakesCalls}

@@ -9,7 +9,7 @@ use Rattle.core_events.specs.Events.{Opening, OpenWrite, OpenRead, Commit, Abort
 use Rattle.core_events.specs.Jobs.{Append, DropBox, Scan, Delta, Rollback, Purge, CopyRound, Flush}
 use Rattle.core_records.specs.ScriptedCalls.{SpeaksByScript, statement_in}
 use Rattle.core_serial.specs.OwnOperations.{operations_by_calls}
-use Rattle.core_states.specs.LeftBehind.{IsPlainCall}
+use Rattle.core_states.specs.LeftBehind.{IsPlainCall, LeavesReaders}
 use Rattle.cube_language.specs.declared.statement.Statement.{Statement}
 use Rattle.cube_language.specs.declared.statement.Statement.TheVariants as asked
 use Rattle.cube_run.specs.RunRecords.{Sentence, cube_needed, name_spoken_of}
@@ -50,8 +50,32 @@ plain-posts (Fetch mail said) plain = tt
 plain-posts (CloseMail mail) plain = tt
 plain-posts NoChange plain = tt
 
+plain-readers : (c : ClientCall) → IsPlainCall c → LeavesReaders c
+plain-readers (OnDesk (OpenRead holder statement epoch)) plain = absurd plain
+plain-readers (OnDesk (CloseRead holder statement)) plain = absurd plain
+plain-readers (OnDesk (OpenWrite statement epoch deps)) plain = tt
+plain-readers (OnDesk (Commit statement epoch)) plain = tt
+plain-readers (OnDesk (AbortEnd statement epoch cause)) plain = tt
+plain-readers (OnDesk (TakeNote note counters)) plain = tt
+plain-readers (OnDesk (CreateCube statement decl said)) plain = tt
+plain-readers (OnDesk (FindCube statement name found)) plain = tt
+plain-readers (OnDesk (CubesFrom place cubes)) plain = tt
+plain-readers (OnDesk (CountersNow counters)) plain = tt
+plain-readers (OnDesk (RoundOpen answer)) plain = tt
+plain-readers (OnDesk (RoundClose epoch end)) plain = tt
+plain-readers (OnDesk (StoreFailed failed)) plain = tt
+plain-readers (OnNames c) plain = tt
+plain-readers (Post mail job) plain = tt
+plain-readers (Fetch mail said) plain = tt
+plain-readers (CloseMail mail) plain = tt
+plain-readers NoChange plain = tt
+
 pub plain-for : (number : ℕ) (s : Statement) (c : ClientCall) → IsPlainCall c → IsCallFor number s c
-plain-for number s c plain = record { speaks = plain-speaks number s c plain; posts = plain-posts c plain }
+plain-for number s c plain = record {
+  speaks = plain-speaks number s c plain;
+  posts = plain-posts c plain;
+  readers = plain-readers c plain;
+}
 
 -- A statement that needs a cube speaks of its name.
 pub spoken : (s : Statement) (name : List ℕ) → cube_needed s ≡ Some name → name_spoken_of s ≡ name

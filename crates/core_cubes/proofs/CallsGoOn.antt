@@ -5,8 +5,8 @@ use mathlib.Core.List.{IsPrefix}
 use Rattle.client_calls.specs.ClientCalls.{desk_entry}
 use Rattle.core_board.specs.Links.{AreEventsOf}
 use Rattle.core_board_cells.specs.BoardCells.{IsEntryEvent}
-use Rattle.core_callers.proofs.KnownCalls.{desk-learns, earlier-run}
-use Rattle.core_callers.specs.Knowing.{IsClientOf, IsLaterRun}
+use Rattle.core_program.proofs.KnownCalls.{desk-learns, earlier-run}
+use Rattle.core_program.specs.Knowing.{IsClientOf, IsLaterRun}
 use Rattle.core_cells.specs.declared.desk.DeskAnswer.{DeskAnswer}
 use Rattle.core_cells.specs.declared.desk.DeskCall.{DeskCall}
 use Rattle.core_events.specs.Clients.{ClientState, calls_of, state_from_calls}

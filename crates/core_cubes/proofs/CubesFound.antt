@@ -4,7 +4,7 @@ use Rattle.std.specs.Prelude.{IfErr, IfOk, OnOk, Result, Ok, Err}
 use Rattle.aosi_desk.specs.declared.cube.CubeFound.{CubeFound}
 use Rattle.aosi_desk.specs.declared.cube.CubeFound.TheVariants.{Found, Unknown}
 use Rattle.client_calls.specs.ClientCalls.{desk_entry}
-use Rattle.core_callers.specs.Knowing.{IsClientOf, IsSessionOf}
+use Rattle.core_program.specs.Knowing.{IsClientOf, IsSessionOf}
 use Rattle.core_cells.specs.declared.desk.DeskAnswer.TheVariants as answer
 use Rattle.core_cells.specs.declared.desk.DeskCall.{DeskCall}
 use Rattle.core_cells.specs.declared.desk.DeskCall.TheVariants as call
@@ -107,8 +107,8 @@ module _ {S : Type 0} (fits : Opening → ℕ → ShardCall → Type 0) (stands 
   module _ (needs : cube_needed s ≡ Some name) where
     one-call : (found : CubeFound) (k : ClientState) → IsCallFor (session.statements + 1) s
         (desk_event session.number k find (answer.Found found))
-    one-call (Found place decl) k = record { speaks = tt; posts = tt }
-    one-call Unknown k = record { speaks = (refl, spoken s name needs); posts = tt }
+    one-call (Found place decl) k = record { speaks = tt; posts = tt; readers = tt }
+    one-call Unknown k = record { speaks = (refl, spoken s name needs); posts = tt; readers = tt }
 
     pub calls-by-search : (found : CubeFound) → Asked found
         → GoOnByCalls fits stands says cells caller session.number (IsCallFor (session.statements + 1) s) own now

@@ -98,6 +98,7 @@ module _ {S : Type 0} (fits : Opening → ℕ → ShardCall → Type 0) (stands 
               state_is = refl;
               entries_are = refl;
             });
+        goes_on = h.more;
         stands_then = record {
           turn = in-turn-after past after (Says s) added one st.turn;
           begins = ([], append-nil now);

@@ -10,8 +10,8 @@ use Rattle.aosi_desk.specs.declared.cube.CubeFound.TheVariants.{Found}
 use Rattle.client_calls.specs.ClientCalls.{desk_entry}
 use Rattle.core_board.specs.Links.{AreEventsOf}
 use Rattle.core_board_cells.specs.BoardCells.{IsEntryEvent}
-use Rattle.core_callers.proofs.KnownCalls.{client-part, desk-learns, earlier-run, go-on-from}
-use Rattle.core_callers.specs.Knowing.{IsClientOf, IsLaterRun, IsSessionOf}
+use Rattle.core_program.proofs.KnownCalls.{client-part, desk-learns, earlier-run, go-on-from}
+use Rattle.core_program.specs.Knowing.{IsClientOf, IsLaterRun, IsSessionOf}
 use Rattle.core_cells.specs.declared.desk.DeskAnswer.TheVariants as answer
 use Rattle.core_cells.specs.declared.desk.DeskCall.TheVariants as call
 use Rattle.core_cubes.specs.StandingCubes.{StandsBefore}
@@ -21,8 +21,8 @@ use Rattle.core_events.specs.Events.{Opening, OnDesk, FindCube, ClientCall, Core
 use Rattle.core_events.specs.Jobs.{CoreJob, JobOutcome}
 use Rattle.core_events.specs.Runs.{IsCoreRun}
 use Rattle.core_events.specs.ShardView.{ShardView}
-use Rattle.core_outputs.proofs.Entries.{journal-step}
-use Rattle.core_outputs.specs.Journals.{journal_of}
+use Rattle.core_serial.proofs.Entries.{journal-step}
+use Rattle.core_serial.specs.Journals.{journal_of}
 use Rattle.core_pasts.specs.CorePasts.{last_number}
 use Rattle.core_program.specs.CoreFits.{CoreEntry}
 use Rattle.core_records.proofs.CubesOnRecord.{cubes-are, follow-before, run-before}

@@ -27,4 +27,4 @@ module _ {S : Type 0} (fits : Opening → ℕ → ShardCall → Type 0) (stands 
       → StandsInCore fits stands says cells caller old.number own past
       → old.statements ≡ last_number past
       → HasExecutedInCore fits stands says cells caller old.number (unwrap_or old.round_every 0) past
-      (state_of_session old watch) (Says s) now (state_of_session new watch) said
+      (state_of_session old watch) (Says s) own now (state_of_session new watch) said

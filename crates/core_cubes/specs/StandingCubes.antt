@@ -3,11 +3,11 @@
 use Rattle.std.specs.Prelude.{ℕ, ◌<◌, List}
 use Rattle.aosi_desk.specs.Desks.{IsFound}
 use Rattle.aosi_desk.specs.declared.cube.CubeFound.TheVariants.{Found}
-use Rattle.core_callers.specs.Knowing.{IsLaterRun}
+use Rattle.core_program.specs.Knowing.{IsLaterRun}
 use Rattle.core_events.specs.Events.{Opening, CoreEvent}
 use Rattle.core_events.specs.Jobs.{CoreJob, JobOutcome}
 use Rattle.core_events.specs.ShardView.{ShardView}
-use Rattle.core_outputs.specs.Journals.{journal_of}
+use Rattle.core_serial.specs.Journals.{journal_of}
 use Rattle.core_pasts.specs.CorePasts.{CorePast, last_number}
 use Rattle.core_program.specs.CoreFits.{CoreEntry}
 use Rattle.core_records.specs.CoreRecords.{RunScripts, record_of}

@@ -1,6 +1,6 @@
 //! CREATE CUBE.
 ghost use Rattle.std.specs.Prelude.{◌≡◌, ◌+◌, ◌<◌, ◌≤◌, [], None, Some, IfOk};
-ghost use Rattle.core_callers.specs.Knowing.{IsClientOf, IsSessionOf};
+ghost use Rattle.core_program.specs.Knowing.{IsClientOf, IsSessionOf};
 ghost use Rattle.core_cubes.specs.MadeAndFound.{IsToldWhereMade};
 ghost use Rattle.core_cubes.specs.StatementCalls.{IsCallFor};
 ghost use Rattle.core_events.specs.Fitting.{CanBeMade};

@@ -1,6 +1,6 @@
 //! The cube of the name of which a statement speaks.
 ghost use Rattle.std.specs.Prelude.{◌≡◌, ◌+◌, ◌<◌, ◌≤◌, [], IfErr, IfOk, None, OnOk, Some};
-ghost use Rattle.core_callers.specs.Knowing.{IsClientOf, IsSessionOf};
+ghost use Rattle.core_program.specs.Knowing.{IsClientOf, IsSessionOf};
 ghost use Rattle.core_cubes.specs.ExecutedWatched.{ExecutesWatched};
 ghost use Rattle.core_cubes.specs.MadeAndFound.{IsRefusedByName, cube_or_refusal};
 ghost use Rattle.core_cubes.specs.StandingCubes.{StandsBefore};

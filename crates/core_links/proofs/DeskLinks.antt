@@ -17,11 +17,11 @@ use Rattle.core_events.specs.Clients.{client_state}
 use Rattle.core_events.specs.Events.{Opening, IsSession, OpenWrite, OpenRead, Commit, AbortEnd, TakeNote, CreateCube, ClientCall, OnDesk, OnNames, Post, Fetch, CloseMail, NoChange, CoreEvent, By, At}
 use Rattle.core_events.specs.Fitting.{IsNumberOf}
 use Rattle.core_events.specs.Runs.{IsCoreRun}
-use Rattle.core_parts.proofs.Agreement.{opening-of, agree}
-use Rattle.core_parts.proofs.DeskSteps.{register_with, register-step, desk_entry}
-use Rattle.core_parts.proofs.KnownCubes.{known-cubes}
-use Rattle.core_parts.proofs.MayCalls.{may-write, may-read, may-commit, may-abort, may-close, may-create, may-round, may-end}
-use Rattle.core_outputs.proofs.NoteCalls.{note-allowed, note-silent}
+use Rattle.core_events.proofs.Agreement.{opening-of, agree}
+use Rattle.core_events.proofs.DeskSteps.{register_with, register-step, desk_entry}
+use Rattle.core_events.proofs.KnownCubes.{known-cubes}
+use Rattle.core_events.proofs.MayCalls.{may-write, may-read, may-commit, may-abort, may-close, may-create, may-round, may-end}
+use Rattle.core_serial.proofs.NoteCalls.{note-allowed, note-silent}
 use Rattle.core_links.specs.DeskEvents.{own_epoch, desk_event, FitsDeskCall, is_on_desk}
 
 -- The desk has the sessions of the opening.

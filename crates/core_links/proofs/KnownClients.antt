@@ -7,7 +7,7 @@ use Rattle.core_events.specs.Events.{Opening, flusher, flush_mail, OnDesk, OnNam
 use Rattle.core_events.specs.Fitting.{Bears, IsFor}
 use Rattle.core_events.specs.Jobs.{CoreJob, Append, DropBox, Scan, Delta, Rollback, Purge, CopyRound, Flush}
 use Rattle.core_events.specs.Runs.{IsCoreRun, IsOldest}
-use Rattle.core_parts.specs.Histories.{has_letter_of, is_serving}
+use Rattle.core_events.specs.Histories.{has_letter_of, is_serving}
 use Rattle.core_mail_cells.proofs.MailSteps.{has-more}
 use Rattle.core_links.specs.MailEvents.{clients_of}
 

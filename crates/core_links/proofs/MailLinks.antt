@@ -22,7 +22,7 @@ use Rattle.core_events.specs.Jobs.{CoreJob, JobOutcome}
 use Rattle.core_events.specs.Runs.{IsCoreRun}
 use Rattle.core_mail_cells.specs.MailCells.{IsMailOf, is_on_mail}
 use Rattle.core_mail_cells.proofs.MailSteps as mail
-use Rattle.core_parts.proofs.MayMails.{may-reply}
+use Rattle.core_events.proofs.MayMails.{may-reply}
 use Rattle.core_links.specs.MailEvents.{clients_of, FitsMailCall, IsMailCellOf, IsMailLinked}
 use Rattle.core_links.proofs.KnownClients.{bearer-known, known}
 

@@ -15,7 +15,7 @@ use Rattle.core_events.specs.Events.{Opening, flush_mail, Post, Fetch, CloseMail
 use Rattle.core_events.specs.Fitting.{FitsCall, FitsMove}
 use Rattle.core_events.specs.Jobs.{CoreJob, JobOutcome}
 use Rattle.core_events.specs.Runs.{IsCoreRun}
-use Rattle.core_parts.specs.Histories.{last_post, job_served}
+use Rattle.core_events.specs.Histories.{last_post, job_served}
 use Rattle.core_mail_cells.specs.MailCells.{IsMailOf}
 
 -- How many clients a mail has: main and the sessions, and at a shard's mail the flusher.

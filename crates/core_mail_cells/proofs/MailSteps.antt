@@ -17,10 +17,10 @@ use Rattle.core_events.specs.Events.{Opening, flusher, OnDesk, OnNames, CloseMai
 use Rattle.core_events.specs.Events as event
 use Rattle.core_events.specs.Cells.{Letter, letter, queue_of, queue_after_post, queue_after_take, reply_for, reply_after_fetch, reply_after_reply, queue_after_move, WorkerState, Free, Took, Worked, worker_after, worker_of, is_mail_closed}
 use Rattle.core_events.specs.Runs.{IsCoreRun, CallSays, IsOldest, MoveSays}
-use Rattle.core_parts.proofs.Places.{AreQueued, place}
-use Rattle.core_parts.specs.Histories.{last_after_post, last_post, has_letter_of, is_serving, job_served}
-use Rattle.core_parts.proofs.MayMails.{may-post, may-reply, no-letter}
-use Rattle.core_parts.proofs.Posted.{run-posted, served-is-last}
+use Rattle.core_events.proofs.Places.{AreQueued, place}
+use Rattle.core_events.specs.Histories.{last_after_post, last_post, has_letter_of, is_serving, job_served}
+use Rattle.core_events.proofs.MayMails.{may-post, may-reply, no-letter}
+use Rattle.core_events.proofs.Posted.{run-posted, served-is-last}
 use Rattle.core_mail_cells.specs.MailCells.{IsThere, HoldsOutcome, IsPlaceIn, letters_posted, IsMailOf, IsFetched, is_on_mail}
 
 same_number : (n : ℕ) → (n == n) ≡ true

@@ -12,7 +12,7 @@ use Rattle.core_events.specs.Events.{Opening, CoreEvent, By, At}
 use Rattle.core_events.specs.Events as event
 use Rattle.core_events.specs.Cells.{Letter, letter, queue_of, reply_for, worker_of, is_mail_closed}
 use Rattle.core_events.specs.Runs.{CallSays}
-use Rattle.core_parts.specs.Histories.{last_post, has_letter_of, is_serving}
+use Rattle.core_events.specs.Histories.{last_post, has_letter_of, is_serving}
 
 -- Where a client's job is by the events: its letter is in the queue or not, its worker serves it or not, and the mail
 -- holds an answer for it or none.

@@ -17,7 +17,7 @@ ghost use Rattle.core_events.specs.Events.{
 ghost use Rattle.core_events.specs.Jobs.{CoreJob, JobOutcome};
 ghost use Rattle.core_events.specs.Runs.{IsCoreRun, MoveSays};
 ghost use Rattle.core_mail_cells.specs.MailCells.{IsMailOf, IsFetched, is_on_mail};
-ghost use Rattle.core_parts.specs.Histories.{job_served};
+ghost use Rattle.core_events.specs.Histories.{job_served};
 ghost use Rattle.mail_cell.specs.State.{MailState, new_mail, place_of};
 ghost use Rattle.mail_cell.specs.Steps.{
   after_post,

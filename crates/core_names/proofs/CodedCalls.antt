@@ -12,7 +12,7 @@ use Rattle.core_board.specs.Links.{AreEventsAfter}
 use Rattle.core_board_cells.specs.BoardCells.{IsEntryEvent, IsEventOf, client_of}
 use Rattle.core_cells.specs.declared.names.NamesAnswer.TheVariants as told
 use Rattle.core_cells.specs.declared.names.NamesCall.TheVariants as names
-use Rattle.core_callers.specs.Knowing.{IsLaterRun}
+use Rattle.core_program.specs.Knowing.{IsLaterRun}
 use Rattle.core_events.proofs.Names.{names-grow}
 use Rattle.core_events.specs.Cells.{dictionary_of}
 use Rattle.core_events.specs.Events.{Opening, Encode, OnNames, CoreEvent, By}

@@ -5,7 +5,7 @@ use Rattle.cube_language.specs.declared.decl.Decl.{Decl}
 use Rattle.cube_language.specs.declared.decl.DimDecl.{DimDecl}
 use Rattle.condition_spans.specs.Codes.{lists_at, texts_at}
 use Rattle.names_dict.specs.declared.code.Code.{Code}
-use Rattle.core_callers.specs.Knowing.{IsLaterRun}
+use Rattle.core_program.specs.Knowing.{IsLaterRun}
 use Rattle.core_events.specs.Cells.{desk_of, dictionary_of}
 use Rattle.core_events.specs.Events.{Opening, CoreEvent}
 use Rattle.core_events.specs.Jobs.{CoreJob, JobOutcome}

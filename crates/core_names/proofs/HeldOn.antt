@@ -12,8 +12,8 @@ use Rattle.names_dict.specs.Dictionaries.{IsTextDimension}
 use Rattle.client_calls.specs.ClientCalls.{names_entry}
 use Rattle.core_cells.specs.declared.names.NamesAnswer.{NamesAnswer}
 use Rattle.core_cells.specs.declared.names.NamesCall.{NamesCall}
-use Rattle.core_callers.proofs.KnownCalls.{earlier-run, names-learn}
-use Rattle.core_callers.specs.Knowing.{IsClientOf, Knows}
+use Rattle.core_program.proofs.KnownCalls.{earlier-run, names-learn}
+use Rattle.core_program.specs.Knowing.{IsClientOf, Knows}
 use Rattle.core_events.specs.Clients.{calls_of, state_from_calls}
 use Rattle.core_events.specs.Events.{Opening, ClientCall}
 use Rattle.core_events.specs.Fitting.{AreToldNames}

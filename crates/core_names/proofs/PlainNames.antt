@@ -1,8 +1,8 @@
 -- Calls on the names alone are plain calls, which leave nothing behind them.
 use Rattle.std.proofs.Common.{ℕ, List, [], ◌∷◌, ◌++◌, refl, sym, subst, append-nil}
 use Rattle.client_calls.specs.ClientCalls.{names_entry}
-use Rattle.core_callers.proofs.KnownCalls.{names-learn}
-use Rattle.core_callers.specs.Knowing.{IsClientOf}
+use Rattle.core_program.proofs.KnownCalls.{names-learn}
+use Rattle.core_program.specs.Knowing.{IsClientOf}
 use Rattle.core_cells.specs.declared.names.NamesAnswer.{NamesAnswer}
 use Rattle.core_cells.specs.declared.names.NamesAnswer.TheVariants as told
 use Rattle.core_cells.specs.declared.names.NamesCall.{NamesCall}

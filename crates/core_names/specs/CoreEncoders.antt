@@ -2,7 +2,7 @@
 -- Source: this project's own.
 use Rattle.std.specs.Prelude.{◌≡◌, ℕ, ◌<◌, List, length, IfSome}
 use Rattle.cube_language.specs.declared.decl.Decl.{Decl}
-use Rattle.core_callers.specs.Knowing.{IsClientOf, IsSessionOf}
+use Rattle.core_program.specs.Knowing.{IsClientOf, IsSessionOf}
 use Rattle.core_events.specs.Events.{Opening}
 use Rattle.core_events.specs.Jobs.{CoreJob, JobOutcome}
 use Rattle.core_events.specs.ShardView.{ShardView}

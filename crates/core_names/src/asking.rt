@@ -2,9 +2,9 @@
 
 ghost use Rattle.std.specs.Prelude.{◌≡◌, ℕ, List, [], ◌∷◌, ◌++◌};
 ghost use Rattle.board_callers.specs.Callers.{HasHistoryOf};
-ghost use Rattle.core_callers.specs.AnswersOfCalls.{CoreAnswers, NamesAnswers};
+ghost use Rattle.core_program.specs.AnswersOfCalls.{CoreAnswers, NamesAnswers};
 ghost use Rattle.core_cells.specs.declared.names.NamesCall.TheVariants as names;
-ghost use Rattle.core_callers.specs.Knowing.{IsClientOf, Knows, MayCallNames};
+ghost use Rattle.core_program.specs.Knowing.{IsClientOf, Knows, MayCallNames};
 ghost use Rattle.core_names.specs.AskedNames.{coded_answer, encode_entry};
 ghost use Rattle.core_program.specs.CoreFits.{FitsOwnCalls};
 ghost use Rattle.cube_core.specs.CoreSteps.{CoreStep};
@@ -14,9 +14,8 @@ ghost use Rattle.cube_values.specs.declared.shape.CubeShape.{CubeShape};
 
 use board_callers::CellCaller;
 use core_board_cells::LinkedShard;
-use core_callers::{answers_fit_their_calls, clients_fit_by_what_they_know};
 use core_cells::{NamesAnswer, NamesCall};
-use core_program::CoreCells;
+use core_program::{CoreCells, answers_fit_their_calls, clients_fit_by_what_they_know};
 use cube_core::{CoreAnswer, CoreCall};
 use cube_values::{CubeShape, Text};
 use names_dict::Code;

@@ -6,7 +6,7 @@ ghost use Rattle.cube_language.specs.declared.decl.Decl.{Decl};
 ghost use Rattle.cube_language.specs.declared.decl.DimDecl.{DimDecl};
 ghost use Rattle.cube_run.specs.RunRecords.{RunRecord};
 ghost use Rattle.cube_values.specs.declared.row.CodedRow.{CodedRow};
-ghost use Rattle.core_callers.specs.Knowing.{IsClientOf, Knows};
+ghost use Rattle.core_program.specs.Knowing.{IsClientOf, Knows};
 ghost use Rattle.core_events.specs.Clients.{state_from_calls};
 ghost use Rattle.core_events.specs.Fitting.{AreToldNames};
 ghost use Rattle.core_names.specs.AskedNames.{GoOnByNames};
@@ -60,8 +60,8 @@ pub fn given_numbers_may_be_put<S: LinkedShard>()
 /// The names on record of a run that goes on from what is behind a session are among those that its
 /// own calls may leave.
 pub fn runs_may_leave_their_names<S: LinkedShard, B: Besides>()
-    ensures { (cells : List (CoreCell S)) (caller session : ℕ) (past : CorePast) (run : RunRecord)
-        → GoesOn S.fits S.stands S.says cells caller session B.claim past run
+    ensures { (asked : B) (cells : List (CoreCell S)) (caller session : ℕ) (past : CorePast) (run : RunRecord)
+        → GoesOn S.fits S.stands S.says cells caller session (B.claim asked) past run
         → MayLeaveNames S.fits S.stands S.says cells caller past.own run.names }
 {}
 

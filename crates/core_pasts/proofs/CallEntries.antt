@@ -16,14 +16,14 @@ use Rattle.core_cells.specs.declared.names.NamesAnswer.{NamesAnswer}
 use Rattle.core_cells.specs.declared.names.NamesAnswer.TheVariants as named
 use Rattle.core_cells.specs.declared.names.NamesCall.{NamesCall}
 use Rattle.core_cells.specs.declared.names.NamesCall.TheVariants as names
-use Rattle.core_callers.proofs.KnownCalls.{desk-learns, earlier-run, fetch-learns, names-learn, post-learns, waiting-learns}
-use Rattle.core_callers.specs.Knowing.{IsClientOf, IsMailAt}
-use Rattle.core_parts.proofs.DeskSteps.{client_entry}
+use Rattle.core_program.proofs.KnownCalls.{desk-learns, earlier-run, fetch-learns, names-learn, post-learns, waiting-learns}
+use Rattle.core_program.specs.Knowing.{IsClientOf, IsMailAt}
+use Rattle.core_events.proofs.DeskSteps.{client_entry}
 use Rattle.core_events.specs.Clients.{ClientState, calls_of, held_under, state_from_calls}
 use Rattle.core_events.specs.Events.{Opening, ClientCall, Fetch, NoChange, Post, CoreEvent}
 use Rattle.core_events.specs.Jobs.{CoreJob, JobOutcome}
 use Rattle.core_events.specs.ShardView.{ShardView}
-use Rattle.core_outputs.proofs.Entries.{journal_with}
+use Rattle.core_serial.proofs.Entries.{journal_with}
 use Rattle.core_links.specs.DeskEvents.{desk_event, own_epoch}
 use Rattle.core_links.specs.NamesEvents.{names_event}
 use Rattle.core_pasts.specs.CorePasts.{nothing_behind}

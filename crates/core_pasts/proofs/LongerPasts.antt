@@ -15,12 +15,12 @@ use Rattle.played_scripts.specs.Promises.{IsExecuted}
 use Rattle.played_scripts.proofs.Numbered.{all_of_one, none_earlier}
 use Rattle.one_session.proofs.Entries.{none_later, numbered_more}
 use Rattle.one_session.proofs.Steps.{there}
-use Rattle.core_callers.proofs.KnownCalls.{earlier-run}
-use Rattle.core_callers.specs.Knowing.{IsLaterRun}
+use Rattle.core_program.proofs.KnownCalls.{earlier-run}
+use Rattle.core_program.specs.Knowing.{IsLaterRun}
 use Rattle.core_events.specs.Events.{Opening, CoreEvent}
 use Rattle.core_events.specs.Jobs.{CoreJob, JobOutcome}
 use Rattle.core_events.specs.ShardView.{ShardView}
-use Rattle.core_outputs.specs.Journals.{journal_of}
+use Rattle.core_serial.specs.Journals.{journal_of}
 use Rattle.core_pasts.specs.CorePasts.{CorePast, IsInTurn, IsNumberBehind, IsOneMore, last_number, last_step, nothing_behind}
 use Rattle.core_pasts.specs.RunsFrom.{GoesOn, IsRunFrom, RunClaim}
 use Rattle.core_program.specs.CoreFits.{CoreEntry}

@@ -5,13 +5,13 @@ use Rattle.std.proofs.lemmas.List.Elements.{filter-append}
 use Rattle.turn_board.specs.History.{of_caller}
 use Rattle.core_board.specs.Links.{AreEventsOf, HasOwnEvents}
 use Rattle.core_board_cells.specs.BoardCells.{IsEntryEvent, client_of}
-use Rattle.core_callers.proofs.KnownCalls.{client-part}
-use Rattle.core_callers.specs.Knowing.{IsLaterRun}
+use Rattle.core_program.proofs.KnownCalls.{client-part}
+use Rattle.core_program.specs.Knowing.{IsLaterRun}
 use Rattle.core_events.specs.Clients.{calls_of}
 use Rattle.core_events.specs.Events.{Opening, IsSession, CoreEvent}
 use Rattle.core_events.specs.Jobs.{CoreJob, JobOutcome}
 use Rattle.core_events.specs.ShardView.{ShardView}
-use Rattle.core_outputs.specs.Journals.{journal_of}
+use Rattle.core_serial.specs.Journals.{journal_of}
 use Rattle.core_pasts.specs.CorePasts.{last_number}
 use Rattle.core_pasts.specs.Endings.{HasEnded, IsScriptedHistory}
 use Rattle.core_pasts.specs.RunsFrom.{GoesOn, IsRunFrom, RunClaim}

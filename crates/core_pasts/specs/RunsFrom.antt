@@ -8,11 +8,11 @@ use Rattle.cube_core.specs.declared.shard.ShardCall.{ShardCall}
 use Rattle.cube_journal.specs.declared.journal_entry.JournalEntry.{JournalEntry}
 use Rattle.cube_run.specs.RunRecords.{RunRecord, Sentence}
 use Rattle.cube_run.specs.SessionSteps.{is_of_statement, session_part}
-use Rattle.core_callers.specs.Knowing.{IsLaterRun}
+use Rattle.core_program.specs.Knowing.{IsLaterRun}
 use Rattle.core_events.specs.Events.{Opening, CoreEvent}
 use Rattle.core_events.specs.Jobs.{CoreJob, JobOutcome}
 use Rattle.core_events.specs.ShardView.{ShardView}
-use Rattle.core_outputs.specs.Journals.{journal_of}
+use Rattle.core_serial.specs.Journals.{journal_of}
 use Rattle.core_pasts.specs.CorePasts.{CorePast, IsNumberBehind}
 use Rattle.core_program.specs.CoreFits.{CoreEntry}
 use Rattle.core_records.specs.CoreRecords.{RunScripts, record_of}

@@ -14,12 +14,12 @@ use core_board_cells::LinkedShard;
 
 /// Where each session has played its script and its end has left its entries, the run is played.
 pub fn the_end_completes_a_run<S: LinkedShard, B: Besides>()
-    ensures { (cells : List (CoreCell S)) (o : Opening) (given : RunScripts)
+    ensures { (asked : B) (cells : List (CoreCell S)) (o : Opening) (given : RunScripts)
         (log : List CoreEntry) (events : List CoreEvent) (replies : List (List Reply))
         → IsScriptedHistory S.fits S.stands S.says cells o given log events
-        → B.claim o given events → length replies ≡ o.sessions
+        → B.claim asked o given events → length replies ≡ o.sessions
         → ((session : ℕ) → IsSession o session
-        → HasEnded S.fits S.stands S.says cells o given log B.claim session
+        → HasEnded S.fits S.stands S.says cells o given log (B.claim asked) session
         (unwrap_or (slice_get replies (session - 1)) []))
         → HavePlayed (record_of o given events) replies }
 {}

@@ -1,9 +1,9 @@
 //! The laws of what is behind a session of the core.
 
 ghost use Rattle.std.specs.Prelude.{◌≡◌, ℕ, ◌+◌, List, [], filter};
-ghost use Rattle.core_callers.specs.Knowing.{IsLaterRun};
+ghost use Rattle.core_program.specs.Knowing.{IsLaterRun};
 ghost use Rattle.core_events.specs.Events.{CoreEvent, Opening};
-ghost use Rattle.core_outputs.specs.Journals.{journal_of};
+ghost use Rattle.core_serial.specs.Journals.{journal_of};
 ghost use Rattle.core_pasts.specs.CorePasts.{CorePast, IsInTurn, IsNumberBehind, IsOneMore, last_number, last_step, nothing_behind};
 ghost use Rattle.core_pasts.specs.RunsFrom.{GoesOn, IsRunFrom};
 ghost use Rattle.core_program.specs.CoreFits.{CoreEntry};
@@ -34,11 +34,11 @@ pub fn a_longer_past_goes_on<S: LinkedShard, B: Besides>()
         (events : List CoreEvent) → IsOneMore before after sentence added
         → IsRunFrom S.fits S.stands S.says cells caller session after o given events
         → IsRunFrom S.fits S.stands S.says cells caller session before o given events }
-    ensures earlier { (cells : List (CoreCell S)) (caller session : ℕ) (before after : CorePast)
+    ensures earlier { (asked : B) (cells : List (CoreCell S)) (caller session : ℕ) (before after : CorePast)
         (sentence : Sentence) (added : List JournalEntry) (run : RunRecord)
         → IsOneMore before after sentence added
-        → GoesOn S.fits S.stands S.says cells caller session B.claim after run
-        → GoesOn S.fits S.stands S.says cells caller session B.claim before run }
+        → GoesOn S.fits S.stands S.says cells caller session (B.claim asked) after run
+        → GoesOn S.fits S.stands S.says cells caller session (B.claim asked) before run }
     ensures turn { (before after : CorePast) (sentence : Sentence) (added : List JournalEntry)
         → IsOneMore before after sentence added → IsInTurn before → IsInTurn after }
 {}
@@ -69,14 +69,14 @@ pub fn what_is_behind_stays<S: LinkedShard>()
 /// A statement is executed, for the law of scripts that are played, where each run that goes on with it behind answers
 /// it so.
 pub fn one_more_is_executed<S: LinkedShard, B: Besides>()
-    ensures { (cells : List (CoreCell S)) (caller session : ℕ) (before after : CorePast)
+    ensures { (asked : B) (cells : List (CoreCell S)) (caller session : ℕ) (before after : CorePast)
         (state : SessionState) (sentence : Sentence) (added : List JournalEntry) (said : Reply)
         → IsInTurn before → IsOneMore before after sentence added
         → ((o : Opening) (given : RunScripts) (events : List CoreEvent)
         → IsRunFrom S.fits S.stands S.says cells caller session after o given events
-        → B.claim o given events
+        → B.claim asked o given events
         → IsReply (record_of o given events) (last_step session after state sentence added) said)
-        → IsExecuted (GoesOn S.fits S.stands S.says cells caller session B.claim) session
+        → IsExecuted (GoesOn S.fits S.stands S.says cells caller session (B.claim asked)) session
         (last_number before + 1) state sentence before after said
         (session_after state sentence added) }
 {}

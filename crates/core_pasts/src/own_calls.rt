@@ -7,7 +7,7 @@ ghost use Rattle.core_cells.specs.declared.desk.DeskCall.{DeskCall};
 ghost use Rattle.core_cells.specs.declared.desk.DeskCall.TheVariants as call;
 ghost use Rattle.core_cells.specs.declared.names.NamesAnswer.{NamesAnswer};
 ghost use Rattle.core_cells.specs.declared.names.NamesCall.{NamesCall};
-ghost use Rattle.core_callers.specs.Knowing.{IsClientOf, IsMailAt};
+ghost use Rattle.core_program.specs.Knowing.{IsClientOf, IsMailAt};
 ghost use Rattle.core_pasts.specs.CorePasts.{nothing_behind};
 ghost use Rattle.core_pasts.specs.OwnCalls.{KnowsEnd, OwnCallsLeave, Tells, desk_leaves};
 ghost use Rattle.core_program.specs.CoreFits.{CoreEntry};

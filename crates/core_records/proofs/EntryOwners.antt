@@ -20,10 +20,10 @@ use Rattle.core_events.specs.Clients.{ClientState, client_state}
 use Rattle.core_events.specs.Events.{Opening, IsOpening, IsSession, flusher, OpenWrite, OpenRead, Commit, AbortEnd, CloseRead, TakeNote, CreateCube, FindCube, CubesFrom, CountersNow, RoundOpen, RoundClose, StoreFailed, ClientCall, OnDesk, OnNames, Post, Fetch, CloseMail, NoChange, CoreEvent, By, At}
 use Rattle.core_events.specs.Fitting.{FitsCall, IsNumberOf}
 use Rattle.core_events.specs.Runs.{IsCoreRun}
-use Rattle.core_parts.proofs.Agreement.{one-session, opening-of}
-use Rattle.core_parts.proofs.DeskSteps.{client_entry}
-use Rattle.core_outputs.specs.Journals.{journal_of}
-use Rattle.core_outputs.proofs.Entries.{journal_with, journal-step}
+use Rattle.core_events.proofs.Agreement.{one-session, opening-of}
+use Rattle.core_events.proofs.DeskSteps.{client_entry}
+use Rattle.core_serial.specs.Journals.{journal_of}
+use Rattle.core_serial.proofs.Entries.{journal_with, journal-step}
 use Rattle.core_records.specs.CoreRecords.{RunScripts, record_of}
 
 -- An entry is under a number of the session whose call left it, or it is the flusher's.

@@ -9,10 +9,10 @@ use Rattle.core_events.specs.Cells.{desk_after}
 use Rattle.core_events.specs.Clients.{calls_of, client_state}
 use Rattle.core_events.specs.Events.{Opening, IsOpening, IsSession, ClientCall, OnDesk, OnNames, Post, Fetch, CloseMail, NoChange, CoreEvent, By, At}
 use Rattle.core_events.specs.Runs.{IsCoreRun}
-use Rattle.core_parts.proofs.Agreement.{opening-of}
-use Rattle.core_parts.proofs.DeskSteps.{client_entry, desk_entry, register_with, register-step}
-use Rattle.core_outputs.specs.Journals.{journal_of}
-use Rattle.core_outputs.proofs.Entries.{journal_with, journal-step}
+use Rattle.core_events.proofs.Agreement.{opening-of}
+use Rattle.core_events.proofs.DeskSteps.{client_entry, desk_entry, register_with, register-step}
+use Rattle.core_serial.specs.Journals.{journal_of}
+use Rattle.core_serial.proofs.Entries.{journal_with, journal-step}
 use Rattle.core_records.specs.OwnEntries.{desk_by_calls, entries_by_calls}
 use Rattle.core_records.proofs.EntryOwners.{IsEntryOf, belongs, entry-of}
 

@@ -19,10 +19,10 @@ use Rattle.core_events.specs.Clients.{ClientState, client_state}
 use Rattle.core_events.specs.Events.{Opening, IsSession, OpenWrite, OpenRead, Commit, AbortEnd, CloseRead, TakeNote, CreateCube, FindCube, CubesFrom, CountersNow, RoundOpen, RoundClose, StoreFailed, ClientCall, OnDesk, OnNames, Post, Fetch, CloseMail, NoChange, CoreEvent, By, At}
 use Rattle.core_events.specs.Fitting.{FitsCall}
 use Rattle.core_events.specs.Runs.{IsCoreRun}
-use Rattle.core_parts.proofs.DeskSteps.{client_entry}
-use Rattle.core_outputs.specs.Journals.{journal_of, name_spoken, names_spoken}
-use Rattle.core_outputs.proofs.Entries.{journal_with, journal-step}
-use Rattle.core_outputs.proofs.LegalJournals.{run-legal}
+use Rattle.core_events.proofs.DeskSteps.{client_entry}
+use Rattle.core_serial.specs.Journals.{journal_of, name_spoken, names_spoken}
+use Rattle.core_serial.proofs.Entries.{journal_with, journal-step}
+use Rattle.core_serial.proofs.LegalJournals.{run-legal}
 use Rattle.core_records.specs.CoreRecords.{RunScripts, record_of}
 use Rattle.core_records.specs.ScriptedCalls.{FollowScripts, SpeaksByScript, script_given, statement_in}
 use Rattle.core_records.proofs.CubesOnRecord.{follow-before, speaks-now}

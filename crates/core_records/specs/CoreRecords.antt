@@ -11,7 +11,7 @@ use Rattle.condition_spans.specs.Codes.{lists_at}
 use Rattle.query_plan.specs.Ties.{stored_for}
 use Rattle.core_events.specs.Cells.{desk_of, dictionary_of}
 use Rattle.core_events.specs.Events.{Opening, CoreEvent}
-use Rattle.core_outputs.specs.Journals.{journal_of}
+use Rattle.core_serial.specs.Journals.{journal_of}
 
 -- What a run is given: the script of each session, the file of each LOAD, by session and statement, and after how many
 -- commits of a session a round follows.

@@ -18,7 +18,7 @@ ghost use Rattle.core_events.specs.Cells.{desk_of, dictionary_of};
 ghost use Rattle.core_events.specs.Clients.{calls_of};
 ghost use Rattle.core_events.specs.Events.{CoreEvent, IsSession, Opening};
 ghost use Rattle.core_events.specs.Runs.{IsCoreRun};
-ghost use Rattle.core_outputs.specs.Journals.{journal_of};
+ghost use Rattle.core_serial.specs.Journals.{journal_of};
 ghost use Rattle.core_records.specs.CoreRecords.{RunScripts, record_of};
 ghost use Rattle.core_records.specs.OpeningNames.{OpensWithNames};
 ghost use Rattle.core_records.specs.OwnEntries.{entries_by_calls};

@@ -16,10 +16,10 @@ use Rattle.core_events.specs.Jobs.{CoreJob, Append, DropBox, Scan, Delta, Rollba
 use Rattle.core_events.specs.Runs.{IsCoreRun}
 use Rattle.core_events.specs.Serial.{CubeOperation, commits, counts_for, has_committed, operations_of, rows_after_transaction, rows_left_below}
 use Rattle.core_events.specs.ShardView.{EpochSet}
-use Rattle.core_parts.proofs.Blindness.{run-blind}
-use Rattle.core_parts.proofs.DeskSteps.{client_entry, run-step, state_with_entry}
-use Rattle.core_parts.proofs.Finished.{has-more, has-without}
-use Rattle.core_parts.proofs.InOrder.{AllowsEntry, StateAllows, run-allowed}
+use Rattle.core_events.proofs.Blindness.{run-blind}
+use Rattle.core_events.proofs.DeskSteps.{client_entry, run-step, state_with_entry}
+use Rattle.core_events.proofs.Finished.{has-more, has-without}
+use Rattle.core_events.proofs.InOrder.{AllowsEntry, StateAllows, run-allowed}
 use Rattle.core_serial.proofs.ToldBricks.{writer-of}
 use Rattle.core_serial.proofs.PostedJobs.{IsOtherEpoch}
 use Rattle.core_serial.proofs.PostedOperations.{other-operations}

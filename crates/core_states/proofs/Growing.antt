@@ -108,6 +108,7 @@ module _ {S : Type 0} (fits : Opening → ℕ → ShardCall → Type 0) (stands 
               state_is = refl;
               entries_are = refl;
             });
+        goes_on = h.left.more;
         stands_then = record {
           turn = in-turn-after past after sentence added one s.turn;
           begins = ([], append-nil now);

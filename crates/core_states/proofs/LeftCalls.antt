@@ -7,8 +7,8 @@ use Rattle.core_board.specs.Links.{AreEventsOf}
 use Rattle.core_board_cells.specs.BoardCells.{IsEntryEvent}
 use Rattle.core_cells.specs.declared.desk.DeskAnswer.{DeskAnswer}
 use Rattle.core_cells.specs.declared.desk.DeskCall.{DeskCall}
-use Rattle.core_callers.proofs.KnownCalls.{desk-learns, earlier-run}
-use Rattle.core_callers.specs.Knowing.{IsClientOf, IsLaterRun}
+use Rattle.core_program.proofs.KnownCalls.{desk-learns, earlier-run}
+use Rattle.core_program.specs.Knowing.{IsClientOf, IsLaterRun}
 use Rattle.core_events.specs.Clients.{ClientState, calls_of, state_from_calls}
 use Rattle.core_events.specs.Events.{Opening, ClientCall}
 use Rattle.core_events.specs.Jobs.{CoreJob, JobOutcome}

@@ -15,16 +15,16 @@ use Rattle.core_board.specs.Links.{AreEventsOf}
 use Rattle.core_board_cells.specs.BoardCells.{IsEntryEvent}
 use Rattle.core_cells.specs.declared.desk.DeskAnswer.TheVariants as answer
 use Rattle.core_cells.specs.declared.desk.DeskCall.TheVariants as call
-use Rattle.core_callers.proofs.KnownCalls.{client-part, desk-learns, earlier-run, go-on-from}
-use Rattle.core_callers.specs.Knowing.{IsClientOf, IsLaterRun, IsSessionOf}
-use Rattle.core_parts.proofs.DeskSteps.{client_entry}
+use Rattle.core_program.proofs.KnownCalls.{client-part, desk-learns, earlier-run, go-on-from}
+use Rattle.core_program.specs.Knowing.{IsClientOf, IsLaterRun, IsSessionOf}
+use Rattle.core_events.proofs.DeskSteps.{client_entry}
 use Rattle.core_events.specs.Clients.{calls_of}
 use Rattle.core_events.specs.Events.{Opening, OnDesk, TakeNote, ClientCall, CoreEvent, By, At}
 use Rattle.core_events.specs.Jobs.{CoreJob, JobOutcome}
 use Rattle.core_events.specs.Runs.{IsCoreRun}
 use Rattle.core_events.specs.ShardView.{ShardView}
-use Rattle.core_outputs.proofs.Entries.{journal_with, journal-step, run-counters}
-use Rattle.core_outputs.specs.Journals.{journal_of}
+use Rattle.core_serial.proofs.Entries.{journal_with, journal-step, run-counters}
+use Rattle.core_serial.specs.Journals.{journal_of}
 use Rattle.core_pasts.specs.OwnCalls.{OwnCallsLeave}
 use Rattle.core_program.specs.CoreFits.{CoreEntry}
 use Rattle.core_records.proofs.CubesOnRecord.{run-before}

@@ -2,6 +2,7 @@
 -- it then is; and each run that goes on from there answers the statement so.
 -- Source: this project's own.
 use Rattle.std.specs.Prelude.{◌≡◌, ℕ, ◌+◌, ◌≤◌, List, Option, unwrap_or}
+use mathlib.Core.List.{IsPrefix}
 use Rattle.core_events.specs.Events.{Opening, CoreEvent}
 use Rattle.core_events.specs.Jobs.{CoreJob, JobOutcome}
 use Rattle.core_events.specs.ShardView.{ShardView}
@@ -32,10 +33,11 @@ module _ {S : Type 0} (fits : Opening → ℕ → ShardCall → Type 0) (stands 
   -- A statement that says this is executed in runs whose rounds follow after so many commits, and the session is
   -- answered so.
   pub record HasExecutedInCore (session every : ℕ) (past : CorePast) (state : SessionState) (sentence : Sentence)
-      (now : List CoreEntry) (next : SessionState) (said : Reply) : Type 0 where
+      (own now : List CoreEntry) (next : SessionState) (said : Reply) : Type 0 where
     pub after : CorePast
     pub added : List JournalEntry
     pub more : IsOneMore past after sentence added
+    pub goes_on : IsPrefix own now
     pub becomes : next ≡ session_after state sentence added
     pub answers : (o : Opening) (given : RunScripts) (events : List CoreEvent)
         → IsRunFrom fits stands says cells caller session after o given events → given.round_every ≡ every
@@ -47,5 +49,5 @@ module _ {S : Type 0} (fits : Opening → ℕ → ShardCall → Type 0) (stands 
   ExecutesInCore sentence old own new now said =
       (past : CorePast) (watch : Option KeptWatch) → StandsInCore fits stands says cells caller old.number own past
       → old.statements ≡ last_number past
-      → HasExecutedInCore old.number (unwrap_or old.round_every 0) past (state_of_session old watch) sentence now
+      → HasExecutedInCore old.number (unwrap_or old.round_every 0) past (state_of_session old watch) sentence own now
       (state_of_session new watch) said

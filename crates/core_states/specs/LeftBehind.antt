@@ -6,9 +6,9 @@ use mathlib.Core.List.{IsPrefix}
 use Rattle.aosi_desk.specs.declared.cube.CubeFound.TheVariants.{Unknown}
 use Rattle.core_board.specs.Links.{AreEventsOf}
 use Rattle.core_board_cells.specs.BoardCells.{IsEntryEvent}
-use Rattle.core_callers.specs.Knowing.{IsLaterRun}
+use Rattle.core_program.specs.Knowing.{IsLaterRun}
 use Rattle.core_events.specs.Clients.{calls_of}
-use Rattle.core_events.specs.Events.{Opening, CreateCube, FindCube, ClientCall, OnDesk, Post, CoreEvent}
+use Rattle.core_events.specs.Events.{Opening, OpenRead, CloseRead, CreateCube, FindCube, ClientCall, OnDesk, Post, CoreEvent}
 use Rattle.core_events.specs.Jobs.{CoreJob, Append, DropBox, JobOutcome}
 use Rattle.core_events.specs.ShardView.{ShardView}
 use Rattle.core_pasts.specs.OwnCalls.{OwnCallsLeave}
@@ -18,10 +18,18 @@ use Rattle.cube_core.specs.declared.shard.ShardAnswer.{ShardAnswer}
 use Rattle.cube_core.specs.declared.shard.ShardCall.{ShardCall}
 use Rattle.cube_journal.specs.declared.journal_entry.JournalEntry.{JournalEntry}
 
--- A call that posts neither rows nor a deletion, and by which no cube is made or missed.
+-- A call that neither opens nor closes a reader.
+abbrev pub LeavesReaders : ClientCall → Type 0
+LeavesReaders (OnDesk (OpenRead holder statement epoch)) = ⊥
+LeavesReaders (OnDesk (CloseRead holder statement)) = ⊥
+LeavesReaders call = Unit {0}
+
+-- A call that posts neither rows nor a deletion, by which no cube is made or missed, and no reader opened or closed.
 abbrev pub IsPlainCall : ClientCall → Type 0
 IsPlainCall (OnDesk (CreateCube statement decl answer)) = ⊥
 IsPlainCall (OnDesk (FindCube statement name Unknown)) = ⊥
+IsPlainCall (OnDesk (OpenRead holder statement epoch)) = ⊥
+IsPlainCall (OnDesk (CloseRead holder statement)) = ⊥
 IsPlainCall (Post mail (Append cube epoch rows)) = ⊥
 IsPlainCall (Post mail (DropBox cube epoch box)) = ⊥
 IsPlainCall call = Unit {0}

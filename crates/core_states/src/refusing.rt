@@ -1,7 +1,7 @@
 //! Refusals of a session's statement, which is counted already.
 ghost use Rattle.std.specs.Prelude.{◌≡◌, ◌≢◌, false, [], ◌∷◌};
 ghost use Rattle.aosi_desk.specs.Desks.{is_cube_code};
-ghost use Rattle.core_callers.specs.Knowing.{IsClientOf, IsSessionOf};
+ghost use Rattle.core_program.specs.Knowing.{IsClientOf, IsSessionOf};
 ghost use Rattle.core_states.specs.LeftBehind.{LeavesBehind};
 ghost use Rattle.core_states.specs.StandingInCore.{HoldsForMode};
 ghost use Rattle.cube_journal.specs.Refusals.{code};

@@ -1,6 +1,6 @@
 //! SHOW EPOCHS, in whatever mode.
 ghost use Rattle.std.specs.Prelude.{◌≡◌, ◌<◌, ◌≤◌, []};
-ghost use Rattle.core_callers.specs.Knowing.{IsClientOf, IsSessionOf};
+ghost use Rattle.core_program.specs.Knowing.{IsClientOf, IsSessionOf};
 ghost use Rattle.core_states.specs.ExecutedInCore.{ExecutesInCore, HasOneMore};
 ghost use Rattle.core_states.specs.LeftBehind.{GoOnByCalls, IsPlainCall, LeavesBehind};
 ghost use Rattle.core_states.specs.StandingInCore.{HoldsForMode};

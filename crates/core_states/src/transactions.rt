@@ -1,6 +1,6 @@
 //! BEGIN, and ROLLBACK of a transaction that a fault ended.
 ghost use Rattle.std.specs.Prelude.{◌≡◌, ◌<◌, ◌≤◌, [], None};
-ghost use Rattle.core_callers.specs.Knowing.{IsClientOf, IsSessionOf};
+ghost use Rattle.core_program.specs.Knowing.{IsClientOf, IsSessionOf};
 ghost use Rattle.core_states.specs.ExecutedInCore.{ExecutesInCore, HasOneMore};
 ghost use Rattle.core_states.specs.LeftBehind.{GoOnByCalls, IsPlainCall, LeavesBehind};
 ghost use Rattle.core_states.specs.StandingInCore.{HoldsForMode};

@@ -5,7 +5,7 @@ use Rattle.client_calls.specs.ClientCalls.{desk_entry}
 use Rattle.condition_spans.specs.Spans.{CutNoBrick}
 use Rattle.core_cells.specs.declared.desk.DeskAnswer.TheVariants as said
 use Rattle.core_cells.specs.declared.desk.DeskCall.TheVariants as asked
-use Rattle.core_callers.specs.Knowing.{Knows}
+use Rattle.core_program.specs.Knowing.{Knows}
 use Rattle.core_events.specs.Clients.{calls_of, state_from_calls}
 use Rattle.core_program.specs.CoreFits.{CoreEntry}
 use Rattle.cube_core.specs.declared.cell.CoreCell.{CoreCell}

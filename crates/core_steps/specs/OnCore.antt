@@ -5,7 +5,7 @@ use Rattle.cube_values.specs.declared.shape.CubeShape.{CubeShape}
 use Rattle.cube_language.specs.declared.decl.Decl.{Decl}
 use Rattle.names_dict.specs.Dictionaries.{IsTextDimension}
 use Rattle.names_dict.specs.declared.code.Code.{Code}
-use Rattle.core_callers.specs.Knowing.{IsClientOf, IsMailAt, IsSessionOf, ServesClient}
+use Rattle.core_program.specs.Knowing.{IsClientOf, IsMailAt, IsSessionOf, ServesClient}
 use Rattle.core_events.specs.Clients.{number_by_code}
 use Rattle.core_program.specs.CoreFits.{CoreEntry}
 use Rattle.cube_core.specs.declared.cell.CoreCell.{CoreCell}

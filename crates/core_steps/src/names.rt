@@ -2,7 +2,7 @@
 ghost use Rattle.std.specs.Prelude.{◌≡◌, ◌+◌, ◌≤◌, ◌∷◌, ◌++◌, [], IsTrue, IfSome};
 ghost use Rattle.client_calls.specs.ClientCalls.{names_entry};
 ghost use Rattle.core_cells.specs.declared.names.NamesAnswer.TheVariants as answer;
-ghost use Rattle.core_callers.specs.Knowing.{Knows, MayCallNames};
+ghost use Rattle.core_program.specs.Knowing.{Knows, MayCallNames};
 ghost use Rattle.core_steps.specs.OnCore.{IsOnCore, IsToldOfCode, IsToldOfNumber, KnowsCubeOnCore};
 ghost use Rattle.cube_schema.specs.Schemas.{cube_of};
 ghost use Rattle.cube_values.specs.Shapes.{IsSoundCube};

@@ -1,7 +1,7 @@
 //! A session writes: within a transaction, or in one of its own.
 ghost use Rattle.std.specs.Prelude.{◌≡◌, ◌+◌, ◌≤◌, All, IfSome};
 ghost use Rattle.brick_map.specs.Batches.{IsRowOfCube};
-ghost use Rattle.core_callers.specs.Knowing.{Knows};
+ghost use Rattle.core_program.specs.Knowing.{Knows};
 ghost use Rattle.core_steps.specs.OnCore.{IsOnCore};
 ghost use Rattle.cube_values.specs.Shapes.{IsSoundCube};
 ghost use Rattle.known_holds.specs.KnownHolds.{HoldsNothing, HoldsWriter};

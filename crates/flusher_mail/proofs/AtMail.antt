@@ -4,14 +4,14 @@ use Rattle.mail_cell.specs.declared.answer.Taken.{Taken}
 use Rattle.mail_cell.specs.declared.answer.Taken.TheVariants.{Job as SomeJob, Empty, Closed}
 use Rattle.core_board.specs.Links.{AreEventsOf}
 use Rattle.core_board_cells.specs.BoardCells.{IsEntryEvent, WorkSuits, flusher_part, work_job}
-use Rattle.core_callers.proofs.KnownCalls.{earlier-run, split-last}
-use Rattle.core_callers.specs.Knowing.{IsLaterRun, IsMailAt}
+use Rattle.core_program.proofs.KnownCalls.{earlier-run, split-last}
+use Rattle.core_program.specs.Knowing.{IsLaterRun, IsMailAt}
 use Rattle.core_events.specs.Cells.{Free, worker_after, worker_of}
 use Rattle.core_events.specs.Events.{Opening, flush_mail, NoJob, Reply, Take, CoreEvent, At}
 use Rattle.core_events.specs.Jobs.{CoreJob, Flush, JobOutcome}
 use Rattle.core_events.specs.ShardView.{ShardView}
-use Rattle.core_callers.proofs.FlusherCalls.{closed-learns, none-learns, reply-learns}
-use Rattle.core_callers.specs.Flushing.{GoOnByEvent, IsFlusherOf, KnowsPart, PartClaim}
+use Rattle.core_program.proofs.FlusherCalls.{closed-learns, none-learns, reply-learns}
+use Rattle.core_program.specs.Flushing.{GoOnByEvent, IsFlusherOf, KnowsPart, PartClaim}
 use Rattle.core_program.specs.CoreFits.{CoreEntry, OpensCells}
 use Rattle.cube_core.specs.declared.cell.CoreCell.{CoreCell}
 use Rattle.cube_core.specs.declared.jobs.FlushAnswer.{FlushAnswer}

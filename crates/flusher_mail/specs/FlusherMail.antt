@@ -9,14 +9,14 @@ use Rattle.core_board.specs.Links.{AreEventsOf}
 use Rattle.core_board_cells.specs.BoardCells.{FlusherPart, IsEntryEvent}
 use Rattle.core_cells.specs.declared.mail.MailAnswer.TheVariants as got
 use Rattle.core_cells.specs.declared.mail.MailCall.TheVariants as mail
-use Rattle.core_callers.specs.Knowing.{IsLaterRun}
+use Rattle.core_program.specs.Knowing.{IsLaterRun}
 use Rattle.core_events.specs.Cells.{Free, Took, WorkerState, worker_of}
 use Rattle.core_events.specs.Clients.{state_from_calls}
 use Rattle.core_events.specs.Events.{Opening, flusher, NoJob, Reply, Take, WorkerMove, CoreEvent, At}
 use Rattle.core_events.specs.Jobs.{CoreJob, Flush, JobOutcome}
 use Rattle.core_events.specs.ShardView.{ShardView}
-use Rattle.core_callers.specs.Flushing.{GoOnByAnswer, GoOnByEvent, PartClaim}
-use Rattle.core_parts.specs.Histories.{job_served}
+use Rattle.core_program.specs.Flushing.{GoOnByAnswer, GoOnByEvent, PartClaim}
+use Rattle.core_events.specs.Histories.{job_served}
 use Rattle.core_program.specs.CoreFits.{CoreEntry}
 use Rattle.cube_core.specs.declared.cell.CoreAnswer.TheVariants as answer
 use Rattle.cube_core.specs.declared.cell.CoreCall.TheVariants as call

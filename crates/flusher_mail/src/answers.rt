@@ -1,6 +1,6 @@
 //! What comes back from the flusher's calls on its mail.
 ghost use Rattle.std.specs.Prelude.{◌≡◌, ℕ};
-ghost use Rattle.core_callers.specs.AnswersOfCalls.{CoreAnswers, MailAnswers};
+ghost use Rattle.core_program.specs.AnswersOfCalls.{CoreAnswers, MailAnswers};
 ghost use Rattle.core_cells.specs.declared.mail.MailAnswer.TheVariants as got;
 ghost use Rattle.core_cells.specs.declared.mail.MailCall.TheVariants as mail;
 ghost use Rattle.cube_core.specs.declared.cell.CoreAnswer.TheVariants as answer;

@@ -1,7 +1,7 @@
 //! The law of the flusher before its first call.
 
 ghost use Rattle.std.specs.Prelude.{ℕ, List, [], false};
-ghost use Rattle.core_callers.specs.Flushing.{KnowsPart};
+ghost use Rattle.core_program.specs.Flushing.{KnowsPart};
 ghost use Rattle.cube_core.specs.declared.cell.CoreCell.{CoreCell};
 ghost use Rattle.flusher_mail.specs.FlusherMail.{HasNoFlush};
 

@@ -1,7 +1,7 @@
 //! Taking a FLUSH and replying to it.
 ghost use Rattle.std.specs.Prelude.{◌≡◌, ◌+◌, ◌≤◌, Bool, [], ◌∷◌, ◌++◌};
-ghost use Rattle.core_callers.specs.Knowing.{IsMailAt};
-ghost use Rattle.core_callers.specs.Flushing.{IsFlusherOf, KnowsPart, MayReplyTo, MayTakeJob};
+ghost use Rattle.core_program.specs.Knowing.{IsMailAt};
+ghost use Rattle.core_program.specs.Flushing.{IsFlusherOf, KnowsPart, MayReplyTo, MayTakeJob};
 ghost use Rattle.cube_core.specs.declared.jobs.JobAnswer.TheVariants as reply;
 ghost use Rattle.flusher_mail.specs.FlusherMail.{HasFlush, HasNoFlush, IsAtMailAfter, LearnsOfReply, LearnsOfTake, reply_entry, take_entry};
 ghost use Rattle.turn_board.specs.Passes.{callers_of};
@@ -9,11 +9,11 @@ ghost use Rattle.turn_board.specs.Passes.{callers_of};
 use crate::answers::{expect_replied, taken_in};
 use board_callers::CellCaller;
 use core_board_cells::LinkedShard;
-use core_callers::{
-    answers_fit_their_calls, the_flusher_fits_by_what_it_knows, the_flusher_learns_by_each_call,
-};
 use core_cells::MailCall;
-use core_program::{CoreCells, CoreSize};
+use core_program::{
+    CoreCells, CoreSize, answers_fit_their_calls, the_flusher_fits_by_what_it_knows,
+    the_flusher_learns_by_each_call,
+};
 use cube_core::{CoreCall, FlushAnswer, Job, JobAnswer};
 use mail_cell::Taken;
 use std::sync::Wait;

@@ -18,7 +18,7 @@
 use Rattle.std.specs.Prelude.{◌≡◌, ℕ, Bool, true, false, Some, None}
 use Rattle.core_cells.specs.declared.names.NamesAnswer.{NamesAnswer}
 use Rattle.core_cells.specs.declared.names.NamesCall.{NamesCall}
-use Rattle.core_outputs.specs.Copies.{HasCopied}
+use Rattle.core_serial.specs.Copies.{HasCopied}
 use Rattle.core_events.specs.Clients.{OwnRound, ClientState, after_client_call}
 use Rattle.core_events.specs.Events.{Opening, flusher}
 use Rattle.core_events.specs.Groups.{has_refusal, is_empty, is_ready}

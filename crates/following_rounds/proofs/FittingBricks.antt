@@ -25,7 +25,7 @@ use Rattle.core_events.specs.ShardView.{BrickEntry, RowRun, RowMark, ShardView, 
 use Rattle.core_events.proofs.RoundEntries.{IsOfRound}
 use Rattle.core_events.specs.Clients.{client_state}
 use Rattle.core_events.specs.Runs.{IsCoreRun}
-use Rattle.core_outputs.specs.Copies.{HasCopied, copies_by}
+use Rattle.core_serial.specs.Copies.{HasCopied, copies_by}
 use Rattle.copied_rows.specs.CopiedRows.{IsCopiedBrick, IsPlacedRow, KeptAreCubeRows}
 use Rattle.copied_rows.proofs.CopiedBricks.{copied-bricks}
 use Rattle.shard_views.specs.Views.{brick_entry, entries_newest_first, part_view}

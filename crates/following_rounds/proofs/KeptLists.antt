@@ -16,7 +16,7 @@ use Rattle.core_events.specs.Clients.{client_state}
 use Rattle.core_events.specs.Events.{Opening, CoreEvent}
 use Rattle.core_events.specs.ShardView.{ShardView}
 use Rattle.core_events.proofs.Names.{names-grow}
-use Rattle.core_outputs.specs.Copies.{copies_by}
+use Rattle.core_serial.specs.Copies.{copies_by}
 use Rattle.following_rounds.specs.FollowingRounds.{HoldsSince, IsCopiedCube, IsKeptAfter, IsRoundOfRun}
 use Rattle.following_rounds.proofs.ByPlaces.{at-places, in-either, mapped, side-by-side, some-at, zip-append, zip-by-places, zip-long, zipped}
 use Rattle.following_rounds.proofs.MadeCubes.{cubes-behind, cubes-grow}

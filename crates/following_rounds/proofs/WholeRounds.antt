@@ -14,8 +14,8 @@ use Rattle.core_events.specs.Clients.{client_state}
 use Rattle.core_events.specs.Events.{Opening, CoreEvent}
 use Rattle.core_events.specs.Runs.{IsCoreRun}
 use Rattle.core_events.specs.ShardView.{ShardView}
-use Rattle.core_outputs.specs.Copies.{copies_by}
-use Rattle.core_outputs.proofs.StoreRows.{round-of}
+use Rattle.core_serial.specs.Copies.{copies_by}
+use Rattle.core_serial.proofs.StoreRows.{round-of}
 use Rattle.core_records.proofs.CubesOnRecord.{cube-stays, run-before}
 use Rattle.following_rounds.specs.FollowingRounds.{HasNamesFor, HasStorableValues, HoldsSince, IsCopiedCube, IsCopiedPart, IsKeptAfter, IsRoundOfRun, IsStorableRound, OpensForRounds}
 use Rattle.following_rounds.proofs.ByPlaces.{all-by-places, at-place, at-places, zip-by-places, zip-long, zipped}

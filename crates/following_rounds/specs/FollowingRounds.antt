@@ -21,7 +21,7 @@ use Rattle.core_events.specs.Clients.{client_state}
 use Rattle.core_events.specs.Events.{Opening, CoreEvent}
 use Rattle.core_events.specs.Fitting.{CanBeMade}
 use Rattle.core_events.specs.ShardView.{ShardView}
-use Rattle.core_outputs.specs.Copies.{HasCopied, copies_by}
+use Rattle.core_serial.specs.Copies.{HasCopied, copies_by}
 use Rattle.core_records.specs.OpeningNames.{OpensWithNames}
 use Rattle.copied_rows.specs.CopiedRows.{KeptAreCubeRows}
 use Rattle.shard_views.specs.Views.{part_view}

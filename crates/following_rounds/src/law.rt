@@ -18,7 +18,7 @@ ghost use Rattle.core_events.specs.Clients.{client_state};
 ghost use Rattle.core_events.specs.Events.{CoreEvent, Opening};
 ghost use Rattle.core_events.specs.Fitting.{CanBeMade};
 ghost use Rattle.core_events.specs.Runs.{IsCoreRun};
-ghost use Rattle.core_outputs.specs.Copies.{HasCopied, copies_by};
+ghost use Rattle.core_serial.specs.Copies.{HasCopied, copies_by};
 ghost use Rattle.core_records.specs.OpeningNames.{SuitsDimension};
 ghost use Rattle.cube_language.specs.Cubes.{first_repeated};
 ghost use Rattle.cube_language.specs.CubesText.{Declares};

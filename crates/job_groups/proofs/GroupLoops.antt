@@ -6,8 +6,8 @@ use Rattle.mail_cell.specs.declared.answer.Fetched.TheVariants.{Got, NotYet}
 use Rattle.client_calls.specs.ClientCalls.{HasFetched, LearnsByFetch, ask_entry, post_entry}
 use Rattle.core_board.specs.Links.{AreEventsOf}
 use Rattle.core_board_cells.specs.BoardCells.{IsEntryEvent, call_job, job_asked}
-use Rattle.core_callers.specs.Knowing.{GoOnBy, IsLaterRun, Knows, MayFetchFrom, MayPostJob}
-use Rattle.core_callers.proofs.KnownCalls.{earlier-run}
+use Rattle.core_program.specs.Knowing.{GoOnBy, IsLaterRun, Knows, MayFetchFrom, MayPostJob}
+use Rattle.core_program.proofs.KnownCalls.{earlier-run}
 use Rattle.core_events.specs.Clients.{calls_of, state_from_calls}
 use Rattle.core_events.specs.Events.{Opening, ClientCall, Post, CoreEvent}
 use Rattle.core_events.specs.Groups.{JobGroup, Received}

@@ -3,9 +3,9 @@ use Rattle.std.proofs.Common.{◌≡◌, ◌∙◌, ℕ, zero, suc, ◌+◌, ◌
 use Rattle.std.proofs.lemmas.Option.{none-some, same_Some, slice_get_within}
 use Rattle.std.specs.List.{AllByRecursion, IsDistinct}
 use Rattle.core_board.specs.Links.{AreEventsOf}
-use Rattle.core_parts.proofs.Counts.{in-order}
+use Rattle.core_events.proofs.Counts.{in-order}
 use Rattle.core_board_cells.specs.BoardCells.{AnswerSays, IsEntryEvent, call_job}
-use Rattle.core_callers.specs.Knowing.{MayPostJob, last_posted}
+use Rattle.core_program.specs.Knowing.{MayPostJob, last_posted}
 use Rattle.core_events.specs.Clients.{ClientState, after_client_call, calls_of, flush_after_fetch, state_from_calls}
 use Rattle.core_events.specs.Events.{Opening, Post, Fetch, NoChange, ClientCall, CoreEvent, By}
 use Rattle.core_events.specs.Fitting.{BeginsGroup, FitsCall, IsFor, JoinsGroup}

@@ -4,7 +4,7 @@ use Rattle.std.specs.Prelude.{◌≡◌, ℕ, ◌+◌, ◌<◌, true, List, [], 
 use Rattle.std.specs.List.{AllByRecursion}
 use Rattle.core_board.specs.Links.{AreEventsOf}
 use Rattle.core_board_cells.specs.BoardCells.{AnswerSays, IsEntryEvent, call_job}
-use Rattle.core_callers.specs.Knowing.{IsMailAt, ServesClient}
+use Rattle.core_program.specs.Knowing.{IsMailAt, ServesClient}
 use Rattle.core_events.specs.Clients.{ClientState, calls_of, state_from_calls}
 use Rattle.core_events.specs.Events.{Opening, Post, Fetch, NoChange, ClientCall, CoreEvent, By}
 use Rattle.core_events.specs.Fitting.{Bears}

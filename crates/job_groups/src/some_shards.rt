@@ -1,7 +1,7 @@
 //! One call for each of some shards.
 ghost use Rattle.std.specs.Prelude.{◌≡◌, ◌+◌, ◌<◌, ◌≤◌, [], length, nat_eq, All, vec_capacity};
 ghost use Rattle.std.specs.List.{IsDistinct};
-ghost use Rattle.core_callers.specs.Knowing.{IsClientOf, Knows};
+ghost use Rattle.core_program.specs.Knowing.{IsClientOf, Knows};
 ghost use Rattle.job_groups.specs.AskedEach.{AreOfOneKind, AreShardMails, HasMore};
 ghost use Rattle.job_groups.specs.AskedSome.{LearnsOfSome, MayAskSome};
 ghost use Rattle.turn_board.specs.Passes.{callers_of};
@@ -9,8 +9,7 @@ ghost use Rattle.turn_board.specs.Passes.{callers_of};
 use board_callers::CellCaller;
 use client_calls::{fetch_answer, post_job};
 use core_board_cells::LinkedShard;
-use core_callers::clients_learn_by_each_call;
-use core_program::{CoreCells, CoreSize};
+use core_program::{CoreCells, CoreSize, clients_learn_by_each_call};
 use cube_core::{Job, JobAnswer, ShardCall, Work};
 use std::sync::Wait;
 use turn_board::Board;

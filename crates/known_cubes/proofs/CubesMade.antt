@@ -16,7 +16,7 @@ use Rattle.core_events.specs.Clients.{client_state}
 use Rattle.core_events.specs.Events.{Opening, CreateCube, FindCube, ClientCall, OnDesk, CoreEvent, By, At}
 use Rattle.core_events.specs.Fitting.{CanBeMade, FitsCall}
 use Rattle.core_events.specs.Runs.{IsCoreRun, CallSays}
-use Rattle.core_parts.proofs.Agreement.{opening-of}
+use Rattle.core_events.proofs.Agreement.{opening-of}
 use Rattle.known_cubes.specs.KnownCubes.{AreMadeAfter}
 
 -- A cube can be added to cubes: it can be made, its name is new, and there is room.

@@ -22,7 +22,7 @@ use Rattle.names_dict.specs.Dictionaries.{IsTextDimension}
 use Rattle.core_cells.specs.declared.names.NamesAnswer.{NamesAnswer}
 use Rattle.core_cells.specs.declared.names.NamesAnswer.TheVariants as told
 use Rattle.core_cells.specs.declared.names.NamesCall.TheVariants as names
-use Rattle.core_callers.specs.Knowing.{IsClientOf, IsSessionOf, Knows, MayCallNames}
+use Rattle.core_program.specs.Knowing.{IsClientOf, IsSessionOf, Knows, MayCallNames}
 use Rattle.core_events.specs.Cells.{sizes_of_cube}
 use Rattle.core_events.specs.Clients.{ClientState, calls_of, state_from_calls}
 use Rattle.core_events.specs.Events.{Opening, IsSession}

@@ -5,7 +5,7 @@ use Rattle.std.proofs.lemmas.List.Elements.{All-contains, All-from_recursion, Co
 use Rattle.std.proofs.lemmas.Option.{none-some}
 use Rattle.core_board.specs.Links.{AreEventsAfter}
 use Rattle.core_board_cells.specs.BoardCells.{IsEntryEvent, IsEventOf, client_of}
-use Rattle.core_callers.specs.Knowing.{IsClientOf, IsLaterRun, Knows}
+use Rattle.core_program.specs.Knowing.{IsClientOf, IsLaterRun, Knows}
 use Rattle.core_events.proofs.Names.{codes-stay, names-grow, number-is-place}
 use Rattle.core_events.specs.Cells.{dictionary_of}
 use Rattle.core_events.specs.Clients.{ClientState, client_state, greater_of, greater_where, names_by_number, number_by_code}

@@ -12,7 +12,7 @@ use Rattle.aosi_desk.specs.declared.cube.CubeFound.TheVariants.{Found}
 use Rattle.names_dict.specs.Dictionaries.{IsTextDimension}
 use Rattle.core_cells.specs.declared.desk.DeskAnswer.TheVariants as said
 use Rattle.core_cells.specs.declared.desk.DeskCall.TheVariants as asked
-use Rattle.core_callers.specs.Knowing.{Claim}
+use Rattle.core_program.specs.Knowing.{Claim}
 use Rattle.core_events.specs.Clients.{ClientState, state_from_calls}
 use Rattle.core_events.specs.Events.{Opening}
 use Rattle.core_events.specs.Fitting.{CanBeMade}

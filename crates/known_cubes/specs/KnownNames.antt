@@ -5,7 +5,7 @@ use Rattle.cube_values.specs.declared.shape.CubeShape.{CubeShape}
 use Rattle.names_dict.specs.declared.code.Code.{Code}
 use Rattle.core_cells.specs.declared.names.NamesAnswer.TheVariants as told
 use Rattle.core_cells.specs.declared.names.NamesCall.TheVariants as names
-use Rattle.core_callers.specs.Knowing.{Claim}
+use Rattle.core_program.specs.Knowing.{Claim}
 use Rattle.core_events.specs.Clients.{number_by_code, state_from_calls}
 use Rattle.core_program.specs.CoreFits.{CoreEntry}
 use Rattle.cube_core.specs.declared.cell.CoreAnswer.{CoreAnswer}

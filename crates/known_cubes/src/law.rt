@@ -7,7 +7,7 @@ ghost use Rattle.condition_spans.specs.Spans.{CutNoBrick};
 ghost use Rattle.core_board.specs.Links.{AreEventsOf};
 ghost use Rattle.core_board_cells.specs.BoardCells.{IsEntryEvent};
 ghost use Rattle.core_cells.specs.declared.names.NamesCall.TheVariants as names;
-ghost use Rattle.core_callers.specs.Knowing.{IsClientOf, IsLaterRun, IsSessionOf, Knows, MayCallNames};
+ghost use Rattle.core_program.specs.Knowing.{IsClientOf, IsLaterRun, IsSessionOf, Knows, MayCallNames};
 ghost use Rattle.core_events.specs.Cells.{desk_of, dictionary_of, sizes_of_cube};
 ghost use Rattle.core_events.specs.Clients.{ClientState, state_from_calls};
 ghost use Rattle.core_events.specs.Events.{ClientCall, CoreEvent, IsSession, Opening};

@@ -2,7 +2,7 @@
 -- Source: AOSI (ICDE 2018) for readers and writers; what is known by own calls is this project's own.
 use Rattle.std.specs.Prelude.{ℕ, List, Option}
 use Rattle.cube_values.specs.declared.snapshot.Snapshot.{Snapshot}
-use Rattle.core_callers.specs.Knowing.{Knows}
+use Rattle.core_program.specs.Knowing.{Knows}
 use Rattle.core_events.specs.Clients.{ClientState, state_from_calls}
 use Rattle.core_events.specs.Events.{Opening}
 use Rattle.core_events.specs.Jobs.{CoreJob, JobOutcome}

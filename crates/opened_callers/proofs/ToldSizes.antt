@@ -3,12 +3,12 @@ use Rattle.std.proofs.Common.{◌≡◌, ◌∙◌, ℕ, ◌+◌, ◌<◌, ◌�
 use Rattle.aosi_desk.specs.Desks.{DeskState}
 use Rattle.core_board_cells.specs.BoardCells.{StandsInCell}
 use Rattle.core_board_cells.proofs.OwnEntries.{client-low}
-use Rattle.core_callers.specs.Knowing.{IsClientOf, IsSessionOf, IsMailAt, ServesClient}
+use Rattle.core_program.specs.Knowing.{IsClientOf, IsSessionOf, IsMailAt, ServesClient}
 use Rattle.core_events.specs.Events.{Opening, flush_mail}
-use Rattle.core_callers.proofs.FlusherCalls.{is-client}
-use Rattle.core_callers.specs.Flushing.{IsFlusherOf}
+use Rattle.core_program.proofs.FlusherCalls.{is-client}
+use Rattle.core_program.specs.Flushing.{IsFlusherOf}
 use Rattle.core_program.specs.CoreFits.{CoreEntry, OpensCells}
-use Rattle.core_callers.specs.Workers.{IsWorkerOf}
+use Rattle.core_program.specs.Workers.{IsWorkerOf}
 use Rattle.cube_core.specs.declared.cell.CoreCell.{CoreCell}
 use Rattle.cube_core.specs.declared.cell.CoreCell.TheVariants as cell
 use Rattle.cube_rounds.specs.Stands.{Kept}

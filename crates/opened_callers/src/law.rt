@@ -1,9 +1,9 @@
 //! The law of an opened core's callers.
 
 ghost use Rattle.std.specs.Prelude.{◌+◌, ◌<◌, ◌≤◌, ℕ, List};
-ghost use Rattle.core_callers.specs.Knowing.{IsClientOf, IsSessionOf, IsMailAt, ServesClient};
-ghost use Rattle.core_callers.specs.Flushing.{IsFlusherOf};
-ghost use Rattle.core_callers.specs.Workers.{IsWorkerOf};
+ghost use Rattle.core_program.specs.Knowing.{IsClientOf, IsSessionOf, IsMailAt, ServesClient};
+ghost use Rattle.core_program.specs.Flushing.{IsFlusherOf};
+ghost use Rattle.core_program.specs.Workers.{IsWorkerOf};
 ghost use Rattle.cube_core.specs.declared.cell.CoreCell.{CoreCell};
 ghost use Rattle.cube_rounds.specs.Stands.{Kept};
 ghost use Rattle.job_groups.specs.AskedEach.{AreShardMails};

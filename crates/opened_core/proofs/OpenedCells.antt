@@ -17,7 +17,7 @@ use Rattle.mail_cell.specs.State.{MailState, new_mail}
 use Rattle.mail_cell.specs.declared.place.Place.TheVariants.{Idle}
 use Rattle.names_dict.specs.Dictionaries.{Dictionary, dictionary_for}
 use Rattle.turn_board.proofs.Places.{at_end}
-use Rattle.core_parts.proofs.Counts.{in-order}
+use Rattle.core_events.proofs.Counts.{in-order}
 use Rattle.core_board_cells.specs.BoardCells.{AnswerSays, JobsSuit, StandsInCell, job_asked}
 use Rattle.core_events.specs.Events.{Opening, IsOpening}
 use Rattle.core_links.specs.MailEvents.{IsMailCellOf, clients_of}

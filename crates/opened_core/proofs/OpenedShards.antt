@@ -18,7 +18,7 @@ use Rattle.cube_rounds.specs.declared.round.Round.{Round}
 use Rattle.cube_rounds.specs.Stands.{Kept}
 use Rattle.brick_address.specs.Addresses.{brick_of}
 use Rattle.brick_map.specs.Births.{BrickContent, CubeState, content_with_rows, rows_of_brick}
-use Rattle.core_parts.proofs.Counts.{in-order}
+use Rattle.core_events.proofs.Counts.{in-order}
 use Rattle.core_events.specs.ShardView.{rows_where}
 use Rattle.kept_batches.specs.KeptBatches.{IsKeptBatch, LiesInShard}
 use Rattle.linked_shards.specs.declared.cell.CoreShard.{CoreShard}

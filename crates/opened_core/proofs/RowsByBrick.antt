@@ -3,7 +3,7 @@ use Rattle.std.proofs.Common.{◌≡◌, ◌≢◌, ◌∙◌, ℕ, zero, suc, �
 use Rattle.std.proofs.lemmas.List.Elements.{filter-append}
 use Rattle.std.specs.List.{AllByRecursion, flat_map, range_with_len, count_by}
 use Rattle.cube_values.specs.declared.row.CodedRow.{CodedRow}
-use Rattle.core_parts.proofs.Counts.{count-cons, in-order}
+use Rattle.core_events.proofs.Counts.{count-cons, in-order}
 use Rattle.core_events.specs.ShardView.{rows_where}
 use Rattle.core_serial.proofs.Permutations.{alike-by-key}
 

@@ -7,7 +7,7 @@ use Rattle.brick_address.specs.Addresses.{brick_of}
 use Rattle.core_agreements.specs.PostsForOperations.{StandForAll, rows_of_batches}
 use Rattle.core_events.specs.Events.{ClientCall, OnDesk, OnNames, Post, Fetch, CloseMail, NoChange}
 use Rattle.core_events.specs.Jobs.{Append, DropBox, Scan, Delta, Rollback, Purge, CopyRound, Flush}
-use Rattle.core_parts.proofs.Counts.{count-append, count-cons, count-filter}
+use Rattle.core_events.proofs.Counts.{count-append, count-cons, count-filter}
 use Rattle.core_serial.proofs.Permutations.{permuted-by-counts}
 use Rattle.cube_language.specs.declared.decl.Decl.{Decl}
 use Rattle.cube_values.specs.declared.row.CodedRow.{CodedRow}

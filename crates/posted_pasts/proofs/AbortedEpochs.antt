@@ -13,9 +13,9 @@ use Rattle.core_events.specs.Clients.{calls_of}
 use Rattle.core_events.specs.Events.{Opening, OpenWrite, OpenRead, Commit, AbortEnd, CloseRead, TakeNote, CreateCube, FindCube, CubesFrom, CountersNow, RoundOpen, RoundClose, StoreFailed, ClientCall, OnDesk, OnNames, Post, Fetch, CloseMail, NoChange, CoreEvent, By, At}
 use Rattle.core_events.specs.Runs.{IsCoreRun}
 use Rattle.core_events.specs.Serial.{aborts, has_aborted}
-use Rattle.core_outputs.proofs.Entries.{journal_with}
-use Rattle.core_parts.proofs.DeskSteps.{client_entry}
-use Rattle.core_parts.proofs.Finished.{none-both, or-is, run-finished}
+use Rattle.core_serial.proofs.Entries.{journal_with}
+use Rattle.core_events.proofs.DeskSteps.{client_entry}
+use Rattle.core_events.proofs.Finished.{none-both, or-is, run-finished}
 use Rattle.core_records.proofs.SessionParts.{desk-journal}
 use Rattle.core_records.specs.OwnEntries.{desk_by_calls, entries_by_calls}
 use Rattle.cube_journal.specs.Counters.{held_by}

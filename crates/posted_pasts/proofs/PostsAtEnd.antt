@@ -8,8 +8,8 @@ use Rattle.core_agreements.specs.PostsForOperations.{PostsStandFor}
 use Rattle.core_agreements.specs.ScriptedRuns.{CommitsStand, IsAtStatement}
 use Rattle.core_board.specs.Links.{AreEventsOf, HasOwnEvents}
 use Rattle.core_board_cells.specs.BoardCells.{IsEntryEvent, client_of}
-use Rattle.core_callers.proofs.KnownCalls.{client-part}
-use Rattle.core_callers.specs.Knowing.{IsLaterRun}
+use Rattle.core_program.proofs.KnownCalls.{client-part}
+use Rattle.core_program.specs.Knowing.{IsLaterRun}
 use Rattle.core_events.specs.Cells.{counters_of_run}
 use Rattle.core_events.specs.Clients.{calls_of}
 use Rattle.core_events.specs.Events.{Opening, IsSession, CoreEvent}
@@ -59,9 +59,9 @@ none-in-front false b is = refl
 
 module _ {S : Type 0} (fits : Opening → ℕ → ShardCall → Type 0) (stands : Opening → ℕ → ℕ → S → ShardView → Type 0)
     (says : CoreJob → ShardAnswer → JobOutcome → Type 0) (cells : List (CoreCell S)) where
-  module _ (o : Opening) (given : RunScripts) (log : List CoreEntry) (besides : RunClaim) (events : List CoreEvent)
+  module _ (o : Opening) (given : RunScripts) (log : List CoreEntry) (besides judged : RunClaim) (events : List CoreEvent)
       (session : ℕ) (replies : List Reply) (h : IsScriptedHistory fits stands says cells o given log events)
-      (e : HasEnded fits stands says cells o given log besides session replies) where
+      (e : HasEnded fits stands says cells o given log judged session replies) where
     abbrev number : ℕ
     number = last_number e.past + 1
 

@@ -10,8 +10,8 @@ use Rattle.condition_spans.specs.Codes.{lists_at}
 use Rattle.core_agreements.specs.PostsForOperations.{PostsStandFor, no_posts}
 use Rattle.core_board.specs.Links.{AreEventsOf}
 use Rattle.core_board_cells.specs.BoardCells.{IsEntryEvent}
-use Rattle.core_callers.proofs.KnownCalls.{earlier-run}
-use Rattle.core_callers.specs.Knowing.{IsLaterRun}
+use Rattle.core_program.proofs.KnownCalls.{earlier-run}
+use Rattle.core_program.specs.Knowing.{IsLaterRun}
 use Rattle.core_events.specs.Clients.{calls_of}
 use Rattle.core_events.specs.Events.{Opening, ClientCall, CoreEvent}
 use Rattle.core_events.specs.Jobs.{CoreJob, JobOutcome}

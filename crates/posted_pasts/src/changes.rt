@@ -80,30 +80,30 @@ pub fn calls_add_operations()
 /// the session added batches that stand for them, and no other operation; and with one that dropped a
 /// region, where they added its box.
 pub fn changes_are_posted<S: LinkedShard, B: Besides>()
-    ensures put { (cells : List (CoreCell S)) (caller session cube epoch : ℕ)
+    ensures put { (asked : B) (cells : List (CoreCell S)) (caller session cube epoch : ℕ)
         (batches : List (List CodedRow)) (before after : CorePast) (own now : List CoreEntry)
         (state : SessionState) (sentence : Sentence) (added : List JournalEntry)
         → IsInTurn before → IsOneMore before after sentence added → IsPrefix own now
         → LearnsThat S.fits S.stands S.says (AddsOperations cube epoch (batches_posted batches))
         cells caller session own now
-        → AsksCubesApart B.claim
-        → InEachRun S.fits S.stands S.says cells caller session B.claim after
+        → AsksCubesApart (B.claim asked)
+        → InEachRun S.fits S.stands S.says cells caller session (B.claim asked) after
         (λ run. HasPutRows run (last_step session after state sentence added) cube epoch batches)
-        → PostsStandBehind S.fits S.stands S.says cells caller session B.claim before own
+        → PostsStandBehind S.fits S.stands S.says cells caller session (B.claim asked) before own
         state
-        → PostsStandBehind S.fits S.stands S.says cells caller session B.claim after now
+        → PostsStandBehind S.fits S.stands S.says cells caller session (B.claim asked) after now
         (session_after state sentence added) }
-    ensures dropped { (cells : List (CoreCell S)) (caller session cube epoch : ℕ) (box : Span)
+    ensures dropped { (asked : B) (cells : List (CoreCell S)) (caller session cube epoch : ℕ) (box : Span)
         (before after : CorePast) (own now : List CoreEntry) (state : SessionState)
         (sentence : Sentence) (added : List JournalEntry)
         → IsInTurn before → IsOneMore before after sentence added → IsPrefix own now
         → LearnsThat S.fits S.stands S.says (AddsOperations cube epoch (DropRows box ∷ []))
         cells caller session own now
-        → AsksCubesApart B.claim
-        → InEachRun S.fits S.stands S.says cells caller session B.claim after
+        → AsksCubesApart (B.claim asked)
+        → InEachRun S.fits S.stands S.says cells caller session (B.claim asked) after
         (λ run. HasDroppedRegion run (last_step session after state sentence added) cube epoch box)
-        → PostsStandBehind S.fits S.stands S.says cells caller session B.claim before own
+        → PostsStandBehind S.fits S.stands S.says cells caller session (B.claim asked) before own
         state
-        → PostsStandBehind S.fits S.stands S.says cells caller session B.claim after now
+        → PostsStandBehind S.fits S.stands S.says cells caller session (B.claim asked) after now
         (session_after state sentence added) }
 {}

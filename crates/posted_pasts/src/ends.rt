@@ -22,15 +22,15 @@ ghost use Rattle.posted_pasts.specs.PostsBehind.{IsRunWithCalls, PostsStandBehin
 use core_board_cells::LinkedShard;
 use core_pasts::Besides;
 
-/// Where a session has played its script, and its posts stand for what is behind it, so do those of
-/// each transaction that it committed.
-pub fn posts_stand_for_commits<S: LinkedShard, B: Besides>()
-    ensures { (cells : List (CoreCell S)) (o : Opening) (given : RunScripts)
+/// Where a session has played its script, whatever its replies are promised for, and its posts stand for
+/// what is behind it, so do those of each transaction that it committed.
+pub fn posts_stand_for_commits<S: LinkedShard, B: Besides, J: Besides>()
+    ensures { (asked : B) (judged : J) (cells : List (CoreCell S)) (o : Opening) (given : RunScripts)
         (log : List CoreEntry) (events : List CoreEvent) (session : ℕ) (replies : List Reply)
         (state : SessionState) → IsScriptedHistory S.fits S.stands S.says cells o given log events
-        → IsSession o session → B.claim o given events
-        → (ended : HasEnded S.fits S.stands S.says cells o given log B.claim session replies)
-        → PostsStandBehind S.fits S.stands S.says cells ended.caller session B.claim
+        → IsSession o session → B.claim asked o given events
+        → (ended : HasEnded S.fits S.stands S.says cells o given log (J.claim judged) session replies)
+        → PostsStandBehind S.fits S.stands S.says cells ended.caller session (B.claim asked)
         ended.past (ended.past.own ++ ended.ending) state
         → CommitsStand o given events session }
 {}
@@ -38,12 +38,12 @@ pub fn posts_stand_for_commits<S: LinkedShard, B: Besides>()
 /// A session that holds a writer, and whose posts stand for what is behind it, is at its next statement
 /// inside the transaction: at the moment after its calls so far, in each run that goes on.
 pub fn posts_stand_in_transactions<S: LinkedShard, B: Besides>()
-    ensures { (cells : List (CoreCell S)) (caller session cube : ℕ) (past : CorePast)
+    ensures { (asked : B) (cells : List (CoreCell S)) (caller session cube : ℕ) (past : CorePast)
         (own : List CoreEntry) (state : SessionState) (o : Opening) (given : RunScripts)
         (later es mine : List CoreEvent) (d : Decl) (s : Snapshot)
         → StandsInCore S.fits S.stands S.says cells caller session own past
-        → PostsStandBehind S.fits S.stands S.says cells caller session B.claim past own state
-        → IsRunWithCalls S.fits S.stands S.says cells caller session B.claim past own o given
+        → PostsStandBehind S.fits S.stands S.says cells caller session (B.claim asked) past own state
+        → IsRunWithCalls S.fits S.stands S.says cells caller session (B.claim asked) past own o given
         (later ++ es) mine → calls_of session es ≡ calls_of session mine
         → IsSession o session → held_by (counters_of_run o es).snapshots session ≡ Some s
         → s.own ≡ true

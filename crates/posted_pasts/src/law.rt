@@ -19,48 +19,48 @@ use core_pasts::Besides;
 
 /// Before its first call a session has posted nothing, and nothing is behind it.
 pub fn posts_stand_at_the_beginning<S: LinkedShard, B: Besides>()
-    ensures { (cells : List (CoreCell S)) (caller session : ℕ)
-        → PostsStandBehind S.fits S.stands S.says cells caller session B.claim nothing_behind []
+    ensures { (asked : B) (cells : List (CoreCell S)) (caller session : ℕ)
+        → PostsStandBehind S.fits S.stands S.says cells caller session (B.claim asked) nothing_behind []
         fresh_session }
 {}
 
 /// Posts stand for what is behind also after calls that add no operation, as plain calls do; and with a
 /// statement more behind that does nothing to rows, also where it failed and its epoch is aborted.
 pub fn posts_stay<S: LinkedShard, B: Besides>()
-    ensures calls { (cells : List (CoreCell S)) (caller session : ℕ) (past : CorePast)
+    ensures calls { (asked : B) (cells : List (CoreCell S)) (caller session : ℕ) (past : CorePast)
         (own now : List CoreEntry) (state : SessionState) → IsPrefix own now
         → LearnsThat S.fits S.stands S.says AddsNoOperation cells caller session own now
-        → PostsStandBehind S.fits S.stands S.says cells caller session B.claim past own
+        → PostsStandBehind S.fits S.stands S.says cells caller session (B.claim asked) past own
         state
-        → PostsStandBehind S.fits S.stands S.says cells caller session B.claim past now
+        → PostsStandBehind S.fits S.stands S.says cells caller session (B.claim asked) past now
         state }
-    ensures plain { (cells : List (CoreCell S)) (caller session : ℕ) (past : CorePast)
+    ensures plain { (asked : B) (cells : List (CoreCell S)) (caller session : ℕ) (past : CorePast)
         (own now : List CoreEntry) (state : SessionState) → IsPrefix own now
         → GoOnByCalls S.fits S.stands S.says cells caller session IsPlainCall own now
-        → PostsStandBehind S.fits S.stands S.says cells caller session B.claim past own
+        → PostsStandBehind S.fits S.stands S.says cells caller session (B.claim asked) past own
         state
-        → PostsStandBehind S.fits S.stands S.says cells caller session B.claim past now
+        → PostsStandBehind S.fits S.stands S.says cells caller session (B.claim asked) past now
         state }
-    ensures statement { (cells : List (CoreCell S)) (caller session : ℕ) (before after : CorePast)
+    ensures statement { (asked : B) (cells : List (CoreCell S)) (caller session : ℕ) (before after : CorePast)
         (own : List CoreEntry) (state : SessionState) (sentence : Sentence)
         (added : List JournalEntry) → IsInTurn before → IsOneMore before after sentence added
-        → InEachRun S.fits S.stands S.says cells caller session B.claim after
+        → InEachRun S.fits S.stands S.says cells caller session (B.claim asked) after
         (λ run. HasNoOperation run (last_step session after state sentence added))
-        → PostsStandBehind S.fits S.stands S.says cells caller session B.claim before own
+        → PostsStandBehind S.fits S.stands S.says cells caller session (B.claim asked) before own
         state
-        → PostsStandBehind S.fits S.stands S.says cells caller session B.claim after own
+        → PostsStandBehind S.fits S.stands S.says cells caller session (B.claim asked) after own
         (session_after state sentence added) }
-    ensures failed { (cells : List (CoreCell S)) (caller session epoch : ℕ)
+    ensures failed { (asked : B) (cells : List (CoreCell S)) (caller session epoch : ℕ)
         (before after : CorePast) (own now : List CoreEntry) (state : SessionState)
         (sentence : Sentence) (added : List JournalEntry) → IsInTurn before
         → IsOneMore before after sentence added
-        → InEachRun S.fits S.stands S.says cells caller session B.claim after
+        → InEachRun S.fits S.stands S.says cells caller session (B.claim asked) after
         (λ run. HasNoOperation run (last_step session after state sentence added))
         → IsPrefix own now
         → LearnsThat S.fits S.stands S.says (AddsAtEpoch epoch) cells caller session own now
         → list_any (is_abort_of epoch) added ≡ true
-        → PostsStandBehind S.fits S.stands S.says cells caller session B.claim before own
+        → PostsStandBehind S.fits S.stands S.says cells caller session (B.claim asked) before own
         state
-        → PostsStandBehind S.fits S.stands S.says cells caller session B.claim after now
+        → PostsStandBehind S.fits S.stands S.says cells caller session (B.claim asked) after now
         (session_after state sentence added) }
 {}

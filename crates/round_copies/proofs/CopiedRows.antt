@@ -2,14 +2,14 @@
 use Rattle.std.proofs.Common.{◌≡◌, ◌∙◌, ℕ, ◌≤◌, List, [], ◌∷◌, length, map, replicate, All, refl, sym, ap, subst}
 use Rattle.std.specs.List.{AllByRecursion}
 use Rattle.std.proofs.lemmas.List.{length-replicate}
-use Rattle.core_callers.proofs.ClientRuns.{client-run}
-use Rattle.core_callers.specs.Knowing.{Knows}
+use Rattle.core_program.proofs.ClientRuns.{client-run}
+use Rattle.core_program.specs.Knowing.{Knows}
 use Rattle.core_events.specs.Clients.{ClientState, calls_of, state_from_calls}
 use Rattle.core_events.specs.Events.{Opening, Fetch, NoChange, Post, ClientCall, CoreEvent}
 use Rattle.core_events.specs.Groups.{Copies, JobGroup, has_all_below, has_refusal, mails_of}
 use Rattle.core_events.specs.Jobs.{CopyRound, JobOutcome}
-use Rattle.core_callers.proofs.FlusherCalls.{is-client}
-use Rattle.core_callers.specs.Flushing.{IsFlusherOf}
+use Rattle.core_program.proofs.FlusherCalls.{is-client}
+use Rattle.core_program.specs.Flushing.{IsFlusherOf}
 use Rattle.core_program.specs.CoreFits.{CoreEntry, OpensCells}
 use Rattle.cube_core.specs.declared.cell.CoreCell.{CoreCell}
 use Rattle.cube_core.specs.declared.jobs.JobAnswer.{JobAnswer}

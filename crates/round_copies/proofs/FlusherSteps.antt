@@ -12,12 +12,12 @@ use Rattle.core_cells.specs.declared.names.NamesAnswer.{NamesAnswer}
 use Rattle.core_cells.specs.declared.names.NamesAnswer.TheVariants as told
 use Rattle.core_cells.specs.declared.names.NamesCall.{NamesCall}
 use Rattle.core_cells.specs.declared.names.NamesCall.TheVariants as names
-use Rattle.core_callers.specs.Knowing.{GoOnBy, IsClientOf, IsLaterRun, Knows, MayCallDesk, MayCallNames}
-use Rattle.core_callers.proofs.KnownCalls.{desk-learns, earlier-run, names-learn}
+use Rattle.core_program.specs.Knowing.{GoOnBy, IsClientOf, IsLaterRun, Knows, MayCallDesk, MayCallNames}
+use Rattle.core_program.proofs.KnownCalls.{desk-learns, earlier-run, names-learn}
 use Rattle.core_events.specs.Clients.{ClientState, after_client_call, calls_of, state_from_calls}
 use Rattle.core_events.specs.Events.{Opening, ClientCall, CoreEvent, By, flusher}
-use Rattle.core_callers.specs.Flushing.{IsFlusherOf}
-use Rattle.core_callers.proofs.FlusherCalls.{is-client}
+use Rattle.core_program.specs.Flushing.{IsFlusherOf}
+use Rattle.core_program.proofs.FlusherCalls.{is-client}
 use Rattle.core_links.specs.DeskEvents.{FitsDeskCall, desk_event}
 use Rattle.core_links.specs.NamesEvents.{FitsNamesCall, names_event}
 use Rattle.core_program.specs.CoreFits.{CoreEntry}

@@ -12,7 +12,7 @@ use Rattle.core_cells.specs.declared.names.NamesCall.TheVariants as names
 use Rattle.core_program.specs.CoreFits.{CoreEntry}
 use Rattle.cube_language.specs.declared.decl.Decl.{Decl}
 use Rattle.core_events.specs.Events.{flusher}
-use Rattle.core_callers.specs.Flushing.{IsFlusherOf}
+use Rattle.core_program.specs.Flushing.{IsFlusherOf}
 use Rattle.cube_core.specs.declared.cell.CoreCell.{CoreCell}
 use Rattle.joined_copies.specs.JoinedCopies.{ShardCopy}
 use Rattle.linked_shards.specs.CellShards.{CoreShardStands}

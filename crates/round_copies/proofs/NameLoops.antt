@@ -8,7 +8,7 @@ use Rattle.client_calls.specs.ClientCalls.{names_entry}
 use Rattle.core_cells.specs.declared.names.NamesAnswer.{NamesAnswer}
 use Rattle.core_cells.specs.declared.names.NamesAnswer.TheVariants as told
 use Rattle.core_cells.specs.declared.names.NamesCall.TheVariants as names
-use Rattle.core_callers.specs.Flushing.{IsFlusherOf}
+use Rattle.core_program.specs.Flushing.{IsFlusherOf}
 use Rattle.core_program.specs.CoreFits.{CoreEntry}
 use Rattle.cube_core.specs.declared.cell.CoreCell.{CoreCell}
 use Rattle.cube_language.specs.declared.decl.Decl.{Decl}

@@ -15,7 +15,7 @@ use Rattle.core_cells.specs.declared.desk.DeskAnswer.TheVariants as answer
 use Rattle.core_cells.specs.declared.desk.DeskCall.TheVariants as call
 use Rattle.core_cells.specs.declared.names.NamesAnswer.TheVariants as told
 use Rattle.core_cells.specs.declared.names.NamesCall.TheVariants as names
-use Rattle.core_outputs.specs.Copies.{copies_by}
+use Rattle.core_serial.specs.Copies.{copies_by}
 use Rattle.core_events.specs.Clients.{ClientState}
 use Rattle.core_events.specs.Events.{Opening}
 use Rattle.core_events.specs.Groups.{JobGroup}

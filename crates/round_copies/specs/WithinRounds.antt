@@ -5,7 +5,7 @@ use Rattle.std.specs.List.{AllByRecursion}
 use Rattle.board_callers.specs.Callers.{HasHistoryOf}
 use Rattle.core_board.specs.Links.{AreEventsOf}
 use Rattle.core_board_cells.specs.BoardCells.{IsEntryEvent}
-use Rattle.core_callers.specs.Knowing.{IsLaterRun}
+use Rattle.core_program.specs.Knowing.{IsLaterRun}
 use Rattle.core_events.specs.Clients.{ClientState}
 use Rattle.core_events.specs.Events.{Opening, ClientCall, CoreEvent, By}
 use Rattle.core_program.specs.CoreFits.{CoreEntry, FitsOwnCalls}

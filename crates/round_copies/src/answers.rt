@@ -1,7 +1,7 @@
 //! What comes back, by the kind of the call.
 ghost use Rattle.std.specs.Prelude.{◌≡◌, ℕ, map, IfOk};
 ghost use Rattle.std.specs.Option.{option_map_or};
-ghost use Rattle.core_callers.specs.AnswersOfCalls.{DeskAnswers, NamesAnswers};
+ghost use Rattle.core_program.specs.AnswersOfCalls.{DeskAnswers, NamesAnswers};
 ghost use Rattle.core_cells.specs.declared.desk.DeskAnswer.TheVariants as answer;
 ghost use Rattle.core_cells.specs.declared.desk.DeskCall.TheVariants as call;
 ghost use Rattle.core_cells.specs.declared.names.NamesAnswer.TheVariants as told;

@@ -1,10 +1,10 @@
 //! A call on the desk, and one on the names, with the history that they leave.
 ghost use Rattle.std.specs.Prelude.{◌≡◌, ℕ, [], ◌∷◌, ◌++◌};
 ghost use Rattle.client_calls.specs.ClientCalls.{desk_entry, names_entry};
-ghost use Rattle.core_callers.specs.AnswersOfCalls.{CoreAnswers, DeskAnswers, NamesAnswers};
+ghost use Rattle.core_program.specs.AnswersOfCalls.{CoreAnswers, DeskAnswers, NamesAnswers};
 ghost use Rattle.core_cells.specs.declared.desk.DeskCall.{DeskCall as DeskAsked};
 ghost use Rattle.core_cells.specs.declared.names.NamesCall.{NamesCall as NamesAsked};
-ghost use Rattle.core_callers.specs.Knowing.{IsClientOf, Knows, MayCallDesk, MayCallNames};
+ghost use Rattle.core_program.specs.Knowing.{IsClientOf, Knows, MayCallDesk, MayCallNames};
 ghost use Rattle.cube_core.specs.declared.cell.CoreAnswer.TheVariants as answer;
 ghost use Rattle.cube_core.specs.declared.cell.CoreCall.TheVariants as call;
 ghost use Rattle.linked_shards.specs.CellShards.{CoreShardStands};
@@ -12,8 +12,8 @@ ghost use Rattle.round_copies.specs.WithinRounds.{HasHistory};
 ghost use Rattle.shard_events.specs.ShardsInRuns.{FitsShard, ShardAnswerSays};
 
 use board_callers::CellCaller;
-use core_callers::{answers_fit_their_calls, clients_fit_by_what_they_know};
 use core_cells::{DeskAnswer, DeskCall, NamesAnswer, NamesCall};
+use core_program::{answers_fit_their_calls, clients_fit_by_what_they_know};
 use cube_core::{CoreAnswer, CoreCall};
 use linked_shards::{CoreShard, ShardCells};
 use std::sync::Wait;

@@ -3,7 +3,7 @@ ghost use Rattle.std.specs.Prelude.{◌≡◌, ◌+◌, ◌<◌, ◌≤◌, ◌^
 ghost use Rattle.client_calls.specs.ClientCalls.{desk_entry};
 ghost use Rattle.core_cells.specs.declared.desk.DeskAnswer.TheVariants as answer;
 ghost use Rattle.core_cells.specs.declared.desk.DeskCall.TheVariants as call;
-ghost use Rattle.core_callers.specs.Flushing.{IsFlusherOf};
+ghost use Rattle.core_program.specs.Flushing.{IsFlusherOf};
 ghost use Rattle.job_groups.specs.AskedEach.{HasMore};
 ghost use Rattle.joined_copies.specs.JoinedCopies.{ShardCopy};
 ghost use Rattle.linked_shards.specs.CellShards.{CoreShardStands};
@@ -16,8 +16,8 @@ use crate::calls::ask_desk;
 use crate::span::RoundSpan;
 use aosi_desk::Decls;
 use board_callers::CellCaller;
-use core_callers::the_flusher_is_a_client;
 use core_cells::DeskCall;
+use core_program::the_flusher_is_a_client;
 use linked_shards::{CoreShard, ShardCells};
 use std::alloc::AllocError;
 use std::sync::Wait;

@@ -3,7 +3,7 @@ ghost use Rattle.std.specs.Prelude.{◌≡◌, ◌+◌, ◌<◌, ℕ, List, [], 
 ghost use Rattle.client_calls.specs.ClientCalls.{names_entry};
 ghost use Rattle.core_cells.specs.declared.names.NamesAnswer.TheVariants as told;
 ghost use Rattle.core_cells.specs.declared.names.NamesCall.TheVariants as names;
-ghost use Rattle.core_callers.specs.Flushing.{IsFlusherOf};
+ghost use Rattle.core_program.specs.Flushing.{IsFlusherOf};
 ghost use Rattle.joined_copies.specs.JoinedCopies.{ShardCopy};
 ghost use Rattle.linked_shards.specs.CellShards.{CoreShardStands};
 ghost use Rattle.round_copies.specs.RoundCopies.{AreNamesTold, GoesOnCopying, HasCubes, HasMoreWith, HasNamesTold, HaveNamesTold, count_at, texts_by_cube};
@@ -15,8 +15,8 @@ use crate::calls::ask_names;
 use crate::span::RoundSpan;
 use crate::texts::{count_of_dim, counts_of_cube, short_count, texts_by_cube};
 use board_callers::CellCaller;
-use core_callers::the_flusher_is_a_client;
 use core_cells::NamesCall;
+use core_program::the_flusher_is_a_client;
 use cube_language::Decl;
 use cube_values::{CubeShape, Flags, Sequence, TextLists, Texts};
 use linked_shards::{CoreShard, ShardCells};

@@ -1,6 +1,6 @@
 //! All that a round has.
 ghost use Rattle.std.specs.Prelude.{◌≡◌, ◌+◌, ◌≤◌, length, IfOk, OnOk};
-ghost use Rattle.core_callers.specs.Flushing.{IsFlusherOf};
+ghost use Rattle.core_program.specs.Flushing.{IsFlusherOf};
 ghost use Rattle.job_groups.specs.AskedEach.{AreShardMails, HasMore};
 ghost use Rattle.linked_shards.specs.CellShards.{CoreShardStands};
 ghost use Rattle.round_copies.specs.RoundCopies.{AreCubesOfRound, HasOpened, IsCopiedRound, IsRoundOfCopies, IsToldOf, IsWithin};

@@ -1,6 +1,6 @@
 //! The rows of each shard.
 ghost use Rattle.std.specs.Prelude.{◌≡◌, ◌+◌, ◌≤◌, ℕ, List, length, replicate, All, IfOk};
-ghost use Rattle.core_callers.specs.Flushing.{IsFlusherOf};
+ghost use Rattle.core_program.specs.Flushing.{IsFlusherOf};
 ghost use Rattle.cube_core.specs.declared.shard.ShardCall.TheVariants as call;
 ghost use Rattle.job_groups.specs.AskedEach.{AreShardMails, HasMore};
 ghost use Rattle.linked_shards.specs.CellShards.{CoreShardStands};

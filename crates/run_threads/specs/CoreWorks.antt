@@ -5,15 +5,15 @@ use Rattle.client_calls.specs.ClientCalls.{close_entry, desk_entry}
 use Rattle.closing_calls.specs.ClosingCalls.{HasPurgedAll, MainIsReady, MainKnows, close_entries}
 use Rattle.core_cells.specs.declared.desk.DeskAnswer.TheVariants as answer
 use Rattle.core_cells.specs.declared.desk.DeskCall.TheVariants as desk
-use Rattle.core_callers.specs.Knowing.{IsClientOf, IsMailAt}
-use Rattle.core_callers.specs.Flushing.{IsFlusherOf}
+use Rattle.core_program.specs.Knowing.{IsClientOf, IsMailAt}
+use Rattle.core_program.specs.Flushing.{IsFlusherOf}
 use Rattle.core_program.specs.CoreFits.{CoreEntry}
-use Rattle.core_callers.specs.Workers.{IsWorkerOf}
+use Rattle.core_program.specs.Workers.{IsWorkerOf}
 use Rattle.cube_core.specs.declared.cell.CoreCell.{CoreCell}
 use Rattle.cube_core.specs.declared.shard.ShardCall.TheVariants as call
 use Rattle.cube_journal.specs.declared.counters.Counters.{Counters}
 use Rattle.flush_loop.specs.FlushTurns.{LearnsOfFlushes}
-use Rattle.flush_loop.specs.MadeRounds.{HoldsInRuns, RunClaim}
+use Rattle.flush_loop.specs.MadeRounds.{HoldsInRuns, KeptClaim}
 use Rattle.flush_loop.specs.declared.round_result.RoundResult.{RoundResult}
 use Rattle.job_groups.specs.AskedEach.{AreShardMails}
 use Rattle.linked_shards.specs.CellShards.{CoreShardStands}
@@ -31,7 +31,7 @@ pub record MayServeShard (shards sessions number callers : ℕ) (cells : Opening
   pub there : number < shards
   pub worker : IsWorkerOf FitsShard CoreShardStands ShardAnswerSays cells caller number (2 + shards + number)
 
-module _ {M : Type 0} (serves : M → OpeningCells → Type 0) (has_kept : M → RunClaim) where
+module _ {M : Type 0} (serves : M → OpeningCells → Type 0) (has_kept : M → KeptClaim) where
   -- What makes the rounds of a core has kept what it says, in each run in which the flusher's calls begin with these.
   pub record KeepsRounds (sessions : ℕ) (maker : M) (cells : OpeningCells) (caller : ℕ) (own : List CoreEntry)
       : Type 0 where

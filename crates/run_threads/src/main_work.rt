@@ -1,7 +1,7 @@
 //! Main's work: it closes the mails, and where the sessions had begun it has the shards purge before.
 ghost use Rattle.std.specs.Prelude.{◌≡◌, ◌+◌, ◌≤◌, [], ◌∷◌, ◌++◌};
 ghost use Rattle.closing_calls.specs.ClosingCalls.{MainIsReady};
-ghost use Rattle.core_callers.specs.Knowing.{IsClientOf};
+ghost use Rattle.core_program.specs.Knowing.{IsClientOf};
 ghost use Rattle.job_groups.specs.AskedEach.{AreShardMails};
 ghost use Rattle.linked_shards.specs.CellShards.{CoreShardStands};
 ghost use Rattle.run_threads.specs.CoreWorks.{HasClosedFlusher, HasClosedShards, MayClose, PurgesAtEnd};

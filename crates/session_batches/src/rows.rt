@@ -3,7 +3,7 @@ ghost use Rattle.std.specs.Prelude.{◌≡◌, ◌+◌, ◌<◌, ◌≤◌, [], 
 ghost use Rattle.std.specs.List.{IsDistinct};
 ghost use Rattle.cube_values.specs.Shapes.{IsSoundCube};
 ghost use Rattle.brick_map.specs.Batches.{IsRowOfCube};
-ghost use Rattle.core_callers.specs.Knowing.{IsClientOf, IsSessionOf, Knows};
+ghost use Rattle.core_program.specs.Knowing.{IsClientOf, IsSessionOf, Knows};
 ghost use Rattle.job_groups.specs.AskedEach.{AreShardMails, HasMore};
 ghost use Rattle.job_groups.specs.AskedSome.{MayAskSome, posts_to};
 ghost use Rattle.known_holds.specs.KnownHolds.{HoldsWriter};
@@ -16,8 +16,7 @@ ghost use Rattle.turn_board.specs.Passes.{callers_of};
 use crate::answers::{PutEnd, first_refusal};
 use crate::appends::{NumberedCalls, appends_of};
 use board_callers::CellCaller;
-use core_callers::own_calls_go_on;
-use core_program::CoreSize;
+use core_program::{CoreSize, own_calls_go_on};
 use cube_core::JobAnswer;
 use cube_values::{CodedRows, CubeShape, Snapshot};
 use job_groups::{ask_some_shards, groups_have_their_answers};

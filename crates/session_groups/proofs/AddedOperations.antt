@@ -2,8 +2,8 @@
 use Rattle.std.proofs.Common.{◌≡◌, ◌∙◌, ℕ, zero, suc, ◌+◌, ◌≤◌, Bool, true, false, not, List, [], ◌∷◌, ◌++◌, append_assoc, length, replicate, refl, sym, ap, subst, arith, if◌then◌else◌}
 use Rattle.std.proofs.lemmas.Bool.{and_parts}
 use Rattle.core_board_cells.specs.BoardCells.{call_job}
-use Rattle.core_callers.proofs.KnownCalls.{earlier-run}
-use Rattle.core_callers.specs.Knowing.{IsLaterRun}
+use Rattle.core_program.proofs.KnownCalls.{earlier-run}
+use Rattle.core_program.specs.Knowing.{IsLaterRun}
 use Rattle.core_events.specs.Clients.{calls_of, state_from_calls}
 use Rattle.core_events.specs.Events.{Opening, OnDesk, OnNames, Post, Fetch, CloseMail, NoChange, ClientCall, CoreEvent}
 use Rattle.core_events.specs.Groups.{JobGroup, has_ended, has_refusal, is_spoiled, kind_of}

@@ -3,8 +3,8 @@ use Rattle.std.proofs.Common.{◌≡◌, ℕ, List, map, sym, subst}
 use Rattle.agg_fold.specs.Coded.{row_for}
 use Rattle.agg_fold.specs.Standing.{IsTable, StandsFor}
 use Rattle.agg_fold.specs.declared.groups.Groups.{Groups}
-use Rattle.core_callers.proofs.ClientRuns.{known-in-run}
-use Rattle.core_callers.specs.Knowing.{HasRunOfClient}
+use Rattle.core_program.proofs.ClientRuns.{known-in-run}
+use Rattle.core_program.specs.Knowing.{HasRunOfClient}
 use Rattle.core_events.proofs.Knowledge.{known-by-calls}
 use Rattle.core_events.specs.Clients.{ClientState, client_state}
 use Rattle.core_events.specs.Events.{Opening}

@@ -8,9 +8,9 @@ use Rattle.agg_fold.specs.declared.groups.Groups.{Groups}
 use Rattle.board_callers.specs.Callers.{HasHistoryOf}
 use Rattle.core_board.specs.Links.{AreEventsOf}
 use Rattle.core_board_cells.specs.BoardCells.{IsEntryEvent, call_job}
-use Rattle.core_callers.proofs.ClientRuns.{client-run}
-use Rattle.core_callers.proofs.KnownCalls.{earlier-run}
-use Rattle.core_callers.specs.Knowing.{Claim, HasRunOfClient, IsClientOf, IsLaterRun, IsSessionOf}
+use Rattle.core_program.proofs.ClientRuns.{client-run}
+use Rattle.core_program.proofs.KnownCalls.{earlier-run}
+use Rattle.core_program.specs.Knowing.{Claim, HasRunOfClient, IsClientOf, IsLaterRun, IsSessionOf}
 use Rattle.core_events.proofs.Knowledge.{known-by-calls}
 use Rattle.core_events.specs.Clients.{ClientState, calls_of, client_state, state_from_calls}
 use Rattle.core_events.specs.Events.{Opening, CoreEvent}

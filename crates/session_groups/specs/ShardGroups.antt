@@ -9,7 +9,7 @@ use Rattle.cube_values.specs.declared.span.Span.{Span}
 use Rattle.agg_fold.specs.Standing.{StandsFor}
 use Rattle.agg_fold.specs.declared.groups.Groups.{Groups}
 use Rattle.condition_spans.specs.Spans.{CutNoBrick}
-use Rattle.core_callers.specs.Knowing.{Knows}
+use Rattle.core_program.specs.Knowing.{Knows}
 use Rattle.core_events.specs.Clients.{state_from_calls}
 use Rattle.core_events.specs.Events.{Opening, ClientCall}
 use Rattle.core_program.specs.CoreFits.{CoreEntry}

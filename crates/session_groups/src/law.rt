@@ -4,7 +4,7 @@ ghost use Rattle.std.specs.Prelude.{◌≡◌, ◌≤◌, ℕ, List, map};
 ghost use Rattle.agg_fold.specs.Coded.{row_for};
 ghost use Rattle.agg_fold.specs.Standing.{IsTable, StandsFor};
 ghost use Rattle.agg_fold.specs.declared.groups.Groups.{Groups};
-ghost use Rattle.core_callers.specs.Knowing.{HasRunOfClient};
+ghost use Rattle.core_program.specs.Knowing.{HasRunOfClient};
 ghost use Rattle.core_events.specs.Events.{Opening};
 ghost use Rattle.core_events.specs.Jobs.{DropBox, Rollback, Scan};
 ghost use Rattle.core_program.specs.CoreFits.{CoreEntry};

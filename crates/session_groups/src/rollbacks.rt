@@ -1,6 +1,6 @@
 //! A rollback on all shards.
 ghost use Rattle.std.specs.Prelude.{◌≡◌, ◌+◌, ◌≤◌, OnErr, OnOk};
-ghost use Rattle.core_callers.specs.Knowing.{IsClientOf, IsSessionOf};
+ghost use Rattle.core_program.specs.Knowing.{IsClientOf, IsSessionOf};
 ghost use Rattle.cube_core.specs.declared.shard.ShardCall.TheVariants as call;
 ghost use Rattle.job_groups.specs.AskedEach.{AreShardMails};
 ghost use Rattle.linked_shards.specs.CellShards.{CoreShardStands};

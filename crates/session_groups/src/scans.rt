@@ -1,6 +1,6 @@
 //! The rows of a query, asked of all shards.
 ghost use Rattle.std.specs.Prelude.{◌≡◌, ◌+◌, ◌≤◌, IfOk, OnOk, Some};
-ghost use Rattle.core_callers.specs.Knowing.{IsClientOf, IsSessionOf};
+ghost use Rattle.core_program.specs.Knowing.{IsClientOf, IsSessionOf};
 ghost use Rattle.cube_core.specs.declared.shard.ShardCall.TheVariants as call;
 ghost use Rattle.job_groups.specs.AskedEach.{AreShardMails};
 ghost use Rattle.linked_shards.specs.CellShards.{CoreShardStands};

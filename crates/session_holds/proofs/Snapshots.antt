@@ -8,7 +8,7 @@ use Rattle.core_cells.specs.declared.desk.DeskAnswer.{DeskAnswer}
 use Rattle.core_cells.specs.declared.desk.DeskAnswer.TheVariants as answer
 use Rattle.core_cells.specs.declared.desk.DeskCall.{DeskCall}
 use Rattle.core_cells.specs.declared.desk.DeskCall.TheVariants as call
-use Rattle.core_parts.proofs.Lookups.{held-under-append, held-under-without, with_one, without_one}
+use Rattle.core_events.proofs.Lookups.{held-under-append, held-under-without, with_one, without_one}
 use Rattle.core_events.specs.Clients.{Holding, ClientState, held_under, holds_with, holds_without, opening_client, others_hold, reader_up_to, writer_at}
 use Rattle.core_events.specs.Events.{Opening, IsSession}
 use Rattle.core_events.specs.Fitting.{FitsCall, OwnsWriter}

@@ -4,7 +4,7 @@ use Rattle.std.specs.List.{list_any}
 use Rattle.board_callers.specs.Callers.{HasHistoryOf}
 use Rattle.core_board.specs.Links.{AreEventsOf}
 use Rattle.core_board_cells.specs.BoardCells.{AnswerSays, IsEntryEvent}
-use Rattle.core_callers.specs.Knowing.{Claim, IsClientOf, IsLaterRun, IsSessionOf}
+use Rattle.core_program.specs.Knowing.{Claim, IsClientOf, IsLaterRun, IsSessionOf}
 use Rattle.core_events.proofs.Knowledge.{known-by-calls}
 use Rattle.core_events.specs.Clients.{ClientState, calls_of, client_state, state_from_calls}
 use Rattle.core_events.specs.Events.{Opening, CoreEvent}

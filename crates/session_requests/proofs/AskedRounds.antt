@@ -8,8 +8,8 @@ use Rattle.board_callers.specs.Callers.{HasHistoryOf}
 use Rattle.client_calls.specs.ClientCalls.{HasFetched, LearnsByFetch, ask_entry, post_entry}
 use Rattle.core_board.specs.Links.{AreEventsOf}
 use Rattle.core_board_cells.specs.BoardCells.{AnswerSays, IsEntryEvent}
-use Rattle.core_callers.proofs.KnownCalls.{earlier-run, post-learns}
-use Rattle.core_callers.specs.Knowing.{IsClientOf, IsLaterRun, IsMailAt, IsSessionOf, Knows, MayFetchFrom, MayPostJob, last_posted}
+use Rattle.core_program.proofs.KnownCalls.{earlier-run, post-learns}
+use Rattle.core_program.specs.Knowing.{IsClientOf, IsLaterRun, IsMailAt, IsSessionOf, Knows, MayFetchFrom, MayPostJob, last_posted}
 use Rattle.core_events.proofs.Knowledge.{known-by-calls}
 use Rattle.core_events.specs.Clients.{ClientState, after_client_call, calls_of, client_state, state_from_calls}
 use Rattle.core_events.specs.Events.{Opening, Fetch, NoChange, Post, ClientCall, CoreEvent, By}
@@ -39,8 +39,8 @@ use Rattle.session_holds.specs.HoldStates.{IsReadyWith, IsReading, IsWriting}
 use Rattle.session_requests.proofs.Outcomes.{round-ends}
 use Rattle.session_requests.specs.SessionRequests.{IsRoundOutcome, LearnsOfRound, MayNoteRound, TellsRound, round_outcome, round_told}
 use Rattle.shard_events.specs.ShardsInRuns.{FitsShard, ShardAnswerSays}
-use Rattle.core_callers.proofs.ClientRuns.{client-run}
-use Rattle.core_callers.specs.Knowing.{HasRunOfClient}
+use Rattle.core_program.proofs.ClientRuns.{client-run}
+use Rattle.core_program.specs.Knowing.{HasRunOfClient}
 
 -- What an answer tells of a FLUSH.
 

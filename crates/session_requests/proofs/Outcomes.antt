@@ -1,7 +1,7 @@
 -- How a round and a purge may end: in no run does a client fetch another outcome of them.
 use Rattle.std.proofs.Common.{◌≡◌, ℕ, Bool, true, false, ◌||◌, List, [], ◌∷◌, refl, ap}
 use Rattle.std.proofs.lemmas.Bool.{false≢true}
-use Rattle.core_outputs.proofs.FetchedAnswers.{AnswersFit, run-answers}
+use Rattle.core_serial.proofs.FetchedAnswers.{AnswersFit, run-answers}
 use Rattle.core_events.specs.Cells.{Took, shard_view_of, worker_of}
 use Rattle.core_events.specs.Clients.{client_state, ends_group}
 use Rattle.core_events.specs.Events.{Opening, flusher, ClientCall, WorkerMove, CoreEvent, By, At}

@@ -3,8 +3,8 @@ use Rattle.std.proofs.Common.{◌≡◌, ℕ, ◌≤◌, ◌||◌, Bool, true, L
 use Rattle.client_calls.specs.ClientCalls.{desk_entry}
 use Rattle.core_cells.specs.declared.desk.DeskAnswer.TheVariants as answer
 use Rattle.core_cells.specs.declared.desk.DeskCall.TheVariants as call
-use Rattle.core_callers.proofs.KnownCalls.{desk-learns}
-use Rattle.core_callers.specs.Knowing.{IsClientOf}
+use Rattle.core_program.proofs.KnownCalls.{desk-learns}
+use Rattle.core_program.specs.Knowing.{IsClientOf}
 use Rattle.core_events.specs.Clients.{calls_of, state_from_calls}
 use Rattle.core_events.specs.Events.{ClientCall}
 use Rattle.core_events.specs.Groups.{has_number}

@@ -6,7 +6,7 @@ use Rattle.cube_journal.specs.declared.note.Note.{Note}
 use Rattle.cube_journal.specs.declared.note.Note.TheVariants as note
 use Rattle.core_board.specs.Links.{AreEventsOf}
 use Rattle.core_board_cells.specs.BoardCells.{IsEntryEvent}
-use Rattle.core_callers.specs.Knowing.{IsLaterRun}
+use Rattle.core_program.specs.Knowing.{IsLaterRun}
 use Rattle.core_events.specs.Events.{Opening, Fetch, NoChange, Post, CoreEvent, By, flush_mail}
 use Rattle.core_events.specs.Groups.{has_number}
 use Rattle.core_events.specs.Jobs.{Done, Flush, JobOutcome, OutOfMemory, StoreLost}

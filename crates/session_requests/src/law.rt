@@ -4,7 +4,7 @@ ghost use Rattle.std.specs.Prelude.{ℕ, List, [], ◌∷◌, ◌++◌};
 ghost use Rattle.client_calls.specs.ClientCalls.{desk_entry};
 ghost use Rattle.core_cells.specs.declared.desk.DeskAnswer.TheVariants as answer;
 ghost use Rattle.core_cells.specs.declared.desk.DeskCall.TheVariants as call;
-ghost use Rattle.core_callers.specs.Knowing.{IsClientOf};
+ghost use Rattle.core_program.specs.Knowing.{IsClientOf};
 ghost use Rattle.core_program.specs.CoreFits.{CoreEntry};
 ghost use Rattle.cube_core.specs.declared.cell.CoreCell.{CoreCell};
 ghost use Rattle.cube_journal.specs.declared.counters.Counters.{Counters};

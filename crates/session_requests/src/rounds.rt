@@ -1,6 +1,6 @@
 //! A round, asked of the flusher.
 ghost use Rattle.std.specs.Prelude.{◌≡◌, ◌+◌, ◌≤◌, Option};
-ghost use Rattle.core_callers.specs.Knowing.{IsClientOf, IsMailAt, IsSessionOf, ServesClient};
+ghost use Rattle.core_program.specs.Knowing.{IsClientOf, IsMailAt, IsSessionOf, ServesClient};
 ghost use Rattle.cube_values.specs.declared.snapshot.Snapshot.{Snapshot};
 ghost use Rattle.job_groups.specs.AskedEach.{HasMore};
 ghost use Rattle.known_holds.specs.KnownHolds.{HoldsReady, HoldsTheSame};

@@ -13,8 +13,8 @@ use Rattle.core_cells.specs.declared.desk.DeskAnswer.{DeskAnswer}
 use Rattle.core_cells.specs.declared.desk.DeskAnswer.TheVariants as answer
 use Rattle.core_cells.specs.declared.desk.DeskCall.{DeskCall}
 use Rattle.core_cells.specs.declared.desk.DeskCall.TheVariants as call
-use Rattle.core_callers.specs.Knowing.{IsClientOf, IsLaterRun, IsSessionOf, Knows, MayCallDesk}
-use Rattle.core_callers.proofs.KnownCalls.{desk-learns, earlier-run}
+use Rattle.core_program.specs.Knowing.{IsClientOf, IsLaterRun, IsSessionOf, Knows, MayCallDesk}
+use Rattle.core_program.proofs.KnownCalls.{desk-learns, earlier-run}
 use Rattle.core_events.specs.Clients.{ClientState, calls_of, state_from_calls}
 use Rattle.core_events.specs.Events.{Opening, IsSession, ClientCall}
 use Rattle.core_events.specs.Jobs.{CoreJob, JobOutcome}

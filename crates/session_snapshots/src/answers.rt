@@ -3,7 +3,7 @@ ghost use Rattle.std.specs.Prelude.{◌≡◌, ℕ, List, IfSome};
 ghost use Rattle.std.specs.Option.{option_map_or};
 ghost use Rattle.cube_journal.specs.declared.note.Note.{Note};
 ghost use Rattle.cube_language.specs.declared.decl.Decl.{Decl};
-ghost use Rattle.core_callers.specs.AnswersOfCalls.{DeskAnswers};
+ghost use Rattle.core_program.specs.AnswersOfCalls.{DeskAnswers};
 ghost use Rattle.core_cells.specs.declared.desk.DeskAnswer.TheVariants as answer;
 ghost use Rattle.core_cells.specs.declared.desk.DeskCall.{DeskCall};
 ghost use Rattle.core_cells.specs.declared.desk.DeskCall.TheVariants as call;

@@ -4,7 +4,7 @@ ghost use Rattle.std.specs.Option.{option_map_or};
 ghost use Rattle.client_calls.specs.ClientCalls.{desk_entry};
 ghost use Rattle.core_cells.specs.declared.desk.DeskAnswer.TheVariants as answer;
 ghost use Rattle.core_cells.specs.declared.desk.DeskCall.TheVariants as call;
-ghost use Rattle.core_callers.specs.Knowing.{IsClientOf, IsSessionOf};
+ghost use Rattle.core_program.specs.Knowing.{IsClientOf, IsSessionOf};
 ghost use Rattle.core_events.specs.Clients.{reader_up_to, writer_at};
 ghost use Rattle.known_holds.specs.KnownHolds.{HoldsNothing, HoldsReader, HoldsWriter};
 

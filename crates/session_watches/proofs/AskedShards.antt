@@ -4,8 +4,8 @@ use Rattle.std.proofs.lemmas.List.{length-replicate}
 use Rattle.board_callers.specs.Callers.{HasHistoryOf}
 use Rattle.core_board.specs.Links.{AreEventsOf}
 use Rattle.core_board_cells.specs.BoardCells.{AnswerSays, IsEntryEvent}
-use Rattle.core_callers.specs.Knowing.{IsClientOf, IsLaterRun, IsSessionOf}
-use Rattle.core_outputs.specs.Deltas.{HasCompared, came_by, rows_that_came, rows_that_went, went_by}
+use Rattle.core_program.specs.Knowing.{IsClientOf, IsLaterRun, IsSessionOf}
+use Rattle.core_serial.specs.Deltas.{HasCompared, came_by, rows_that_came, rows_that_went, went_by}
 use Rattle.core_events.specs.Clients.{ClientState, calls_of, reader_up_to, state_from_calls}
 use Rattle.core_events.specs.Events.{Opening, CoreEvent}
 use Rattle.core_events.specs.Groups.{Compares, JobGroup, Received}

@@ -6,7 +6,7 @@ use Rattle.client_calls.specs.ClientCalls.{desk_entry}
 use Rattle.core_cells.specs.declared.desk.DeskAnswer.{DeskAnswer}
 use Rattle.core_cells.specs.declared.desk.DeskAnswer.TheVariants as answer
 use Rattle.core_cells.specs.declared.desk.DeskCall.TheVariants as call
-use Rattle.core_callers.specs.Knowing.{IsClientOf, IsSessionOf, Knows, MayCallDesk}
+use Rattle.core_program.specs.Knowing.{IsClientOf, IsSessionOf, Knows, MayCallDesk}
 use Rattle.core_events.specs.Clients.{ClientState, reader_up_to}
 use Rattle.core_events.specs.Events.{Opening}
 use Rattle.core_events.specs.Jobs.{CoreJob, JobOutcome}

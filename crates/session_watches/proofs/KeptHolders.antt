@@ -11,8 +11,8 @@ use Rattle.core_cells.specs.declared.names.NamesAnswer.{NamesAnswer}
 use Rattle.core_cells.specs.declared.names.NamesAnswer.TheVariants as told
 use Rattle.core_cells.specs.declared.names.NamesCall.{NamesCall}
 use Rattle.core_cells.specs.declared.names.NamesCall.TheVariants as names
-use Rattle.core_callers.proofs.KnownCalls.{desk-learns, earlier-run, names-learn}
-use Rattle.core_callers.specs.Knowing.{IsClientOf, IsLaterRun}
+use Rattle.core_program.proofs.KnownCalls.{desk-learns, earlier-run, names-learn}
+use Rattle.core_program.specs.Knowing.{IsClientOf, IsLaterRun}
 use Rattle.core_events.specs.Clients.{ClientState, calls_of, state_from_calls}
 use Rattle.core_events.specs.Events.{Opening, ClientCall, CoreEvent}
 use Rattle.core_events.specs.Groups.{JobGroup}

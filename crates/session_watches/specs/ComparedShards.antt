@@ -3,7 +3,7 @@
 -- Mumick, Subrahmanian, SIGMOD 1993).
 use Rattle.std.specs.Prelude.{ℕ, List}
 use Rattle.cube_values.specs.declared.query.BoundQuery.{BoundQuery}
-use Rattle.core_outputs.specs.Deltas.{HasCompared, came_by, went_by}
+use Rattle.core_serial.specs.Deltas.{HasCompared, came_by, went_by}
 use Rattle.core_events.specs.Clients.{state_from_calls}
 use Rattle.core_events.specs.Events.{Opening, ClientCall}
 use Rattle.session_watches.specs.DeltaAnswers.{AreGroupsOfShards}

@@ -7,7 +7,7 @@ use Rattle.cube_values.specs.declared.query.BoundQuery.{BoundQuery}
 use Rattle.cube_values.specs.declared.row.CodedRow.{CodedRow}
 use Rattle.agg_fold.specs.Standing.{Adds, HasRoom, StandsFor}
 use Rattle.agg_fold.specs.declared.groups.Groups.{Groups}
-use Rattle.core_outputs.specs.Deltas.{rows_that_came, rows_that_went}
+use Rattle.core_serial.specs.Deltas.{rows_that_came, rows_that_went}
 use Rattle.core_events.specs.Jobs.{JobOutcome, Compared, is_refusal}
 use Rattle.cube_core.specs.declared.jobs.JobAnswer.{JobAnswer}
 use Rattle.cube_core.specs.declared.jobs.JobAnswer.TheVariants as reply

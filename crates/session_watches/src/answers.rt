@@ -1,7 +1,7 @@
 //! What the desk answers to the calls for a holder.
 ghost use Rattle.std.specs.Prelude.{◌≡◌, ℕ};
 ghost use Rattle.std.specs.Option.{option_map_or};
-ghost use Rattle.core_callers.specs.AnswersOfCalls.{DeskAnswers};
+ghost use Rattle.core_program.specs.AnswersOfCalls.{DeskAnswers};
 ghost use Rattle.core_cells.specs.declared.desk.DeskAnswer.TheVariants as answer;
 ghost use Rattle.core_cells.specs.declared.desk.DeskCall.TheVariants as call;
 ghost use Rattle.session_watches.specs.KnownReaders.{opened_reader};

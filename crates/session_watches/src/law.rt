@@ -6,7 +6,7 @@ ghost use Rattle.core_cells.specs.declared.desk.DeskAnswer.{DeskAnswer};
 ghost use Rattle.core_cells.specs.declared.desk.DeskCall.{DeskCall};
 ghost use Rattle.core_cells.specs.declared.names.NamesAnswer.{NamesAnswer};
 ghost use Rattle.core_cells.specs.declared.names.NamesCall.{NamesCall};
-ghost use Rattle.core_callers.specs.Knowing.{IsClientOf};
+ghost use Rattle.core_program.specs.Knowing.{IsClientOf};
 ghost use Rattle.core_program.specs.CoreFits.{CoreEntry};
 ghost use Rattle.cube_core.specs.declared.cell.CoreCell.{CoreCell};
 ghost use Rattle.cube_core.specs.declared.jobs.JobAnswer.{JobAnswer};

@@ -1,7 +1,7 @@
 //! The rows of a query that a leading reader sees, asked of all shards.
 ghost use Rattle.std.specs.Prelude.{◌≡◌, ◌+◌, ◌≤◌, ℕ, IfOk, OnOk, Option};
 ghost use Rattle.board_callers.specs.Callers.{HasHistoryOf};
-ghost use Rattle.core_callers.specs.Knowing.{IsClientOf, IsSessionOf};
+ghost use Rattle.core_program.specs.Knowing.{IsClientOf, IsSessionOf};
 ghost use Rattle.core_events.specs.Clients.{reader_up_to};
 ghost use Rattle.core_program.specs.CoreFits.{FitsOwnCalls};
 ghost use Rattle.cube_core.specs.CoreSteps.{CoreStep};

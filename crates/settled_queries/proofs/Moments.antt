@@ -3,8 +3,8 @@ use Rattle.std.proofs.Common.{◌≡◌, ◌∙◌, ℕ, eqb, Bool, true, false,
 use Rattle.turn_board.specs.History.{of_caller}
 use Rattle.core_board.specs.Links.{AreEventsOf}
 use Rattle.core_board_cells.specs.BoardCells.{IsEntryEvent, IsShardLinked}
-use Rattle.core_callers.proofs.KnownCalls.{client-part, go-on-from, run-now}
-use Rattle.core_callers.specs.Knowing.{HasRunOfClient, IsClientOf, IsLaterRun}
+use Rattle.core_program.proofs.KnownCalls.{client-part, go-on-from, run-now}
+use Rattle.core_program.specs.Knowing.{HasRunOfClient, IsClientOf, IsLaterRun}
 use Rattle.core_events.specs.Clients.{calls_of}
 use Rattle.core_events.specs.Events.{Opening, CoreEvent}
 use Rattle.core_events.specs.Jobs.{CoreJob, JobOutcome}

@@ -2,7 +2,7 @@
 use Rattle.std.proofs.Common.{◌≡◌, ◌⊎◌, ℕ, ◌==◌, Bool, true, false, List, [], ◌∷◌, Option, Some, None, IsSomeAnd, inl, inr, eq-eqb, if◌then◌else◌}
 use Rattle.std.proofs.lemmas.Bool.{false≢true}
 use Rattle.cube_values.specs.declared.snapshot.Snapshot.{Snapshot}
-use Rattle.core_parts.proofs.Lookups.{with_one, without_one, held-under-append, held-under-without}
+use Rattle.core_events.proofs.Lookups.{with_one, without_one, held-under-append, held-under-without}
 use Rattle.core_events.specs.Clients.{ClientState, Holding, calls_of, client_after_call, client_state, held_under, holds_after, reader_up_to, writer_at}
 use Rattle.core_events.specs.Events.{Opening, OpenWrite, OpenRead, Commit, AbortEnd, CloseRead, TakeNote, CreateCube, FindCube, CubesFrom, CountersNow, RoundOpen, RoundClose, StoreFailed, ClientCall, OnDesk, OnNames, Post, Fetch, CloseMail, NoChange, CoreEvent, By, At}
 use Rattle.core_events.specs.Fitting.{OwnsWriter}

@@ -4,7 +4,7 @@ use Rattle.std.proofs.lemmas.Bool.{false≢true}
 use Rattle.cube_journal.specs.Counters.{held_by}
 use Rattle.cube_values.specs.Sees.{sees}
 use Rattle.cube_values.specs.declared.snapshot.Snapshot.{Snapshot}
-use Rattle.core_parts.proofs.Agreement.{agree}
+use Rattle.core_events.proofs.Agreement.{agree}
 use Rattle.core_events.specs.Cells.{counters_of_run}
 use Rattle.core_events.specs.Clients.{calls_of, client_state}
 use Rattle.core_events.specs.Events.{Opening, CoreEvent}

@@ -5,8 +5,8 @@ use Rattle.agg_fold.specs.declared.groups.Groups.{Groups}
 use Rattle.cube_values.specs.declared.query.BoundQuery.{BoundQuery}
 use Rattle.cube_values.specs.declared.row.CodedRow.{CodedRow}
 use Rattle.cube_values.specs.declared.snapshot.Snapshot.{Snapshot}
-use Rattle.core_callers.proofs.ClientRuns.{known-in-run}
-use Rattle.core_callers.specs.Knowing.{IsLaterRun, IsSessionOf}
+use Rattle.core_program.proofs.ClientRuns.{known-in-run}
+use Rattle.core_program.specs.Knowing.{IsLaterRun, IsSessionOf}
 use Rattle.core_events.proofs.Knowledge.{known-by-calls}
 use Rattle.core_events.specs.Clients.{ClientState, calls_of, client_state, state_from_calls}
 use Rattle.core_events.specs.Events.{Opening, ClientCall, CoreEvent}

@@ -1,7 +1,7 @@
 -- A later run of a client passes the moment right after its own calls.
 -- Source: this project's own; linearizability (Herlihy and Wing, 1990) makes one list of the calls of all threads.
 use Rattle.std.specs.Prelude.{◌≡◌, ℕ, List, ◌++◌}
-use Rattle.core_callers.specs.Knowing.{HasRunOfClient}
+use Rattle.core_program.specs.Knowing.{HasRunOfClient}
 use Rattle.core_events.specs.Events.{Opening, CoreEvent}
 use Rattle.core_events.specs.Jobs.{CoreJob, JobOutcome}
 use Rattle.core_events.specs.ShardView.{ShardView}

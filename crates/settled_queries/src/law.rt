@@ -1,7 +1,7 @@
 //! Laws of what a writer finds and of the moment after own calls, over every run of the core.
 
 ghost use Rattle.std.specs.Prelude.{◌≡◌, ℕ, true, List, ◌++◌};
-ghost use Rattle.core_callers.specs.Knowing.{IsClientOf, IsLaterRun};
+ghost use Rattle.core_program.specs.Knowing.{IsClientOf, IsLaterRun};
 ghost use Rattle.core_events.specs.Clients.{calls_of, client_state};
 ghost use Rattle.core_events.specs.Events.{CoreEvent, Opening};
 ghost use Rattle.core_events.specs.Runs.{IsCoreRun};

@@ -3,7 +3,7 @@
 ghost use Rattle.std.specs.Prelude.{ℕ, List};
 ghost use Rattle.agg_fold.specs.Standing.{StandsFor};
 ghost use Rattle.agg_fold.specs.declared.groups.Groups.{Groups};
-ghost use Rattle.core_callers.specs.Knowing.{IsClientOf, IsLaterRun, IsSessionOf};
+ghost use Rattle.core_program.specs.Knowing.{IsClientOf, IsLaterRun, IsSessionOf};
 ghost use Rattle.core_events.specs.Events.{CoreEvent, Opening};
 ghost use Rattle.core_program.specs.CoreFits.{CoreEntry};
 ghost use Rattle.core_serial.specs.CubeRows.{rows_to_find};

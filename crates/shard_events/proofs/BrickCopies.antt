@@ -15,9 +15,9 @@ use Rattle.core_events.specs.Clients.{reader_up_to}
 use Rattle.core_events.specs.Runs.{IsBrickCopy}
 use Rattle.core_events.specs.ShardView.{BrickEntry, RowRun, RowMark, EpochSet, HasNoZeroRows, brick_rows_seen, entries_of_round, every_epoch, is_below_mark, is_up_to, rows_appended, rows_over_kept, rows_shown_to, rows_where}
 use Rattle.core_events.proofs.RoundEntries.{IsOfRound, rows-of-round}
-use Rattle.core_parts.proofs.CopyRows.{sees-low}
-use Rattle.core_outputs.proofs.CopiedBricks.{none-at-zero, sees-zero}
-use Rattle.core_outputs.proofs.OverKept.{NoneAtZero, over-none, over-run}
+use Rattle.core_events.proofs.CopyRows.{sees-low}
+use Rattle.core_serial.proofs.CopiedBricks.{none-at-zero, sees-zero}
+use Rattle.core_serial.proofs.OverKept.{NoneAtZero, over-none, over-run}
 use Rattle.shard_views.specs.Views.{IsUniform, IsWholeContent, ShowAlikeAbove, brick_view, part_view}
 use Rattle.shard_views.proofs.Alike.{view_from}
 use Rattle.shard_views.proofs.CopiedParts.{copies_the_same, part_epochs, part_whole}

@@ -1,7 +1,7 @@
 -- A COMMIT ends the writer of the transaction that is open, and what its calls then leave.
 use Rattle.std.proofs.Common.{◌≡◌, ℕ, List, [], ◌∷◌, ◌++◌, sym, subst}
 use Rattle.client_calls.specs.ClientCalls.{desk_entry}
-use Rattle.core_callers.specs.Knowing.{IsClientOf}
+use Rattle.core_program.specs.Knowing.{IsClientOf}
 use Rattle.core_cells.specs.declared.desk.DeskAnswer.TheVariants as answer
 use Rattle.core_cells.specs.declared.desk.DeskCall.TheVariants as call
 use Rattle.core_pasts.proofs.CallEntries.{commits-at}

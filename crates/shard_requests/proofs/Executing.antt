@@ -4,8 +4,8 @@ use Rattle.std.proofs.lemmas.Option.{none-some}
 use Rattle.client_calls.specs.ClientCalls.{desk_entry}
 use Rattle.core_cells.specs.declared.desk.DeskAnswer.TheVariants as answer
 use Rattle.core_cells.specs.declared.desk.DeskCall.TheVariants as call
-use Rattle.core_callers.specs.Knowing.{IsClientOf, IsSessionOf}
-use Rattle.core_outputs.specs.Journals.{journal_of}
+use Rattle.core_program.specs.Knowing.{IsClientOf, IsSessionOf}
+use Rattle.core_serial.specs.Journals.{journal_of}
 use Rattle.core_pasts.specs.CorePasts.{last_number}
 use Rattle.core_pasts.specs.OwnCalls.{OwnCallsLeave}
 use Rattle.core_program.specs.CoreFits.{CoreEntry}

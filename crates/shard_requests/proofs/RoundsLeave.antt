@@ -1,8 +1,8 @@
 -- A round that is asked for, and a purge, leave no entry, by plain calls.
 use Rattle.std.proofs.Common.{◌≡◌, ◌∙◌, ℕ, zero, suc, Bool, List, [], ◌∷◌, ◌++◌, replicate, refl, sym, ap, subst, append_assoc, append-nil, eq-eqb, cond}
 use Rattle.std.specs.List.{AllByRecursion}
-use Rattle.core_callers.proofs.KnownCalls.{earlier-run}
-use Rattle.core_callers.specs.Knowing.{IsLaterRun}
+use Rattle.core_program.proofs.KnownCalls.{earlier-run}
+use Rattle.core_program.specs.Knowing.{IsLaterRun}
 use Rattle.core_events.specs.Clients.{calls_of}
 use Rattle.core_events.specs.Events.{Opening, Post, Fetch, NoChange, ClientCall, CoreEvent, By, flush_mail}
 use Rattle.core_events.specs.Jobs.{Flush}

@@ -1,6 +1,6 @@
 //! COMMIT, and the round that follows it.
 ghost use Rattle.std.specs.Prelude.{◌≡◌, ◌+◌, ◌<◌, ◌≤◌, ℕ, None};
-ghost use Rattle.core_callers.specs.Knowing.{IsClientOf, IsMailAt, IsSessionOf, ServesClient};
+ghost use Rattle.core_program.specs.Knowing.{IsClientOf, IsMailAt, IsSessionOf, ServesClient};
 ghost use Rattle.core_states.specs.ExecutedInCore.{ExecutesInCore, HasOneMore};
 ghost use Rattle.core_states.specs.LeftBehind.{GoOnByCalls, IsPlainCall};
 ghost use Rattle.core_states.specs.StandingInCore.{HoldsForMode};

@@ -1,7 +1,7 @@
 //! Notes that a session leaves.
 ghost use Rattle.std.specs.Prelude.{◌≡◌, [], ◌∷◌, Option};
 ghost use Rattle.std.specs.Bool.{OnFalse, OnTrue};
-ghost use Rattle.core_callers.specs.Knowing.{IsClientOf, IsSessionOf};
+ghost use Rattle.core_program.specs.Knowing.{IsClientOf, IsSessionOf};
 ghost use Rattle.cube_journal.specs.Entries.{note_entry};
 ghost use Rattle.cube_journal.specs.Refusals.{code};
 ghost use Rattle.cube_journal.specs.declared.journal_entry.JournalEntry.TheVariants as entry;

@@ -1,7 +1,7 @@
 //! The round that follows a commit where one is due: what FLUSH and then PURGE do.
 ghost use Rattle.std.specs.Prelude.{◌≡◌, ◌+◌, ◌≤◌, true, Option};
 ghost use Rattle.std.specs.Bool.{OnFalse, OnTrue};
-ghost use Rattle.core_callers.specs.Knowing.{IsClientOf, IsMailAt, IsSessionOf, ServesClient};
+ghost use Rattle.core_program.specs.Knowing.{IsClientOf, IsMailAt, IsSessionOf, ServesClient};
 ghost use Rattle.cube_journal.specs.declared.note.Note.TheVariants as note;
 ghost use Rattle.cube_values.specs.declared.snapshot.Snapshot.{Snapshot};
 ghost use Rattle.job_groups.specs.AskedEach.{AreShardMails};

@@ -2,8 +2,8 @@
 use Rattle.std.proofs.Common.{◌≡◌, ◌∙◌, ℕ, zero, suc, ◌+◌, List, [], ◌∷◌, ◌++◌, length, replicate, refl, sym, ap, subst, arith, append-nil}
 use Rattle.std.specs.List.{AllByRecursion}
 use Rattle.core_board_cells.specs.BoardCells.{call_job}
-use Rattle.core_callers.proofs.KnownCalls.{earlier-run}
-use Rattle.core_callers.specs.Knowing.{IsLaterRun}
+use Rattle.core_program.proofs.KnownCalls.{earlier-run}
+use Rattle.core_program.specs.Knowing.{IsLaterRun}
 use Rattle.core_events.specs.Clients.{calls_of}
 use Rattle.core_events.specs.Events.{Opening, OnDesk, OnNames, Post, Fetch, CloseMail, NoChange, ClientCall, CoreEvent}
 use Rattle.core_pasts.specs.OwnCalls.{OwnCallsLeave}

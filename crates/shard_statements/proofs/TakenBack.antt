@@ -3,7 +3,7 @@ use Rattle.std.proofs.Common.{◌≡◌, ℕ, List, [], ◌∷◌, ◌++◌}
 use Rattle.client_calls.specs.ClientCalls.{desk_entry}
 use Rattle.core_cells.specs.declared.desk.DeskAnswer.TheVariants as answer
 use Rattle.core_cells.specs.declared.desk.DeskCall.TheVariants as call
-use Rattle.core_callers.specs.Knowing.{IsClientOf}
+use Rattle.core_program.specs.Knowing.{IsClientOf}
 use Rattle.core_pasts.proofs.CallEntries.{aborts-at}
 use Rattle.core_program.specs.CoreFits.{CoreEntry}
 use Rattle.core_states.proofs.LeftCalls.{left-by-call, left-then}

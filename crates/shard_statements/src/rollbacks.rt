@@ -1,7 +1,7 @@
 //! ROLLBACK, and the end of a script that has a transaction open: all shards take back what the writer wrote,
 //! and only then is its epoch ended.
 ghost use Rattle.std.specs.Prelude.{◌≡◌, ◌+◌, ◌<◌, ◌≤◌, [], ◌∷◌, None, IfOk, OnErr, OnOk};
-ghost use Rattle.core_callers.specs.Knowing.{IsClientOf, IsSessionOf};
+ghost use Rattle.core_program.specs.Knowing.{IsClientOf, IsSessionOf};
 ghost use Rattle.core_states.specs.ExecutedInCore.{ExecutesInCore, HasOneMore};
 ghost use Rattle.core_states.specs.LeftBehind.{GoOnByCalls, IsPlainCall};
 ghost use Rattle.core_states.specs.StandingInCore.{HoldsForMode};

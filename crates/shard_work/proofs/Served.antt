@@ -4,7 +4,7 @@ use Rattle.std.specs.Prelude.{fold, flat_map}
 use Rattle.mail_cell.specs.declared.answer.Taken.{Taken}
 use Rattle.mail_cell.specs.declared.answer.Taken.TheVariants.{Job as SomeJob, Empty, Closed}
 use Rattle.core_program.specs.CoreFits.{CoreEntry}
-use Rattle.core_callers.specs.Workers.{JobInHand, NoneInHand, JobTaken, JobDone, with_answer, in_hand_after, in_hand, IsShardWork}
+use Rattle.core_program.specs.Workers.{JobInHand, NoneInHand, JobTaken, JobDone, with_answer, in_hand_after, in_hand, IsShardWork}
 use Rattle.cube_core.specs.declared.jobs.Job.{Job}
 use Rattle.cube_core.specs.declared.shard.ShardAnswer.{ShardAnswer}
 use Rattle.cube_core.specs.declared.shard.ShardCall.{ShardCall}

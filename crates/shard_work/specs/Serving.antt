@@ -8,7 +8,7 @@ use Rattle.core_board_cells.specs.BoardCells.{cell_of_shard}
 use Rattle.core_cells.specs.declared.mail.MailAnswer.TheVariants as got
 use Rattle.core_cells.specs.declared.mail.MailCall.TheVariants as mail
 use Rattle.core_program.specs.CoreFits.{CoreEntry}
-use Rattle.core_callers.specs.Workers.{NoneInHand, in_hand, IsShardWork}
+use Rattle.core_program.specs.Workers.{NoneInHand, in_hand, IsShardWork}
 use Rattle.cube_core.specs.declared.cell.CoreAnswer.TheVariants as answer
 use Rattle.cube_core.specs.declared.cell.CoreCall.TheVariants as call
 use Rattle.cube_core.specs.declared.jobs.Job.{Job}

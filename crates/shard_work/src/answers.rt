@@ -1,9 +1,9 @@
 //! What comes back from a worker's calls, by the kind of the call.
 ghost use Rattle.std.specs.Prelude.{◌≡◌, ℕ};
-ghost use Rattle.core_callers.specs.AnswersOfCalls.{CoreAnswers, MailAnswers};
+ghost use Rattle.core_program.specs.AnswersOfCalls.{CoreAnswers, MailAnswers};
 ghost use Rattle.core_cells.specs.declared.mail.MailAnswer.TheVariants as got;
 ghost use Rattle.core_cells.specs.declared.mail.MailCall.TheVariants as mail;
-ghost use Rattle.core_callers.specs.Workers.{IsShardWork};
+ghost use Rattle.core_program.specs.Workers.{IsShardWork};
 ghost use Rattle.cube_core.specs.declared.cell.CoreAnswer.TheVariants as answer;
 ghost use Rattle.cube_core.specs.declared.cell.CoreCall.TheVariants as call;
 ghost use Rattle.cube_core.specs.declared.jobs.JobAnswer.{JobAnswer};

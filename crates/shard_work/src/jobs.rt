@@ -1,6 +1,6 @@
 //! A job from taking it to the reply.
 ghost use Rattle.std.specs.Prelude.{◌≡◌, ◌+◌, ◌<◌, ◌≤◌, ℕ, [], ◌∷◌, ◌++◌};
-ghost use Rattle.core_callers.specs.Workers.{IsShardWork, IsWorkerOf, JobDone, JobTaken, NoneInHand, in_hand};
+ghost use Rattle.core_program.specs.Workers.{IsShardWork, IsWorkerOf, JobDone, JobTaken, NoneInHand, in_hand};
 ghost use Rattle.cube_core.specs.declared.jobs.Job.{Job};
 ghost use Rattle.cube_core.specs.declared.jobs.Work.TheVariants as work;
 ghost use Rattle.shard_work.specs.Serving.{HasDoneJob, IsForShard, call_entry, reply_entry, take_entry};
@@ -9,9 +9,8 @@ ghost use Rattle.turn_board.specs.Passes.{callers_of};
 use crate::answers::{expect_done, shard_answer_in, shard_call_in, taken_in};
 use board_callers::CellCaller;
 use core_board_cells::LinkedShard;
-use core_callers::{answers_fit_their_calls, workers_serve_their_shards};
 use core_cells::MailCall;
-use core_program::{CoreCells, CoreSize};
+use core_program::{CoreCells, CoreSize, answers_fit_their_calls, workers_serve_their_shards};
 use cube_core::{CoreCall, Job, JobAnswer, ShardAnswer, ShardCall};
 use mail_cell::Taken;
 use outside_disk::Gate;

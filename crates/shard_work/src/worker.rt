@@ -1,6 +1,6 @@
 //! The worker's loop.
 ghost use Rattle.std.specs.Prelude.{◌≡◌, ◌+◌, ◌<◌, ◌≤◌};
-ghost use Rattle.core_callers.specs.Workers.{IsWorkerOf, NoneInHand, in_hand};
+ghost use Rattle.core_program.specs.Workers.{IsWorkerOf, NoneInHand, in_hand};
 ghost use Rattle.shard_work.specs.Serving.{HasServedAll};
 ghost use Rattle.turn_board.specs.Passes.{callers_of};
 

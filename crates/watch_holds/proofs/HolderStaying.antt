@@ -5,7 +5,7 @@ use Rattle.std.proofs.lemmas.Option.{none-some, same_Some}
 use Rattle.cube_values.specs.declared.snapshot.Snapshot.{Snapshot}
 use Rattle.core_cells.specs.declared.desk.DeskAnswer.TheVariants as answer
 use Rattle.core_cells.specs.declared.desk.DeskCall.TheVariants as call
-use Rattle.core_parts.proofs.Lookups.{held-under-append, held-under-without, with_one, without_one}
+use Rattle.core_events.proofs.Lookups.{held-under-append, held-under-without, with_one, without_one}
 use Rattle.core_events.specs.Clients.{Holding, ClientState, after_client_call, held_under, holds_with, holds_without, leader_after, others_hold, reader_up_to}
 use Rattle.core_events.specs.Events.{Opening, OpenWrite, OpenRead, Commit, AbortEnd, CloseRead, TakeNote, CreateCube, FindCube, CubesFrom, CountersNow, RoundOpen, RoundClose, StoreFailed, ClientCall, OnDesk, OnNames, Post, Fetch, CloseMail, NoChange}
 use Rattle.session_holds.specs.HoldStates.{IsReadyWith, IsUnderOwnNumber, after_desk_call}

@@ -2,7 +2,7 @@
 use Rattle.std.proofs.Common.{◌≡◌, ◌∙◌, ◌≢◌, ℕ, ◌==◌, Bool, true, false, ◌||◌, not, List, [], ◌∷◌, ◌++◌, filter, inl, inr, if◌then◌else◌, Some, refl, sym, ap, arith, ne_eqb}
 use Rattle.std.specs.List.{list_any}
 use Rattle.std.proofs.lemmas.List.Elements.{filter-append}
-use Rattle.core_parts.proofs.Lookups.{held-under-without, without_one}
+use Rattle.core_events.proofs.Lookups.{held-under-without, without_one}
 use Rattle.core_events.specs.Clients.{Holding, held_under, holds_with, holds_without, others_hold, reader_up_to}
 use Rattle.session_holds.proofs.Snapshots.{same-number}
 use Rattle.watch_holds.specs.HolderStates.{IsHolderOf, reader_under}

@@ -1,6 +1,6 @@
 use Rattle.std.proofs.Common.{◌+◌, List, subst}
 use Rattle.turn_board.specs.History.{event}
-use Rattle.core_callers.specs.AnswersOfCalls.{HaveAnswers}
+use Rattle.core_program.specs.AnswersOfCalls.{HaveAnswers}
 use Rattle.core_cells.specs.declared.mail.MailCall.TheVariants as mail
 use Rattle.core_program.specs.CoreFits.{CoreEntry}
 use Rattle.cube_core.specs.declared.cell.CoreCall.TheVariants as call

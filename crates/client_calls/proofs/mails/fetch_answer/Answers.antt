@@ -2,7 +2,7 @@ use Rattle.std.proofs.Common.{◌∙◌, ◌+◌, ℕ, [], ◌∷◌, ◌++◌, 
 use Rattle.mail_cell.specs.declared.answer.Fetched.TheVariants.{Got, NotYet}
 use Rattle.client_calls.proofs.Waiting.{learns-it, waits-on}
 use Rattle.client_calls.specs.ClientCalls.{ask_entry}
-use Rattle.core_callers.specs.Knowing.{Knows, MayFetchFrom}
+use Rattle.core_program.specs.Knowing.{Knows, MayFetchFrom}
 use Rattle.client_calls.proofs.mails.fetch_answer.Goals as goal
 
 pub ask_for_answer-requires-clause-may : goal.ask_for_answer-requires-clause-may

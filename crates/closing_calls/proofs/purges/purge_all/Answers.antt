@@ -4,7 +4,7 @@ use Rattle.client_calls.specs.ClientCalls.{HasFetched, LearnsByFetch, post_entry
 use Rattle.closing_calls.specs.ClosingCalls.{HasPurgedAll, MainKnows, MainStays}
 use Rattle.closing_calls.proofs.MainPurges.{has-purged, may-purge-each, stays-after}
 use Rattle.closing_calls.proofs.PurgeLoops.{all-learnt, may-fetch-next, may-post-next, none-fetched, none-posted, one-fetched, one-posted}
-use Rattle.core_callers.specs.Knowing.{Knows, MayFetchFrom, MayPostJob}
+use Rattle.core_program.specs.Knowing.{Knows, MayFetchFrom, MayPostJob}
 use Rattle.core_program.specs.CoreFits.{CoreEntry, FitsOwnCalls}
 use Rattle.cube_core.specs.CoreSteps.{CoreStep}
 use Rattle.cube_core.specs.declared.jobs.Work.TheVariants as work

@@ -3,7 +3,7 @@ use Rattle.cube_run.specs.RunRecords.{RunRecord}
 use Rattle.core_names.proofs.law.runs_may_leave_their_names.Goals as goal
 
 pub returns : goal.returns
-returns g c = λ cells caller session past run goes. record {
+returns g c = λ asked cells caller session past run goes. record {
   opening = goes.opening;
   log = goes.from.log;
   run = goes.events;

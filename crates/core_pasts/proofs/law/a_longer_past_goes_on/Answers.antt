@@ -10,8 +10,8 @@ returns-clause-runs g c = λ cells caller session.
     run-before g.S.LinkedShard.fits g.S.LinkedShard.stands g.S.LinkedShard.says cells caller session
 
 pub returns-clause-earlier : goal.returns-clause-earlier
-returns-clause-earlier g c = λ cells caller session.
-    goes-on-before g.S.LinkedShard.fits g.S.LinkedShard.stands g.S.LinkedShard.says cells caller session g.B.Besides.claim
+returns-clause-earlier g c = λ asked cells caller session.
+    goes-on-before g.S.LinkedShard.fits g.S.LinkedShard.stands g.S.LinkedShard.says cells caller session (g.B.Besides.claim asked)
 
 pub returns-clause-turn : goal.returns-clause-turn
 returns-clause-turn g c = in-turn-after

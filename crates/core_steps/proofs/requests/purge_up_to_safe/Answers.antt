@@ -1,5 +1,5 @@
 use Rattle.std.proofs.Common.{None}
-use Rattle.core_callers.specs.Knowing.{IsSessionOf}
+use Rattle.core_program.specs.Knowing.{IsSessionOf}
 use Rattle.linked_shards.specs.CellShards.{CoreShardStands}
 use Rattle.session_requests.specs.SessionRequests.{KnowsSafe}
 use Rattle.shard_events.specs.ShardsInRuns.{FitsShard, ShardAnswerSays}

@@ -1,5 +1,5 @@
 use Rattle.std.proofs.Common.{inl}
-use Rattle.core_callers.specs.Knowing.{IsSessionOf}
+use Rattle.core_program.specs.Knowing.{IsSessionOf}
 use Rattle.linked_shards.specs.CellShards.{CoreShardStands}
 use Rattle.shard_events.specs.ShardsInRuns.{FitsShard, ShardAnswerSays}
 use Rattle.core_steps.proofs.transactions.roll_back.Goals as goal

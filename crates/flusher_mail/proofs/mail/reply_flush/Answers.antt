@@ -1,11 +1,11 @@
 use Rattle.std.proofs.Common.{◌∙◌, ◌+◌, List, [], ◌∷◌, ◌++◌, ap, subst}
 use Rattle.turn_board.specs.History.{event}
-use Rattle.core_callers.specs.AnswersOfCalls.{HaveAnswers}
+use Rattle.core_program.specs.AnswersOfCalls.{HaveAnswers}
 use Rattle.core_cells.specs.declared.mail.MailCall.TheVariants as mail
 use Rattle.core_program.specs.CoreFits.{CoreEntry}
 use Rattle.cube_core.specs.declared.cell.CoreCall.TheVariants as call
 use Rattle.cube_core.specs.declared.jobs.JobAnswer.TheVariants as reply
-use Rattle.core_callers.specs.Flushing.{KnowsPart}
+use Rattle.core_program.specs.Flushing.{KnowsPart}
 use Rattle.flusher_mail.proofs.AtMail.{after-reply, learns-reply}
 use Rattle.flusher_mail.specs.FlusherMail.{HasNoFlush}
 use Rattle.flusher_mail.proofs.mail.reply_flush.Goals as goal

@@ -1,8 +1,8 @@
 use Rattle.std.proofs.Common.{◌∙◌, ◌+◌, List, [], ◌∷◌, ◌++◌, ap, subst}
 use Rattle.turn_board.specs.History.{event}
-use Rattle.core_callers.specs.AnswersOfCalls.{HaveAnswers}
+use Rattle.core_program.specs.AnswersOfCalls.{HaveAnswers}
 use Rattle.core_cells.specs.declared.mail.MailCall.TheVariants as mail
-use Rattle.core_callers.specs.Flushing.{KnowsPart}
+use Rattle.core_program.specs.Flushing.{KnowsPart}
 use Rattle.core_program.specs.CoreFits.{CoreEntry}
 use Rattle.cube_core.specs.declared.cell.CoreAnswer.{CoreAnswer}
 use Rattle.cube_core.specs.declared.cell.CoreCall.TheVariants as call

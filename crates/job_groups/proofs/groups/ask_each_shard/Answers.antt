@@ -1,6 +1,6 @@
 use Rattle.std.proofs.Common.{◌∙◌, ◌+◌, ℕ, List, [], ◌∷◌, ◌++◌, length, refl, sym, subst, arith}
 use Rattle.client_calls.specs.ClientCalls.{HasFetched, LearnsByFetch, post_entry}
-use Rattle.core_callers.specs.Knowing.{Knows, MayFetchFrom, MayPostJob, ServesClient}
+use Rattle.core_program.specs.Knowing.{Knows, MayFetchFrom, MayPostJob, ServesClient}
 use Rattle.cube_core.specs.declared.jobs.JobAnswer.{JobAnswer}
 use Rattle.cube_core.specs.declared.jobs.Work.TheVariants as work
 use Rattle.job_groups.proofs.GroupLoops.{FetchedSome, fetched-next, fetched-none, knows-each, knows-fetch, knows-post, learns-of-each, next-of, number-is, posted-next, posted-none, some-at}

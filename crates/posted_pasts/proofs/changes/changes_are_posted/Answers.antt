@@ -10,9 +10,9 @@ use Rattle.posted_pasts.proofs.changes.changes_are_posted.Goals as goal
 
 pub returns-clause-put : goal.returns-clause-put
 returns-clause-put g c =
-    λ cells caller session cube epoch batches before after own now state sentence added turn m more learns apart puts.
+    λ asked cells caller session cube epoch batches before after own now state sentence added turn m more learns apart puts.
     with-change g.S.LinkedShard.fits g.S.LinkedShard.stands g.S.LinkedShard.says
-    cells caller session g.B.Besides.claim before after state
+    cells caller session (g.B.Besides.claim asked) before after state
     sentence added turn m cube epoch (batches_posted batches) own now more learns
     (λ o given events es r.
     put-change (record_of o given events) (last_step session after state sentence added) cube epoch batches
@@ -21,9 +21,9 @@ returns-clause-put g c =
 
 pub returns-clause-dropped : goal.returns-clause-dropped
 returns-clause-dropped g c =
-    λ cells caller session cube epoch box before after own now state sentence added turn m more learns apart drops.
+    λ asked cells caller session cube epoch box before after own now state sentence added turn m more learns apart drops.
     with-change g.S.LinkedShard.fits g.S.LinkedShard.stands g.S.LinkedShard.says
-    cells caller session g.B.Besides.claim before after state
+    cells caller session (g.B.Besides.claim asked) before after state
     sentence added turn m cube epoch (DropRows box ∷ []) own now more learns
     (λ o given events es r.
     drop-change (record_of o given events) (last_step session after state sentence added) cube epoch box

@@ -1,6 +1,6 @@
 use Rattle.std.proofs.Common.{List, subst}
 use Rattle.turn_board.specs.History.{event}
-use Rattle.core_callers.specs.AnswersOfCalls.{CoreAnswers, HaveAnswers}
+use Rattle.core_program.specs.AnswersOfCalls.{CoreAnswers, HaveAnswers}
 use Rattle.core_program.specs.CoreFits.{CoreEntry}
 use Rattle.cube_core.specs.declared.cell.CoreCall.TheVariants as call
 use Rattle.round_copies.proofs.calls.ask_names.Goals as goal

@@ -1,9 +1,9 @@
 use Rattle.std.proofs.Common.{◌≡◌, ◌∙◌, List, length, map, All, ap, sym, subst}
 use Rattle.std.proofs.lemmas.Result.{IfOk-weaker}
 use Rattle.std.proofs.lemmas.List.{length-map}
-use Rattle.core_callers.specs.Knowing.{Knows}
+use Rattle.core_program.specs.Knowing.{Knows}
 use Rattle.cube_core.specs.declared.shard.ShardCall.{ShardCall}
-use Rattle.core_callers.proofs.FlusherCalls.{is-client}
+use Rattle.core_program.proofs.FlusherCalls.{is-client}
 use Rattle.cube_core.specs.declared.shard.ShardCall.TheVariants as call
 use Rattle.job_groups.specs.AskedEach.{AreOfOneKind, MayAskEach}
 use Rattle.round_copies.proofs.CopyTurns.{one-kind}

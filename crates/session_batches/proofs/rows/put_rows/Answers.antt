@@ -1,6 +1,6 @@
 use Rattle.std.proofs.Common.{◌∙◌, ◌<◌, ℕ, nat_eq, List, All, ap, arith, length, subst, sym}
 use Rattle.std.specs.List.{IsDistinct}
-use Rattle.core_callers.specs.Knowing.{IsLaterRun}
+use Rattle.core_program.specs.Knowing.{IsLaterRun}
 use Rattle.core_events.specs.Clients.{calls_of}
 use Rattle.core_program.specs.CoreFits.{CoreEntry}
 use Rattle.cube_core.specs.declared.shard.ShardCall.{ShardCall}

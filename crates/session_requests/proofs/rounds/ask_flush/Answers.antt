@@ -1,4 +1,4 @@
-use Rattle.core_callers.specs.Knowing.{Knows, MayFetchFrom}
+use Rattle.core_program.specs.Knowing.{Knows, MayFetchFrom}
 use Rattle.linked_shards.specs.CellShards.{CoreShardStands}
 use Rattle.session_requests.proofs.AskedRounds.{may-fetch, may-post, round-end, tells-end}
 use Rattle.shard_events.specs.ShardsInRuns.{FitsShard, ShardAnswerSays}

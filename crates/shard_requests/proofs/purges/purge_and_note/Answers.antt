@@ -1,6 +1,6 @@
 use Rattle.std.proofs.Common.{List, [], ◌∷◌, sym, subst}
 use Rattle.std.specs.Bool.{OnFalse, OnTrue}
-use Rattle.core_callers.specs.Knowing.{IsClientOf, IsSessionOf}
+use Rattle.core_program.specs.Knowing.{IsClientOf, IsSessionOf}
 use Rattle.core_program.specs.CoreFits.{CoreEntry}
 use Rattle.core_states.proofs.LeftCalls.{left-nothing}
 use Rattle.cube_journal.specs.declared.journal_entry.JournalEntry.TheVariants as entry

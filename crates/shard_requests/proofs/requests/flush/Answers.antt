@@ -1,5 +1,5 @@
 use Rattle.std.proofs.Common.{◌+◌, [], ◌∷◌, refl, arith}
-use Rattle.core_callers.specs.Knowing.{IsClientOf, IsSessionOf}
+use Rattle.core_program.specs.Knowing.{IsClientOf, IsSessionOf}
 use Rattle.core_states.proofs.Holding.{held_for, holds-on, ready-for-mode}
 use Rattle.core_states.proofs.Refused.{counted, either-plain, if-refused, refuses-memory, then-refused, then-stopped}
 use Rattle.core_states.specs.ExecutedInCore.{ExecutesInCore}

@@ -1,6 +1,6 @@
 use Rattle.std.proofs.Common.{◌∙◌, ◌+◌, [], ◌∷◌, refl, arith}
 use Rattle.std.proofs.lemmas.Bool.{OnFalse_at, OnTrue_at}
-use Rattle.core_callers.specs.Knowing.{IsClientOf, IsSessionOf}
+use Rattle.core_program.specs.Knowing.{IsClientOf, IsSessionOf}
 use Rattle.core_cells.specs.declared.desk.DeskAnswer.TheVariants as answer
 use Rattle.core_cells.specs.declared.desk.DeskCall.TheVariants as call
 use Rattle.core_states.proofs.Holding.{held_for, holds-on, ready-for-mode}

@@ -1,6 +1,6 @@
 use Rattle.std.proofs.Common.{◌+◌, [], ◌∷◌}
 use Rattle.std.specs.Bool.{OnFalse, OnTrue}
-use Rattle.core_callers.specs.Knowing.{IsClientOf, IsSessionOf}
+use Rattle.core_program.specs.Knowing.{IsClientOf, IsSessionOf}
 use Rattle.core_cells.specs.declared.desk.DeskAnswer.TheVariants as answer
 use Rattle.core_cells.specs.declared.desk.DeskCall.TheVariants as call
 use Rattle.core_states.proofs.LeftCalls.{left-by-call}

@@ -1,6 +1,6 @@
 use Rattle.std.proofs.Common.{◌+◌, true, [], ◌∷◌, refl, arith}
 use Rattle.std.specs.Bool.{OnFalse, OnTrue}
-use Rattle.core_callers.specs.Knowing.{IsClientOf, IsSessionOf}
+use Rattle.core_program.specs.Knowing.{IsClientOf, IsSessionOf}
 use Rattle.cube_core.specs.declared.jobs.FlushAnswer.TheVariants as flush
 use Rattle.cube_journal.specs.declared.journal_entry.JournalEntry.TheVariants as entry
 use Rattle.cube_journal.specs.declared.note.Note.TheVariants as note

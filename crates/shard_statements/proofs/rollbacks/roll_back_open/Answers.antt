@@ -1,4 +1,4 @@
-use Rattle.core_callers.specs.Knowing.{IsSessionOf}
+use Rattle.core_program.specs.Knowing.{IsSessionOf}
 use Rattle.std.proofs.Common.{◌+◌, [], ◌∷◌, refl, arith}
 use Rattle.core_states.proofs.Refused.{counted, either-plain, if-refused, refuses-memory}
 use Rattle.core_states.specs.ExecutedInCore.{ExecutesInCore}

@@ -2,7 +2,7 @@ use Rattle.std.proofs.Common.{◌≡◌, [], ◌∷◌, ◌++◌}
 use Rattle.client_calls.specs.ClientCalls.{desk_entry}
 use Rattle.core_cells.specs.declared.desk.DeskAnswer.TheVariants as answer
 use Rattle.core_cells.specs.declared.desk.DeskCall.TheVariants as call
-use Rattle.core_callers.specs.Knowing.{IsSessionOf}
+use Rattle.core_program.specs.Knowing.{IsSessionOf}
 use Rattle.known_holds.specs.KnownHolds.{HoldsRolledBack}
 use Rattle.shard_statements.proofs.TakenBack.{took-back}
 use Rattle.linked_shards.specs.CellShards.{CoreShardStands}

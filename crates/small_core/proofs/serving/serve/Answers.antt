@@ -1,5 +1,5 @@
 use Rattle.std.proofs.Common.{◌+◌, ap}
-use Rattle.core_callers.specs.Workers.{IsWorkerOf, in_hand}
+use Rattle.core_program.specs.Workers.{IsWorkerOf, in_hand}
 use Rattle.linked_shards.specs.CellShards.{CoreShardStands}
 use Rattle.shard_work.specs.Serving.{HasServedAll}
 use Rattle.shard_events.specs.ShardsInRuns.{FitsShard, ShardAnswerSays}

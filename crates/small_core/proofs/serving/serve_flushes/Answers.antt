@@ -1,6 +1,6 @@
 use Rattle.std.proofs.Common.{◌+◌, arith}
-use Rattle.core_callers.specs.Knowing.{IsMailAt}
-use Rattle.core_callers.specs.Flushing.{IsFlusherOf}
+use Rattle.core_program.specs.Knowing.{IsMailAt}
+use Rattle.core_program.specs.Flushing.{IsFlusherOf}
 use Rattle.flush_loop.specs.FlushTurns.{LearnsOfFlushes}
 use Rattle.job_groups.specs.AskedEach.{AreShardMails}
 use Rattle.linked_shards.specs.CellShards.{CoreShardStands}
@@ -40,7 +40,7 @@ flush_loop-requires-clause-mails g c =
     (omega arith))
 
 pub flush_loop-requires-clause-kept : goal.flush_loop-requires-clause-kept
-flush_loop-requires-clause-kept g c = λ o log run es later are. tt
+flush_loop-requires-clause-kept g c = record { kept = c.requires.begins.core.kept; in_runs = λ o log run es later are. tt }
 
 pub flush_loop-requires-clause-free : goal.flush_loop-requires-clause-free
 flush_loop-requires-clause-free g c =
