@@ -1,0 +1,2 @@
+pub mod EndedScripts
+pub mod PlayedHistories

@@ -1,0 +1,4 @@
+pub mod QuietLearns
+pub mod SpokenMore
+pub mod PerformedPlainly
+pub mod PlayedMore

@@ -1,0 +1,141 @@
+//! The texts that a session knows, by the places of their cubes.
+
+ghost use Rattle.std.specs.Prelude.{◌≡◌, List, [], None, Some, length, set, replicate, IfOk, IfSome};
+ghost use Rattle.cube_language.specs.declared.decl.DimDecl.{DimDecl};
+ghost use Rattle.core_program.specs.CoreFits.{CoreEntry};
+ghost use Rattle.session_texts.specs.ToldTexts.{
+  AreCubeTextsTold,
+  AreOfDimensions,
+  AreTextsTold,
+  cardinalities,
+  kept_at,
+};
+
+use core_names::CubeTexts;
+use cube_language::{DimDecl, MOST_CUBES};
+use std::alloc::{AllocError, Global};
+use std::marker::Model;
+
+/// The texts of a cube that are known, beside how many coordinates each of its dimensions has.
+#[derive(Drop)]
+pub struct TextsOfCube {
+    pub sizes: Vec<u32>,
+    pub texts: CubeTexts,
+}
+
+/// The texts that a session knows of each cube, by the cube's place. A statement takes those of its
+/// cube, learns more, and puts them back.
+#[derive(Drop)]
+pub struct SessionTexts {
+    cubes: Vec<Option<TextsOfCube>>,
+}
+
+impl Model for SessionTexts {
+    ghost use Rattle.std.specs.Prelude.{List, Option};
+    ghost use Rattle.session_texts.specs.declared.texts.TextsOfCube.{TextsOfCube};
+
+    ghost Value = { List (Option TextsOfCube) };
+
+    ghost view = { λ t. t.cubes.items };
+}
+
+impl SessionTexts {
+    #[tactic(auto, using(crate::proofs::KeptTexts::none_told))]
+    /// No texts, of so many cubes as there can be.
+    pub fn new(alloc: Global) -> Result<SessionTexts, AllocError>
+        ensures none { IfOk result (λ texts. texts ≡ replicate MOST_CUBES None) }
+        ensures told { IfOk result (λ texts. (own : List CoreEntry) → AreTextsTold own texts) }
+    {
+        let mut cubes = Vec::with_capacity(alloc, MOST_CUBES)?;
+        'cubes: for _cube in 0..MOST_CUBES {
+            cubes.push(None)?;
+        }
+        Ok(SessionTexts { cubes })
+    }
+
+    #[tactic(auto, using(crate::proofs::KeptTexts::kept_told, crate::proofs::KeptTexts::fresh_told, crate::proofs::KeptTexts::told_without))]
+    /// The texts that are kept of the cube at a place, where these are of such dimensions, and else none.
+    /// Nothing is kept of the cube from then on, also where memory is wanted.
+    pub fn take(
+        &mut self,
+        alloc: Global,
+        place: u32,
+        dims: &[DimDecl],
+    ) -> Result<TextsOfCube, AllocError>
+        ensures sizes { IfOk result (AreOfDimensions dims.now) }
+        ensures kept { IfOk result (λ cube. IfSome (kept_at self.old place)
+            (λ known. AreOfDimensions dims.now known → cube ≡ known)) }
+        ensures others { self.new ≡ set self.old place None }
+        ensures told { (own : List CoreEntry) → AreTextsTold own self.old
+            → IfOk result (λ cube. AreCubeTextsTold own place dims.now cube.texts) }
+        ensures still { (own : List CoreEntry) → AreTextsTold own self.old
+            → AreTextsTold own self.new }
+    {
+        let kept = self.take_kept(place);
+        let sizes = cardinalities(alloc, dims)?;
+        match fitting(kept, sizes.as_slice()) {
+            Some(cube) => Ok(cube),
+            None => no_texts(alloc, sizes),
+        }
+    }
+
+    // What is kept of the cube at a place, which is then kept no more.
+    fn take_kept(&mut self, place: u32) -> Option<TextsOfCube>
+        ensures kept { result ≡ kept_at self.old place }
+        ensures others { self.new ≡ set self.old place None }
+    {
+        if self.cubes.len() <= place as usize {
+            return None;
+        }
+        self.cubes[place as usize].take()
+    }
+
+    #[tactic(auto, using(crate::proofs::KeptTexts::told_with))]
+    /// Keeps the texts of the cube at a place.
+    pub fn put_back(&mut self, place: u32, cube: TextsOfCube)
+        ensures kept { self.new ≡ set self.old place (Some cube) }
+        ensures told { (own : List CoreEntry) (dims : List DimDecl) → AreTextsTold own self.old
+            → AreOfDimensions dims cube → AreCubeTextsTold own place dims cube.texts
+            → AreTextsTold own self.new }
+    {
+        if (place as usize) < self.cubes.len() {
+            self.cubes[place as usize] = Some(cube);
+        }
+    }
+}
+
+// How many coordinates each dimension has.
+fn cardinalities(alloc: Global, dims: &[DimDecl]) -> Result<Vec<u32>, AllocError>
+    ensures { IfOk result (λ sizes. sizes.items ≡ cardinalities dims.now) }
+{
+    dims.iter().map(cardinality_of).collect(alloc)
+}
+
+fn cardinality_of(dim: &DimDecl) -> u32
+    ensures { result ≡ dim.now.cardinality }
+{
+    dim.cardinality
+}
+
+// What is kept, where its dimensions have so many coordinates.
+fn fitting(kept: Option<TextsOfCube>, sizes: &[u32]) -> Option<TextsOfCube>
+    ensures fits { IfSome result (λ cube. cube.sizes.items ≡ sizes.now) }
+    ensures is { IfSome result (λ cube. kept ≡ Some cube) }
+    ensures all { IfSome kept (λ cube. cube.sizes.items ≡ sizes.now → result ≡ Some cube) }
+{
+    let cube = kept?;
+    if cube.sizes.as_slice() == sizes {
+        Some(cube)
+    } else {
+        None
+    }
+}
+
+// No text of dimensions that have so many coordinates.
+fn no_texts(alloc: Global, sizes: Vec<u32>) -> Result<TextsOfCube, AllocError>
+    ensures sizes { IfOk result (λ cube. cube.sizes.items ≡ sizes.items) }
+    ensures none { IfOk result (λ cube. cube.texts ≡ replicate (length sizes.items) []) }
+{
+    let texts = CubeTexts::new(alloc, sizes.len())?;
+    Ok(TextsOfCube { sizes, texts })
+}
