@@ -1,0 +1,7 @@
+pub mod SelectsPerformed
+pub mod ReadInRuns
+pub mod Performing
+pub mod PassedMoments
+pub mod OwnCallCounts
+pub mod ItsCube
+pub mod ReadingKinds

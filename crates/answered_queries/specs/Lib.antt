@@ -1,0 +1,3 @@
+pub mod ReadingCalls
+pub mod ReadLines
+pub mod SelectEnds
