@@ -1,0 +1,2 @@
+pub mod CalledCubes
+pub mod FoundOnRecord

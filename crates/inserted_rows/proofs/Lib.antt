@@ -1,0 +1,4 @@
+pub mod EncodedBatches
+pub mod NamesAtEnd
+pub mod PutRows
+pub mod TextsOn

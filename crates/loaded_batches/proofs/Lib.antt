@@ -1,0 +1,12 @@
+pub mod LoadingMoments
+pub mod AddedBatches
+pub mod JoinedBatches
+pub mod TakenRecords
+pub mod EndedRecords
+pub mod LeftByLoading
+pub mod LoadTurns
+pub mod TurnsOfCallers
+pub mod RestOfRecords
+pub mod RestEnds
+pub mod HeldWriters
+pub mod ToldRows

@@ -1,0 +1,3 @@
+pub mod LoadingCalls
+pub mod LoadFronts
+pub mod LoadEnds

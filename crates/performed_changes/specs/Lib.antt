@@ -1,0 +1,4 @@
+pub mod ChangeEnds
+pub mod CallsOfChanges
+pub mod ChangesInRuns
+pub mod StepsByWriters
