@@ -1,5 +1,4 @@
 pub mod ReaderMoments
 pub mod FollowedWatches
 pub mod WatchOutcomes
-pub mod OpenedReaders
 pub mod WatchAnswers

@@ -3,12 +3,12 @@ use Rattle.std.proofs.Common.{◌≡◌, ◌∙◌, ℕ, List, ◌++◌, sym, ap
 use Rattle.std.proofs.lemmas.Bool.{false≢true}
 use Rattle.agg_fold.specs.Standing.{StandsFor}
 use Rattle.agg_fold.specs.declared.groups.Groups.{Groups}
-use Rattle.core_callers.proofs.ClientRuns.{known-in-run}
-use Rattle.core_callers.specs.Knowing.{IsClientOf, IsLaterRun}
-use Rattle.core_outputs.proofs.FetchedDeltas.{deltas-differ}
-use Rattle.core_outputs.proofs.HeldReaders.{run-compares}
-use Rattle.core_outputs.specs.Deltas.{HasCompared, IsDifference, came_by, went_by}
-use Rattle.core_parts.proofs.Agreement.{agree}
+use Rattle.core_program.proofs.ClientRuns.{known-in-run}
+use Rattle.core_program.specs.Knowing.{IsClientOf, IsLaterRun}
+use Rattle.core_serial.proofs.FetchedDeltas.{deltas-differ}
+use Rattle.core_serial.proofs.HeldReaders.{run-compares}
+use Rattle.core_serial.specs.Deltas.{HasCompared, IsDifference, came_by, went_by}
+use Rattle.core_events.proofs.Agreement.{agree}
 use Rattle.core_events.proofs.Knowledge.{known-by-calls}
 use Rattle.core_events.specs.Clients.{ClientState, client_state, reader_up_to}
 use Rattle.core_events.specs.Events.{Opening, CoreEvent}

@@ -6,7 +6,7 @@ use Rattle.agg_fold.specs.Standing.{StandsFor}
 use Rattle.agg_fold.specs.Tallies.{IsAdditive}
 use Rattle.agg_fold.specs.declared.groups.Groups.{Groups}
 use Rattle.board_callers.specs.Callers.{HasHistoryOf}
-use Rattle.core_callers.specs.Knowing.{IsClientOf}
+use Rattle.core_program.specs.Knowing.{IsClientOf}
 use Rattle.core_events.specs.Clients.{reader_up_to}
 use Rattle.core_program.specs.CoreFits.{CoreEntry, FitsOwnCalls}
 use Rattle.cube_core.specs.CoreSteps.{CoreStep}
@@ -19,8 +19,9 @@ use Rattle.session_watches.specs.ComparedShards.{HasFoundChange}
 use Rattle.shard_events.specs.ShardsInRuns.{FitsShard, ShardAnswerSays}
 use Rattle.standing_query.specs.declared.change.Change.{Change}
 use Rattle.watch_holds.specs.HolderStates.{IsHolderOf}
-use Rattle.watched_queries.proofs.FollowedWatches.{first-shows, first-stands, followed-shows, may-follow, watch-stays}
+use Rattle.watched_queries.proofs.FollowedWatches.{first-shows, first-stands, followed-shows, groups-stay, may-follow}
 use Rattle.watched_queries.proofs.ReaderMoments.{change-leads-on, scan-stands-on}
+use Rattle.watched_queries.specs.ReadersInRuns.{StandUpTo}
 use Rattle.watched_queries.specs.WatchSteps.{BeginsSessionWatch, CanFollow, FollowsSessionWatch}
 use Rattle.watched_queries.specs.WatchesInRuns.{IsWatchOf}
 use Rattle.watched_queries.specs.declared.watch.SessionWatch.{SessionWatch}
@@ -48,20 +49,23 @@ module _ (cells there : List (CoreCell CoreShard)) (caller number session : ℕ)
       first-shows there number session holder epoch now query groups w of_session additive
       (scan-stands-on there number session acts-there now query epoch groups knows) begins
 
-  pub watch-there : (own now : List CoreEntry) (w : SessionWatch) → HasMore own now → IsWatchOf cells caller own session w
-      → IsWatchOf there number now session w
-  watch-there own now w more is =
-      watch-stays there number session own now w more (coe 1 0 (i. IsWatchOf (opening i) (same i) own session w) is)
+  pub shows-there : (own now : List CoreEntry) (query : BoundQuery) (from : ℕ) (kept : Groups) → HasMore own now
+      → StandUpTo cells caller own query from kept → StandUpTo there number now query from kept
+  shows-there own now query from kept more shows =
+      groups-stay there number own now query from kept more
+      (coe 1 0 (i. StandUpTo (opening i) (same i) own query from kept) shows)
 
-  module _ (own now : List CoreEntry) (more : HasMore own now) (w : SessionWatch) (is : IsWatchOf cells caller own session w) (to : ℕ)
-      (change : Change) (knows : KnowsOfShards there number session now (HasFoundChange session w.query w.epoch to change)) where
-    pub compared-follows : HasHistory now → CanFollow w change
+  module _ (own now : List CoreEntry) (more : HasMore own now) (query : BoundQuery) (from to : ℕ) (kept : Groups)
+      (shows : StandUpTo cells caller own query from kept) (change : Change)
+      (knows : KnowsOfShards there number session now (HasFoundChange session query from to change)) where
+    pub compared-follows : HasHistory now → CanFollow query kept change
     compared-follows history =
-        may-follow there number session to now w change acts-there history (watch-there own now w more is)
-        (change-leads-on there number session acts-there now w.query w.epoch to change knows)
+        may-follow there number session from to now query kept change acts-there history (shows-there own now query from kept more shows)
+        (change-leads-on there number session acts-there now query from to change knows)
 
-    pub compared-watch : (holder : ℕ) (new : SessionWatch) → IsHolderOf session holder → FollowsSessionWatch w holder to change new
-        → IsWatchOf there number now session new
-    compared-watch holder new of_session follows =
-        followed-shows there number session holder to now w new change of_session (watch-there own now w more is)
-        (change-leads-on there number session acts-there now w.query w.epoch to change knows) follows
+    pub compared-watch : (holder : ℕ) (new : SessionWatch) → IsHolderOf session holder → All IsAdditive query.items
+        → FollowsSessionWatch query kept holder to change new → IsWatchOf there number now session new
+    compared-watch holder new of_session additive follows =
+        followed-shows there number session holder from to now query kept new change of_session additive
+        (shows-there own now query from kept more shows)
+        (change-leads-on there number session acts-there now query from to change knows) follows

@@ -1,8 +1,8 @@
--- What a session knows once it has opened a reader, asked its shards for it, and closed it or another.
+-- What a session knows through calls and more calls.
 use Rattle.std.proofs.Common.{◌≡◌, ◌∙◌, ℕ, ◌≤◌, ◌==◌, List, [], ◌∷◌, ◌++◌, append_assoc, append-nil, eqb-true, inl, inr, if◌then◌else◌, Bool, true, false, refl, sym, ap, subst, arith}
 use Rattle.std.proofs.lemmas.Bool.{eqb-false}
-use Rattle.core_callers.proofs.KnownCalls.{earlier-run, go-on-from}
-use Rattle.core_callers.specs.Knowing.{IsClientOf, IsSessionOf}
+use Rattle.core_program.proofs.KnownCalls.{earlier-run, go-on-from}
+use Rattle.core_program.specs.Knowing.{IsClientOf, IsSessionOf}
 use Rattle.core_events.specs.Clients.{calls_of, state_from_calls}
 use Rattle.core_events.specs.Events.{ClientCall, CoreEvent, By, At}
 use Rattle.core_program.specs.CoreFits.{CoreEntry}
@@ -19,7 +19,6 @@ use Rattle.session_holds.proofs.Staying.{cubes-stay}
 use Rattle.shard_events.specs.ShardsInRuns.{FitsShard, ShardAnswerSays}
 use Rattle.cube_run.specs.SessionStates.{first_holder, other_holder, second_holder}
 use Rattle.watch_holds.specs.HolderStates.{IsHolderOf}
-use Rattle.watched_queries.specs.WatchCalls.{HasGivenUp, with_closed, with_opened}
 
 -- A session's number is small.
 pub few-session : (cells : List (CoreCell CoreShard)) (caller session : ℕ)
@@ -73,18 +72,6 @@ query-stays cells caller session own more shape query knows o log run es later a
     (ap (calls_of session) g.whole ∙ calls-more session g.newer g.before)
     in
     record { fits = may.fits; there = omega (arith, there, grows, same) }
-
--- What it gave up.
-pub closed-again : (cells : List (CoreCell CoreShard)) (caller session shards holder statement epoch : ℕ) (asks : ℕ → ShardCall)
-    (own opened between now : List CoreEntry) → opened ≡ with_opened caller holder statement epoch own
-    → MayHaveAsked cells caller session shards (asks epoch) opened between → now ≡ with_closed caller holder statement between
-    → HasGivenUp cells caller session shards holder statement asks own now
-closed-again cells caller session shards holder statement epoch asks own opened between now is asked closed = inr (record {
-  epoch = epoch;
-  between = between;
-  asked = subst (λ (l : List CoreEntry). MayHaveAsked cells caller session shards (asks epoch) l between) is asked;
-  closed = closed;
-})
 
 -- What a session holds through calls and more calls.
 pub same-then : (session : ℕ) (cells mid_cells new_cells : List (CoreCell CoreShard)) (caller mid_caller new_caller : ℕ) (own mid now : List CoreEntry)

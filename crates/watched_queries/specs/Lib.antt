@@ -1,4 +1,3 @@
 pub mod ReadersInRuns
 pub mod WatchSteps
 pub mod WatchesInRuns
-pub mod WatchCalls

@@ -7,8 +7,8 @@ use Rattle.cube_values.specs.declared.query.BoundQuery.{BoundQuery}
 use Rattle.cube_values.specs.declared.row.CodedRow.{CodedRow}
 use Rattle.agg_fold.specs.Standing.{StandsFor}
 use Rattle.agg_fold.specs.declared.groups.Groups.{Groups}
-use Rattle.core_callers.specs.Knowing.{IsLaterRun}
-use Rattle.core_outputs.specs.Deltas.{IsDifference}
+use Rattle.core_program.specs.Knowing.{IsLaterRun}
+use Rattle.core_serial.specs.Deltas.{IsDifference}
 use Rattle.core_events.specs.Clients.{reader_up_to}
 use Rattle.core_events.specs.Events.{Opening, CoreEvent}
 use Rattle.core_program.specs.CoreFits.{CoreEntry}

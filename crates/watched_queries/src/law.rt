@@ -2,7 +2,7 @@
 
 ghost use Rattle.std.specs.Prelude.{ℕ, List};
 ghost use Rattle.agg_fold.specs.declared.groups.Groups.{Groups};
-ghost use Rattle.core_callers.specs.Knowing.{IsClientOf};
+ghost use Rattle.core_program.specs.Knowing.{IsClientOf};
 ghost use Rattle.core_events.specs.Clients.{reader_up_to};
 ghost use Rattle.core_program.specs.CoreFits.{CoreEntry};
 ghost use Rattle.cube_core.specs.declared.cell.CoreCell.{CoreCell};

@@ -3,16 +3,16 @@ ghost use Rattle.std.specs.Prelude.{◌≡◌, ◌≤◌};
 ghost use Rattle.cube_run.specs.SessionStates.{first_holder, other_holder};
 ghost use Rattle.watch_holds.specs.HolderStates.{IsHolderOf};
 
-// The number under which a session sets its watch up.
-pub(crate) fn first_number(session: u32) -> u32
+/// The number under which a session sets its watch up.
+pub fn first_number(session: u32) -> u32
     requires { session ≤ 16 }
     ensures { result ≡ first_holder session }
 {
     16 + session
 }
 
-// The number of a session's holders that is not this one.
-pub(crate) fn other_number(session: u32, holder: u32) -> u32
+/// The number of a session's holders that is not this one.
+pub fn other_number(session: u32, holder: u32) -> u32
     requires few { session ≤ 16 }
     requires holder { IsHolderOf session holder }
     ensures { result ≡ other_holder session holder }

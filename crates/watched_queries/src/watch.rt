@@ -7,21 +7,20 @@ ghost use Rattle.watched_queries.specs.WatchSteps.{BeginsSessionWatch, CanFollow
 
 use agg_fold::Partial;
 use cube_values::BoundQuery;
-use standing_query::{Change, Watch};
+use standing_query::Change;
 use std::alloc::AllocError;
 
 /// A watch of a session: the holder's number under which its reader is held, the epoch of this reader, its
-/// query, how many rows it shows, and these by their groups.
+/// query, and the rows that it shows by their groups.
 #[derive(Drop)]
 pub struct SessionWatch {
     pub holder: u32,
     pub epoch: u64,
     pub query: BoundQuery,
-    pub rows: u64,
-    pub watch: Watch,
+    pub kept: Partial,
 }
 
-// The counts of a watch have room for fewer rows.
+// Groups have room for fewer rows.
 const ROW_LIMIT: u64 = 1 << 63;
 
 // A watch that shows a first answer.
@@ -31,45 +30,44 @@ pub(crate) fn first_watch(
     epoch: u64,
     first: &Partial,
 ) -> Result<SessionWatch, AllocError>
-    requires additive { All IsAdditive query.now.items }
     requires stands { (rows : List CodedRow) × StandsFor query.now rows first.now.groups }
     ensures { IfOk result (BeginsSessionWatch query.now holder epoch first.now.groups) }
 {
-    let rows = first.rows();
-    let watched = query.copy()?;
-    let watch = Watch::new(watched, first)?;
+    let kept = first.copy()?;
     Ok(SessionWatch {
         holder,
         epoch,
         query: query.copy()?,
-        rows,
-        watch,
+        kept,
     })
 }
 
-// The watch once a change has led to another reader; the old one is left. It is an error, too, where its
-// counts have no room for the rows that came.
+// The watch once a change has led to another reader; the old one is left. It is an error, too, where there
+// is no room for the rows that came.
 pub(crate) fn followed_watch(
-    old: &SessionWatch,
+    kept: &Partial,
+    query: &BoundQuery,
     holder: u32,
     epoch: u64,
     change: &Change,
 ) -> Result<SessionWatch, AllocError>
-    requires { CanFollow old.now change.now }
-    ensures { IfOk result (FollowsSessionWatch old.now holder epoch change.now) }
+    requires additive { All IsAdditive query.now.items }
+    requires follows { CanFollow query.now kept.now.groups change.now }
+    ensures { IfOk result
+        (FollowsSessionWatch query.now kept.now.groups holder epoch change.now) }
 {
     let come = change.came.rows();
-    let go = change.went.rows();
-    if old.rows + come >= ROW_LIMIT {
+    if kept.rows() + come >= ROW_LIMIT {
         return Err(AllocError);
     }
-    let mut watch = old.watch.copy()?;
-    watch.apply(change)?;
+    let mut next = kept.copy()?;
+    // What comes is added first: only that may want memory.
+    next.merge(query, &change.came)?;
+    next.remove(query, &change.went);
     Ok(SessionWatch {
         holder,
         epoch,
-        query: old.query.copy()?,
-        rows: old.rows + come - go,
-        watch,
+        query: query.copy()?,
+        kept: next,
     })
 }

@@ -3,21 +3,25 @@ use Rattle.std.proofs.lemmas.Result.{IfOk-weaker}
 use Rattle.core_events.specs.Clients.{reader_up_to}
 use Rattle.cube_core.specs.declared.shard.ShardCall.TheVariants as call
 use Rattle.session_groups.specs.ShardGroups.{HasAskedAll}
+use Rattle.watched_queries.proofs.FollowedWatches.{watch-folds}
 use Rattle.watched_queries.proofs.WatchAnswers.{scanned-stands, scanned-watch}
 use Rattle.watched_queries.specs.WatchSteps.{BeginsSessionWatch}
-use Rattle.watched_queries.specs.WatchesInRuns.{IsWatchOf}
-use Rattle.watched_queries.proofs.first.answered_watch.Goals as goal
+use Rattle.watched_queries.specs.WatchesInRuns.{IsPlainFold, IsWatchOf}
+use Rattle.watched_queries.proofs.first.begin_watch.Goals as goal
 
-pub first_watch-requires-clause-stands : goal.first_watch-requires-clause-stands
-first_watch-requires-clause-stands g c =
+pub first_watch-requires : goal.first_watch-requires
+first_watch-requires g c =
     let opening = g.P.CellCaller.opening in
     let number = g.P.CellCaller.number in
     let own = g.P.CellCaller.own in
     let before = c.args.caller.now in
     let then = c.scan_shards_at_holder.new.caller in
     let got = c.in_ok-first.ensures in
-    scanned-stands (opening before) (opening then) (number before) (number then) c.args.session got.opening got.number c.requires.client
-    c.args.epoch (own then) c.args.query.now c.in_ok-first.first.groups got.history got.found
+    record {
+      stands =
+          scanned-stands (opening before) (opening then) (number before) (number then) c.args.session got.opening got.number
+          c.requires.client c.args.epoch (own then) c.args.query.now c.in_ok-first.first.groups got.history got.found;
+    }
 
 pub returns-clause-all : goal.returns-clause-all
 returns-clause-all g c =
@@ -60,4 +64,20 @@ returns-clause-watch g c =
     (λ w begins.
     scanned-watch (opening before) (opening then) (number before) (number then) c.args.session got.opening got.number c.requires.client
     c.args.holder c.args.epoch (own then) c.args.query.now c.in_ok-first.first.groups w c.requires.holder c.requires.additive got.found begins)
+    c.first_watch.ensures
+
+pub returns-clause-fold : goal.returns-clause-fold
+returns-clause-fold g c =
+    let opening = g.P.CellCaller.opening in
+    let number = g.P.CellCaller.number in
+    let own = g.P.CellCaller.own in
+    let before = c.args.caller.now in
+    let then = c.scan_shards_at_holder.new.caller in
+    let got = c.in_ok-first.ensures in
+    IfOk-weaker c.first_watch.result (BeginsSessionWatch c.args.query.now c.args.holder c.args.epoch c.in_ok-first.first.groups)
+    (IsPlainFold (opening then) (number then) (own then))
+    (λ w begins.
+    watch-folds (opening then) (number then) c.args.session (own then) w
+    (scanned-watch (opening before) (opening then) (number before) (number then) c.args.session got.opening got.number c.requires.client
+    c.args.holder c.args.epoch (own then) c.args.query.now c.in_ok-first.first.groups w c.requires.holder c.requires.additive got.found begins))
     c.first_watch.ensures

@@ -1,0 +1,10 @@
+pub mod WatchingKinds
+pub mod WatchingLeaves
+pub mod PassedMoments
+pub mod BoundAtReaders
+pub mod BoundAnew
+pub mod ShownTables
+pub mod ItsCube
+pub mod Performing
+pub mod WatchesPerformed
+pub mod ShowsPerformed

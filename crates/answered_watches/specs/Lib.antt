@@ -1,0 +1,3 @@
+pub mod WatchingCalls
+pub mod BoundReaders
+pub mod WatchEnds
