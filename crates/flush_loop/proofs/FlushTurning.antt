@@ -4,7 +4,7 @@ use Rattle.mail_cell.specs.declared.answer.Taken.{Taken}
 use Rattle.mail_cell.specs.declared.answer.Taken.TheVariants.{Job as SomeJob, Empty, Closed}
 use Rattle.core_board.specs.Links.{AreEventsOf}
 use Rattle.core_board_cells.specs.BoardCells.{IsEntryEvent}
-use Rattle.core_callers.specs.Knowing.{IsLaterRun}
+use Rattle.core_program.specs.Knowing.{IsLaterRun}
 use Rattle.core_events.specs.Clients.{calls_of}
 use Rattle.core_events.specs.Events.{Opening, NoJob, Take, CoreEvent, At, By}
 use Rattle.core_events.specs.Jobs.{CoreJob, Flush, JobOutcome}
@@ -16,7 +16,7 @@ use Rattle.cube_core.specs.declared.shard.ShardAnswer.{ShardAnswer}
 use Rattle.cube_core.specs.declared.shard.ShardCall.{ShardCall}
 use Rattle.flush_loop.proofs.ServedFlushes.{earlier, more-and-more, none-more}
 use Rattle.flush_loop.specs.FlushTurns.{AreFlushTurns, FlushTurn, FoundNone, IsLastRound, LearnsOfFlushes, LearnsOfLastRound, LearnsOfService, Served, SuitsStore, all_turn_events, lost_by_service, lost_by_turns, service_events}
-use Rattle.flush_loop.specs.MadeRounds.{HoldsInRuns, RunClaim}
+use Rattle.flush_loop.specs.MadeRounds.{HoldsInRuns, KeptClaim}
 use Rattle.flush_loop.specs.declared.round_result.RoundResult.{RoundResult}
 use Rattle.flusher_mail.specs.FlusherMail.{LearnsOfTake}
 use Rattle.job_groups.specs.AskedEach.{HasMore}
@@ -118,9 +118,12 @@ module _ {S : Type 0} (fits : Opening → ℕ → ShardCall → Type 0) (stands 
       }
 
   -- What was kept before a take.
-  pub kept-by-take : (taken : Taken Job) (own now : List CoreEntry) (Holds : RunClaim) → HasMore own now → Took taken own now
+  pub kept-by-take : (taken : Taken Job) (own now : List CoreEntry) (Holds : KeptClaim) → HasMore own now → Took taken own now
       → HoldsInRuns fits stands says cells caller client Holds own → HoldsInRuns fits stands says cells caller client Holds now
-  kept-by-take taken own now Holds more took kept o log run es later are =
-      let g = took o log run es later are in
-      subst (λ (l : List CoreEvent). Holds o run (calls_of client l)) (sym g.whole)
-      (kept o log run g.before (earlier fits stands says cells caller client shards o own now log run more later) g.events)
+  kept-by-take taken own now Holds more took held = record {
+    kept = held.kept;
+    in_runs = λ o log run es later are.
+        let g = took o log run es later are in
+        subst (λ (l : List CoreEvent). Holds held.kept o run (calls_of client l)) (sym g.whole)
+        (held.in_runs o log run g.before (earlier fits stands says cells caller client shards o own now log run more later) g.events);
+  }

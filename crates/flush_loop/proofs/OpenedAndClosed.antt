@@ -1,8 +1,9 @@
 -- A round without a store, by the flusher's calls on the desk.
-use Rattle.std.proofs.Common.{◌≡◌, ◌∙◌, ℕ, false, List, [], ◌∷◌, ◌++◌, append_assoc, append-nil, Option, Some, None, refl, sym, ap, subst}
+use Rattle.std.proofs.Common.{◌≡◌, ◌∙◌, ℕ, Bool, false, List, [], ◌∷◌, ◌++◌, append_assoc, append-nil, Option, Some, None, refl, sym, ap, subst}
 use Rattle.std.specs.Option.{option_map_or}
 use Rattle.aosi_register.specs.declared.answer.RoundAnswer.{RoundAnswer}
 use Rattle.aosi_register.specs.declared.answer.RoundAnswer.TheVariants.{Target, Nothing}
+use Rattle.aosi_register.specs.declared.answer.RoundEnd.{RoundEnd}
 use Rattle.aosi_register.specs.declared.answer.RoundEnd.TheVariants as end
 use Rattle.client_calls.specs.ClientCalls.{desk_entry}
 use Rattle.core_board.specs.Links.{AreEventsOf}
@@ -11,23 +12,23 @@ use Rattle.core_cells.specs.declared.desk.DeskAnswer.{DeskAnswer}
 use Rattle.core_cells.specs.declared.desk.DeskAnswer.TheVariants as answer
 use Rattle.core_cells.specs.declared.desk.DeskCall.{DeskCall}
 use Rattle.core_cells.specs.declared.desk.DeskCall.TheVariants as call
-use Rattle.core_callers.proofs.KnownCalls.{desk-learns, earlier-run}
-use Rattle.core_callers.specs.Knowing.{GoOnBy, IsClientOf, IsLaterRun, Knows, MayCallDesk}
-use Rattle.core_events.specs.Clients.{ClientState, calls_of, state_from_calls}
+use Rattle.core_program.proofs.KnownCalls.{desk-learns, earlier-run}
+use Rattle.core_program.specs.Knowing.{GoOnBy, IsClientOf, IsLaterRun, Knows, MayCallDesk}
+use Rattle.core_events.specs.Clients.{ClientState, calls_of, is_lost_to_disk, state_from_calls}
 use Rattle.core_events.specs.Events.{Opening, RoundClose, RoundOpen, OnDesk, NoChange, ClientCall, CoreEvent, By, flusher}
 use Rattle.core_events.specs.Jobs.{CoreJob, JobOutcome}
 use Rattle.core_events.specs.ShardView.{ShardView}
-use Rattle.core_callers.proofs.FlusherCalls.{is-client}
-use Rattle.core_callers.specs.Flushing.{IsFlusherOf}
+use Rattle.core_program.proofs.FlusherCalls.{is-client}
+use Rattle.core_program.specs.Flushing.{IsFlusherOf}
 use Rattle.core_links.specs.DeskEvents.{FitsDeskCall, desk_event}
 use Rattle.core_program.specs.CoreFits.{CoreEntry}
 use Rattle.cube_core.specs.declared.cell.CoreCell.{CoreCell}
 use Rattle.cube_core.specs.declared.shard.ShardAnswer.{ShardAnswer}
 use Rattle.cube_core.specs.declared.shard.ShardCall.{ShardCall}
-use Rattle.flush_loop.specs.MadeRounds.{KnowsBetween, LearnsOfOwnRound}
+use Rattle.flush_loop.specs.MadeRounds.{KnowsBetween, KnowsWithin, LearnsOfOwnRound}
 use Rattle.flush_loop.specs.PlainRounds.{KnowsAfterOpening, closing_entries, result_of_opening}
 use Rattle.flusher_rounds.proofs.Rounds as rounds
-use Rattle.flusher_rounds.specs.RoundStates.{HasRound, IsBetweenRounds}
+use Rattle.flusher_rounds.specs.RoundStates.{HasRound, IsBetweenRounds, IsInRound}
 use Rattle.job_groups.specs.AskedEach.{HasMore}
 use Rattle.session_holds.proofs.Snapshots.{no-memory}
 use Rattle.session_holds.specs.HoldStates.{after_desk_call}
@@ -62,13 +63,13 @@ module _ {S : Type 0} (fits : Opening → ℕ → ShardCall → Type 0) (stands 
       (may o (state_from_calls o client (calls_of client es)) (knows o log run es later are))
 
   -- By one call more.
-  learnt : (own now : List CoreEntry) (c : DeskCall) (said : DeskAnswer) → now ≡ own ++ desk_entry caller c said ∷ [] → (o : Opening)
+  pub learnt : (own now : List CoreEntry) (c : DeskCall) (said : DeskAnswer) → now ≡ own ++ desk_entry caller c said ∷ [] → (o : Opening)
       (log : List CoreEntry) (run es : List CoreEvent) → Later o now log run → Of o now es
       → GoOnBy fits stands says cells o client own es (λ calls. desk_event client (state_from_calls o client calls) c said)
   learnt own now c said is o log run es later are =
       desk-learns fits stands says cells caller client acts own c said o log es later.opens (subst (λ (l : List CoreEntry). Of o l es) is are)
 
-  before-it : (own now : List CoreEntry) (e : CoreEntry) → now ≡ own ++ e ∷ [] → (o : Opening) (log : List CoreEntry) (run : List CoreEvent)
+  pub before-it : (own now : List CoreEntry) (e : CoreEntry) → now ≡ own ++ e ∷ [] → (o : Opening) (log : List CoreEntry) (run : List CoreEvent)
       → Later o now log run → Later o own log run
   before-it own now e is o log run later =
       earlier-run fits stands says cells o caller own (e ∷ []) log run (subst (λ (l : List CoreEntry). Later o l log run) is later)
@@ -100,21 +101,26 @@ module _ {S : Type 0} (fits : Opening → ℕ → ShardCall → Type 0) (stands 
       known-after own now call.RoundOpen answer.NoMemory (λ o k. IsBetweenRounds o false k) (λ o k. IsBetweenRounds o false k) knows is
       (λ o k has. subst (λ (k : ClientState). IsBetweenRounds o false k) (sym (no-memory o client call.RoundOpen k)) has)
 
-  -- It closes it as safe.
+  -- It closes it, however far it has come.
 
-  pub may-shut : (from epoch : ℕ) (own : List CoreEntry) → KnowsAfterOpening fits stands says cells caller client (Some (Target from epoch)) own
-      → Knows fits stands says cells caller client own (MayCallDesk client (call.RoundClose epoch end.Safe))
-  may-shut from epoch own knows =
-      may-call own (call.RoundClose epoch end.Safe) (λ o k. HasRound o from epoch k) knows
-      (λ o k has. rounds.may-close o from epoch false end.Safe k has.within)
+  abbrev Within : ℕ → ℕ → IsState
+  Within from epoch o k = (has_cubes : Bool) × IsInRound from epoch has_cubes k
 
-  pub after-shut : (from epoch : ℕ) (own now : List CoreEntry)
-      → KnowsAfterOpening fits stands says cells caller client (Some (Target from epoch)) own
-      → now ≡ own ++ desk_entry caller (call.RoundClose epoch end.Safe) answer.Done ∷ []
-      → KnowsBetween fits stands says cells caller client false now
-  after-shut from epoch own now knows is =
-      known-after own now (call.RoundClose epoch end.Safe) answer.Done (λ o k. HasRound o from epoch k) (λ o k. IsBetweenRounds o false k) knows is
-      (λ o k has. (rounds.closed o from epoch false end.Safe k has.within).stands)
+  pub open-within : (from epoch : ℕ) (own : List CoreEntry) → KnowsAfterOpening fits stands says cells caller client (Some (Target from epoch)) own
+      → KnowsWithin fits stands says cells caller client from epoch own
+  open-within from epoch own knows o log run es later are = (false, (knows o log run es later are).within)
+
+  pub may-shut : (from epoch : ℕ) (how : RoundEnd) (own : List CoreEntry) → KnowsWithin fits stands says cells caller client from epoch own
+      → Knows fits stands says cells caller client own (MayCallDesk client (call.RoundClose epoch how))
+  may-shut from epoch how own knows =
+      may-call own (call.RoundClose epoch how) (Within from epoch) knows (λ o k has. rounds.may-close o from epoch has.0 how k has.1)
+
+  pub after-shut : (from epoch : ℕ) (how : RoundEnd) (own now : List CoreEntry) → KnowsWithin fits stands says cells caller client from epoch own
+      → now ≡ own ++ desk_entry caller (call.RoundClose epoch how) answer.Done ∷ []
+      → KnowsBetween fits stands says cells caller client (is_lost_to_disk how) now
+  after-shut from epoch how own now knows is =
+      known-after own now (call.RoundClose epoch how) answer.Done (Within from epoch) (λ o k. IsBetweenRounds o (is_lost_to_disk how) k) knows is
+      (λ o k has. (rounds.closed o from epoch has.0 how k has.1).stands)
 
   -- These are the calls of a round that ended so.
 

@@ -2,16 +2,16 @@
 use Rattle.std.proofs.Common.{◌≡◌, ◌∙◌, ℕ, Bool, true, false, true≢false, List, [], ◌∷◌, ◌++◌, append_assoc, append-nil, Some, None, refl, sym, ap, subst}
 use Rattle.core_board.specs.Links.{AreEventsOf}
 use Rattle.core_board_cells.specs.BoardCells.{IsEntryEvent}
-use Rattle.core_callers.proofs.KnownCalls.{earlier-run}
-use Rattle.core_callers.specs.Knowing.{IsLaterRun}
+use Rattle.core_program.proofs.KnownCalls.{earlier-run}
+use Rattle.core_program.specs.Knowing.{IsLaterRun}
 use Rattle.core_events.specs.Cells.{Took, WorkerState, worker_of}
 use Rattle.core_events.specs.Clients.{calls_of, state_from_calls}
 use Rattle.core_events.specs.Events.{Opening, flush_mail, flusher, Reply, ClientCall, CoreEvent, At}
 use Rattle.core_events.specs.Fitting.{FitsWork, FlushSays, round_progress}
 use Rattle.core_events.specs.Jobs.{CoreJob, Flush, JobOutcome, StoreLost}
 use Rattle.core_events.specs.ShardView.{ShardView}
-use Rattle.core_callers.specs.Flushing.{IsFlusherOf, KnowsPart, MayReplyTo, PartClaim}
-use Rattle.core_parts.specs.Histories.{job_served}
+use Rattle.core_program.specs.Flushing.{IsFlusherOf, KnowsPart, MayReplyTo, PartClaim}
+use Rattle.core_events.specs.Histories.{job_served}
 use Rattle.core_program.specs.CoreFits.{CoreEntry}
 use Rattle.cube_core.specs.declared.cell.CoreCell.{CoreCell}
 use Rattle.cube_core.specs.declared.jobs.FlushAnswer.{FlushAnswer}
@@ -21,7 +21,7 @@ use Rattle.cube_core.specs.declared.shard.ShardAnswer.{ShardAnswer}
 use Rattle.cube_core.specs.declared.shard.ShardCall.{ShardCall}
 use Rattle.flush_loop.proofs.OwnRounds.{outcome-is, says-so, stands-so, worker-left}
 use Rattle.flush_loop.specs.FlushTurns.{ByLostStore, ByRound, FlushService, LearnsOfLastRound, LearnsOfService, SuitsStore, service_events}
-use Rattle.flush_loop.specs.MadeRounds.{HoldsInRuns, KnowsBetween, LearnsOfOwnRound, RunClaim}
+use Rattle.flush_loop.specs.MadeRounds.{HoldsInRuns, KnowsBetween, LearnsOfOwnRound, KeptClaim}
 use Rattle.flush_loop.specs.RoundResults.{flush_answer, flush_outcome, loses_store}
 use Rattle.flush_loop.specs.declared.round_result.RoundResult.{RoundResult}
 use Rattle.flusher_mail.specs.FlusherMail.{HasFlush, IsAtMail, LearnsOfReply}
@@ -51,8 +51,8 @@ module _ {S : Type 0} (fits : Opening → ℕ → ShardCall → Type 0) (stands 
   abbrev KnowsIt : List CoreEntry → PartClaim → Type 0
   KnowsIt own P = KnowsPart fits stands says cells caller own P
 
-  abbrev Kept : RunClaim → List CoreEntry → Type 0
-  Kept Holds own = HoldsInRuns fits stands says cells caller client Holds own
+  abbrev Keeps : KeptClaim → List CoreEntry → Type 0
+  Keeps Holds own = HoldsInRuns fits stands says cells caller client Holds own
 
   -- A run after more calls is one after the calls before them.
   pub earlier : (o : Opening) (own now log : List CoreEntry) (run : List CoreEvent) → HasMore own now → Later o now log run → Later o own log run
@@ -151,24 +151,31 @@ module _ {S : Type 0} (fits : Opening → ℕ → ShardCall → Type 0) (stands 
 
   -- What was kept.
 
-  pub kept-by-reply : (to : ℕ) (said : FlushAnswer) (own now : List CoreEntry) (Holds : RunClaim) → HasMore own now
-      → LearnsOfReply fits stands says cells caller shards to said own now → Kept Holds own → Kept Holds now
-  kept-by-reply to said own now Holds more learns kept o log run es later are =
-      let g = learns o log run es later are in
-      subst (λ (l : List CoreEvent). Holds o run (calls_of client l)) (sym g.whole)
-      (kept o log run g.before (earlier o own now log run more later) g.events)
+  pub kept-by-reply : (to : ℕ) (said : FlushAnswer) (own now : List CoreEntry) (Holds : KeptClaim) → HasMore own now
+      → LearnsOfReply fits stands says cells caller shards to said own now → Keeps Holds own → Keeps Holds now
+  kept-by-reply to said own now Holds more learns held = record {
+    kept = held.kept;
+    in_runs = λ o log run es later are.
+        let g = learns o log run es later are in
+        subst (λ (l : List CoreEvent). Holds held.kept o run (calls_of client l)) (sym g.whole)
+        (held.in_runs o log run g.before (earlier o own now log run more later) g.events);
+  }
 
   without-calls : (to : ℕ) (service : FlushService) (before : List CoreEvent) → SuitsStore true service
       → calls_of client (service_events client shards to service ++ before) ≡ calls_of client before
   without-calls to (ByRound result calls) before suits = absurd (true≢false suits.0)
   without-calls to ByLostStore before suits = refl
 
-  pub kept-by-refusal : (to : ℕ) (own now : List CoreEntry) (Holds : RunClaim) → HasMore own now
-      → LearnsOfService fits stands says cells caller client shards true to true own now → Kept Holds own → Kept Holds now
-  kept-by-refusal to own now Holds more learns kept o log run es later are =
-      let s = learns o log run es later are in
-      subst (λ (calls : List ClientCall). Holds o run calls) (sym (ap (calls_of client) s.whole ∙ without-calls to s.service s.before s.suits))
-      (kept o log run s.before (earlier o own now log run more later) s.events)
+  pub kept-by-refusal : (to : ℕ) (own now : List CoreEntry) (Holds : KeptClaim) → HasMore own now
+      → LearnsOfService fits stands says cells caller client shards true to true own now → Keeps Holds own → Keeps Holds now
+  kept-by-refusal to own now Holds more learns held = record {
+    kept = held.kept;
+    in_runs = λ o log run es later are.
+        let s = learns o log run es later are in
+        subst (λ (calls : List ClientCall). Holds held.kept o run calls)
+        (sym (ap (calls_of client) s.whole ∙ without-calls to s.service s.before s.suits))
+        (held.in_runs o log run s.before (earlier o own now log run more later) s.events);
+  }
 
   -- The last round.
 

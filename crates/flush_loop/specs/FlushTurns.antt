@@ -11,7 +11,7 @@ use Rattle.std.specs.Prelude.{◌≡◌, ℕ, Bool, true, false, List, [], ◌�
 use Rattle.std.specs.Option.{option_map_or}
 use Rattle.core_board.specs.Links.{AreEventsOf}
 use Rattle.core_board_cells.specs.BoardCells.{IsEntryEvent}
-use Rattle.core_callers.specs.Knowing.{IsLaterRun}
+use Rattle.core_program.specs.Knowing.{IsLaterRun}
 use Rattle.core_events.specs.Events.{Opening, NoJob, Reply, Take, ClientCall, CoreEvent, By, At}
 use Rattle.core_events.specs.Jobs.{CoreJob, Flush, JobOutcome, StoreLost}
 use Rattle.core_events.specs.ShardView.{ShardView}

@@ -7,7 +7,7 @@ use Rattle.aosi_register.specs.declared.answer.RoundEnd.TheVariants as end
 use Rattle.client_calls.specs.ClientCalls.{desk_entry}
 use Rattle.core_cells.specs.declared.desk.DeskAnswer.TheVariants as answer
 use Rattle.core_cells.specs.declared.desk.DeskCall.TheVariants as call
-use Rattle.core_callers.specs.Knowing.{Knows}
+use Rattle.core_program.specs.Knowing.{Knows}
 use Rattle.core_events.specs.Clients.{state_from_calls}
 use Rattle.core_events.specs.Events.{Opening}
 use Rattle.core_events.specs.Jobs.{CoreJob, JobOutcome}

@@ -1,7 +1,7 @@
 //! The flusher's loop.
 ghost use Rattle.std.specs.Prelude.{◌≡◌, ◌+◌, ◌≤◌, false};
-ghost use Rattle.core_callers.specs.Knowing.{IsMailAt};
-ghost use Rattle.core_callers.specs.Flushing.{IsFlusherOf, KnowsPart};
+ghost use Rattle.core_program.specs.Knowing.{IsMailAt};
+ghost use Rattle.core_program.specs.Flushing.{IsFlusherOf, KnowsPart};
 ghost use Rattle.flush_loop.specs.FlushTurns.{LearnsOfFlushes, lost_at_end};
 ghost use Rattle.flush_loop.specs.MadeRounds.{HoldsInRuns};
 ghost use Rattle.flusher_mail.specs.FlusherMail.{HasNoFlush};

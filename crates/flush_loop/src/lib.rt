@@ -3,12 +3,14 @@
 #![tactic(auto)]
 
 mod answers;
+mod desk;
 mod flushes;
 mod maker;
 mod no_store;
 mod round_result;
 mod service;
 
+pub use desk::{close_round, open_round};
 pub use flushes::flush_loop;
 pub use maker::MakesRounds;
 pub use no_store::NoStore;

@@ -1,8 +1,9 @@
 //! The trait of what makes the flusher's rounds.
 ghost use Rattle.std.specs.Prelude.{◌≡◌, ◌+◌, ◌≤◌, false, List};
 ghost use Rattle.core_events.specs.Events.{Opening, ClientCall, CoreEvent};
-ghost use Rattle.core_callers.specs.Flushing.{IsFlusherOf};
+ghost use Rattle.core_program.specs.Flushing.{IsFlusherOf};
 ghost use Rattle.cube_core.specs.declared.cell.CoreCell.{CoreCell};
+ghost use Rattle.cube_rounds.specs.Stands.{Kept};
 ghost use Rattle.flush_loop.specs.MadeRounds.{HoldsInRuns, KnowsBetween, LearnsOfOwnRound};
 ghost use Rattle.flush_loop.specs.RoundResults.{loses_store};
 ghost use Rattle.job_groups.specs.AskedEach.{AreShardMails, HasMore};
@@ -21,8 +22,8 @@ pub trait MakesRounds<S: LinkedShard> {
     /// It makes rounds of a core that opened with these cells.
     ghost serves: { Self → List (CoreCell S) → Type 0 };
 
-    /// What it has kept, in a run in which the flusher has made these calls, the newest first.
-    ghost has_kept: { Self → Opening → List CoreEvent → List ClientCall → Type 0 };
+    /// It has kept this, of a run in which the flusher has made these calls, the newest first.
+    ghost has_kept: { Self → Kept → Opening → List CoreEvent → List ClientCall → Type 0 };
 
     /// What may become of it by rounds.
     ghost becomes: { Self → Self → Type 0 };

@@ -1,7 +1,7 @@
 //! A FLUSH that was taken is served, and the last round is made.
 ghost use Rattle.std.specs.Prelude.{◌≡◌, ◌+◌, ◌≤◌, false, true};
-ghost use Rattle.core_callers.specs.Knowing.{IsMailAt};
-ghost use Rattle.core_callers.specs.Flushing.{IsFlusherOf, KnowsPart};
+ghost use Rattle.core_program.specs.Knowing.{IsMailAt};
+ghost use Rattle.core_program.specs.Flushing.{IsFlusherOf, KnowsPart};
 ghost use Rattle.flush_loop.specs.FlushTurns.{LearnsOfLastRound, LearnsOfService, lost_at_end};
 ghost use Rattle.flush_loop.specs.MadeRounds.{HoldsInRuns};
 ghost use Rattle.flusher_mail.specs.FlusherMail.{HasFlush, HasNoFlush};

@@ -1,1 +1,2 @@
 pub mod StoreFollows
+pub mod ToldCopies

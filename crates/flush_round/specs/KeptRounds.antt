@@ -1,6 +1,6 @@
 -- The flusher's open round and a store: what has to hold before it is copied, and what the store then holds.
 -- Source: Cubrick (VLDB 2016), flush rounds; AOSI (ICDE 2018), the latest safe epoch; two files are this project's own.
-use Rattle.std.specs.Prelude.{◌≡◌, ℕ, List, [], map, take, Result, Ok, Err, if◌then◌else◌}
+use Rattle.std.specs.Prelude.{◌≡◌, ℕ, List, [], length, map, take, Result, Ok, Err, if◌then◌else◌}
 use Rattle.aosi_register.specs.declared.answer.RoundEnd.{RoundEnd}
 use Rattle.aosi_register.specs.declared.answer.RoundEnd.TheVariants as end
 use Rattle.cube_journal.specs.declared.journal_entry.LostCause.TheVariants.{Disk, Memory}
@@ -11,14 +11,17 @@ use Rattle.cube_values.specs.declared.call_error.CallError.{CallError}
 use Rattle.cube_values.specs.declared.call_error.CallError.TheVariants as error
 use Rattle.cube_values.specs.declared.shape.CubeShape.{CubeShape}
 use Rattle.copied_rounds.specs.CopiedRounds.{AreKeptInRuns, OpenForRounds}
+use Rattle.core_events.specs.Clients.{ClientState}
 use Rattle.core_events.specs.Events.{Opening}
 use Rattle.core_program.specs.CoreFits.{CoreEntry}
 use Rattle.cube_core.specs.declared.cell.CoreCell.{CoreCell}
 use Rattle.linked_shards.specs.declared.cell.CoreShard.{CoreShard}
 use Rattle.outside_disk.specs.Views.{View, LeavesOnly}
 use Rattle.outside_disk.specs.declared.disk.Failed.{Failed}
-use Rattle.round_copies.specs.RoundCopies.{first_epoch}
+use Rattle.round_copies.specs.RoundCopies.{IsCopiedRound, IsToldOf, first_epoch}
+use Rattle.round_copies.specs.WithinRounds.{KnowsOfFlusher}
 use Rattle.round_copies.specs.declared.span.RoundSpan.{RoundSpan}
+use Rattle.round_store.specs.Counts.{counts_of}
 use Rattle.round_store.specs.States.{IsAt, StandForEither, StoreState, WhereTold, kept_after, kept_before, wants_whole}
 
 -- The cubes and the names behind which the next round comes: a whole one comes behind the header's cubes alone.
@@ -56,13 +59,20 @@ pub record KeepsEither (s : StoreState) (kept : Kept) (round : Round) (first sec
   pub on_second : WhereTold first second (λ f g. LeavesOnly second new_second
       (λ d. StandForEither kept (kept_after s kept round) f d))
 
-module _ (cells : List (CoreCell CoreShard)) (caller : ℕ) (now : List CoreEntry) (s new : StoreState) (kept : Kept)
-    (epoch : ℕ) (first second new_first new_second : View) where
-  -- With a round up to the epoch as much is kept of each run with the calls that copied it.
+-- What the flusher was told of: the cubes that are kept, and their names.
+abbrev pub IsToldOfKept : Kept → ClientState → Type 0
+IsToldOfKept kept k = IsToldOf (length kept.cubes) (counts_of kept.names) k
+
+module _ (cells : List (CoreCell CoreShard)) (caller client : ℕ) (before now : List CoreEntry) (s new : StoreState)
+    (kept : Kept) (span : RoundSpan) (first second new_first new_second : View) where
+  -- A round of what the flusher copied by calls behind those before, over the store's cubes and names. With it as much is
+  -- kept of each run with these calls, and the flusher was told of that.
   pub record AddsRound : Type 0 where
     pub round : Round
-    pub ends : round.epoch ≡ epoch
+    pub ends : round.epoch ≡ span.epoch
+    pub copied : IsCopiedRound cells caller client before now span (shapes_before s) (counts_before s) round
     pub of_runs : IsKeptOfRuns cells caller now (kept_after s kept round)
+    pub told : KnowsOfFlusher cells caller client now (λ o k. IsToldOfKept (kept_after s kept round) k)
     pub either : KeepsEither s kept round first second new_first new_second
 
   -- The store stands for what is kept with it.

@@ -1,7 +1,7 @@
 //! A round that is open is copied and added to the store.
 ghost use Rattle.std.specs.Prelude.{◌≡◌, ◌⊎◌, ◌+◌, ◌≤◌, true, false, length, IsErrOf, OnOk};
 ghost use Rattle.aosi_register.specs.declared.answer.RoundEnd.TheVariants as end;
-ghost use Rattle.core_callers.specs.Flushing.{IsFlusherOf};
+ghost use Rattle.core_program.specs.Flushing.{IsFlusherOf};
 ghost use Rattle.cube_journal.specs.declared.journal_entry.LostCause.TheVariants as cause;
 ghost use Rattle.cube_rounds.specs.Stands.{Kept};
 ghost use Rattle.cube_values.specs.declared.call_error.CallError.TheVariants.{NoMemory};
@@ -123,8 +123,8 @@ pub fn keep_round<R: Wait, P: CellCaller<ShardCells>, D: Disk>(
         ⊎ Rose (D.view other.old).faults (D.view other.new).faults }
     ensures kept { (kept : Kept) → TakesRound (P.opening caller.old) (P.number caller.old)
         (P.own caller.old) store.old kept span (D.view disk.old) (D.view other.old)
-        → HoldsAfterEnd (P.opening caller.new) (P.number caller.new) (P.own caller.new)
-        store.old store.new kept span.epoch (D.view disk.old) (D.view other.old)
+        → HoldsAfterEnd (P.opening caller.new) (P.number caller.new) client (P.own caller.old)
+        (P.own caller.new) store.old store.new kept span (D.view disk.old) (D.view other.old)
         (D.view disk.new) (D.view other.new) result }
 {
     let shapes = shapes_before(store);

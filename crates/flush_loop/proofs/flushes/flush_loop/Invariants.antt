@@ -1,5 +1,5 @@
 use Rattle.std.proofs.Common.{◌≡◌, ◌+◌}
-use Rattle.core_callers.specs.Flushing.{KnowsPart}
+use Rattle.core_program.specs.Flushing.{KnowsPart}
 use Rattle.flush_loop.proofs.FlushTurning.{HasTurned}
 use Rattle.flush_loop.specs.MadeRounds.{HoldsInRuns}
 use Rattle.flusher_mail.specs.FlusherMail.{HasNoFlush}

@@ -1,7 +1,7 @@
 use Rattle.std.proofs.Common.{◌+◌, Bool, false, sym, subst}
 use Rattle.core_events.specs.Cells.{Took}
 use Rattle.core_events.specs.Jobs.{Flush}
-use Rattle.core_callers.specs.Flushing.{KnowsPart, MayReplyTo}
+use Rattle.core_program.specs.Flushing.{KnowsPart, MayReplyTo}
 use Rattle.cube_core.specs.declared.jobs.JobAnswer.TheVariants as reply
 use Rattle.flush_loop.proofs.ServedFlushes.{after-own-round, between-known, kept-by-reply, may-say, more-and-more, one-more, served-by-round}
 use Rattle.flush_loop.specs.FlushTurns.{LearnsOfService}

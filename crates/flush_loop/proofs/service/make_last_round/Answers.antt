@@ -1,6 +1,6 @@
 use Rattle.std.proofs.Common.{◌+◌, Bool, false, Some, sym, subst}
 use Rattle.core_events.specs.Cells.{Free}
-use Rattle.core_callers.specs.Flushing.{KnowsPart}
+use Rattle.core_program.specs.Flushing.{KnowsPart}
 use Rattle.flush_loop.proofs.ServedFlushes.{after-own-round, between-known, last-made}
 use Rattle.flush_loop.specs.FlushTurns.{LearnsOfLastRound}
 use Rattle.flush_loop.specs.MadeRounds.{KnowsBetween}

@@ -1,5 +1,5 @@
 use Rattle.std.proofs.Common.{◌+◌, Bool, true, sym, subst}
-use Rattle.core_callers.specs.Flushing.{KnowsPart}
+use Rattle.core_program.specs.Flushing.{KnowsPart}
 use Rattle.flush_loop.proofs.ServedFlushes.{kept-by-refusal}
 use Rattle.flush_loop.specs.FlushTurns.{LearnsOfService}
 use Rattle.flush_loop.specs.MadeRounds.{HoldsInRuns}

@@ -30,3 +30,9 @@ returns-in-Some-clause-learns g c =
     coe 1 0 (i. LearnsOfOwnRound F T A cells number client (closed.result i) old now)
     (plain-round F T A cells number client c.args.size.now.shards c.requires.flusher (Some asked) old mid now opened.own
     (closed.own ∙ (λ i. mid ++ closing_entries (opened.number i) (Some asked))))
+
+pub returns-in-None-clause-kept : goal.returns-in-None-clause-kept
+returns-in-None-clause-kept g c = record { kept = c.requires.kept.kept; in_runs = λ o log run es later are. tt }
+
+pub returns-in-Some-clause-kept : goal.returns-in-Some-clause-kept
+returns-in-Some-clause-kept g c = record { kept = c.requires.kept.kept; in_runs = λ o log run es later are. tt }

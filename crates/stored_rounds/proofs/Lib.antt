@@ -1,0 +1,5 @@
+pub mod SafeRounds
+pub mod KeptHeaders
+pub mod OwnRounds
+pub mod ClosedRounds
+pub mod Images

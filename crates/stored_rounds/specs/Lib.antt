@@ -1,0 +1,3 @@
+pub mod SafeEpochs
+pub mod RoundsInStore
+pub mod OwnKnowledge
