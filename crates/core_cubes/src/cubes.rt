@@ -1,5 +1,6 @@
 //! CREATE CUBE.
 ghost use Rattle.std.specs.Prelude.{◌≡◌, ◌+◌, ◌<◌, ◌≤◌, [], None, Some, IfOk};
+ghost use mathlib.Core.List.{IsPrefix};
 ghost use Rattle.core_program.specs.Knowing.{IsClientOf, IsSessionOf};
 ghost use Rattle.core_cubes.specs.MadeAndFound.{IsToldWhereMade};
 ghost use Rattle.core_cubes.specs.StatementCalls.{IsCallFor};
@@ -80,6 +81,7 @@ fn refuse_create<S: LinkedShard, R: Wait, P: CellCaller<CoreCells<S>>>(
         (IsCallFor (session.old.statements + 1) (asked.CreateCube decl.now)) (P.own caller.old)
         (P.own caller.new) }
     ensures more { HasOneMore session.old session.new }
+    ensures goes_on { IsPrefix (P.own caller.old) (P.own caller.new) }
     ensures told { IfReplied result (IsToldWhereMade (P.own caller.new) decl.now) }
     ensures executed { IfReplied result (ExecutesInCore S.fits S.stands S.says
         (P.opening caller.old) (P.number caller.old) (Says (asked.CreateCube decl.now)) session.old
@@ -122,6 +124,7 @@ fn refuse_fault<S: LinkedShard, R: Wait, P: CellCaller<CoreCells<S>>>(
         (IsCallFor (session.old.statements + 1) (asked.CreateCube decl.now)) (P.own caller.old)
         (P.own caller.new) }
     ensures more { HasOneMore session.old session.new }
+    ensures goes_on { IsPrefix (P.own caller.old) (P.own caller.new) }
     ensures told { IfReplied result (IsToldWhereMade (P.own caller.new) decl.now) }
     ensures executed { IfReplied result (ExecutesInCore S.fits S.stands S.says
         (P.opening caller.old) (P.number caller.old) (Says (asked.CreateCube decl.now)) session.old
@@ -167,6 +170,7 @@ fn create_named<S: LinkedShard, R: Wait, P: CellCaller<CoreCells<S>>>(
         (IsCallFor (session.old.statements + 1) (asked.CreateCube decl)) (P.own caller.old)
         (P.own caller.new) }
     ensures more { HasOneMore session.old session.new }
+    ensures goes_on { IsPrefix (P.own caller.old) (P.own caller.new) }
     ensures told { IfReplied result (IsToldWhereMade (P.own caller.new) decl) }
     ensures executed { IfReplied result (ExecutesInCore S.fits S.stands S.says
         (P.opening caller.old) (P.number caller.old) (Says (asked.CreateCube decl)) session.old
@@ -214,6 +218,7 @@ fn create_storable<S: LinkedShard, R: Wait, P: CellCaller<CoreCells<S>>>(
         (IsCallFor (session.old.statements + 1) (asked.CreateCube decl)) (P.own caller.old)
         (P.own caller.new) }
     ensures more { HasOneMore session.old session.new }
+    ensures goes_on { IsPrefix (P.own caller.old) (P.own caller.new) }
     ensures told { IfReplied result (IsToldWhereMade (P.own caller.new) decl) }
     ensures executed { IfReplied result (ExecutesInCore S.fits S.stands S.says
         (P.opening caller.old) (P.number caller.old) (Says (asked.CreateCube decl)) session.old
@@ -260,6 +265,7 @@ pub fn create_cube<S: LinkedShard, R: Wait, P: CellCaller<CoreCells<S>>>(
         (IsCallFor (session.old.statements + 1) (asked.CreateCube decl)) (P.own caller.old)
         (P.own caller.new) }
     ensures more { HasOneMore session.old session.new }
+    ensures goes_on { IsPrefix (P.own caller.old) (P.own caller.new) }
     ensures told { IfReplied result (IsToldWhereMade (P.own caller.new) decl) }
     ensures executed { IfReplied result (ExecutesInCore S.fits S.stands S.says
         (P.opening caller.old) (P.number caller.old) (Says (asked.CreateCube decl)) session.old

@@ -1,5 +1,6 @@
 //! The cube of the name of which a statement speaks.
 ghost use Rattle.std.specs.Prelude.{◌≡◌, ◌+◌, ◌<◌, ◌≤◌, [], IfErr, IfOk, None, OnOk, Some};
+ghost use mathlib.Core.List.{IsPrefix};
 ghost use Rattle.core_program.specs.Knowing.{IsClientOf, IsSessionOf};
 ghost use Rattle.core_cubes.specs.ExecutedWatched.{ExecutesWatched};
 ghost use Rattle.core_cubes.specs.MadeAndFound.{IsRefusedByName, cube_or_refusal};
@@ -78,6 +79,7 @@ fn refuse_search<S: LinkedShard, R: Wait, P: CellCaller<CoreCells<S>>>(
         (IsCallFor (session.old.statements + 1) statement.now) (P.own caller.old)
         (P.own caller.new) }
     ensures more { HasOneMore session.old session.new }
+    ensures goes_on { IsPrefix (P.own caller.old) (P.own caller.new) }
     ensures said { IfReplied result (IsRefusedByName name.now) }
     ensures executed { IfReplied result (ExecutesWatched S.fits S.stands S.says
         (P.opening caller.old) (P.number caller.old) statement.now session.old (P.own caller.old)
@@ -122,6 +124,7 @@ fn find_copied<S: LinkedShard, R: Wait, P: CellCaller<CoreCells<S>>>(
         (IsCallFor (session.old.statements + 1) statement.now) (P.own caller.old)
         (P.own caller.new) }
     ensures more { HasOneMore session.old session.new }
+    ensures goes_on { IsPrefix (P.own caller.old) (P.own caller.new) }
     ensures counted { OnOk result (session.new
         ≡ record session.old { statements = session.old.statements + 1 }) }
     ensures found { OnOk result (LeavesBehind S.fits S.stands S.says (P.opening caller.old)
@@ -187,6 +190,7 @@ pub fn find_named<S: LinkedShard, R: Wait, P: CellCaller<CoreCells<S>>>(
         (IsCallFor (session.old.statements + 1) statement.now) (P.own caller.old)
         (P.own caller.new) }
     ensures more { HasOneMore session.old session.new }
+    ensures goes_on { IsPrefix (P.own caller.old) (P.own caller.new) }
     ensures counted { OnOk result (session.new
         ≡ record session.old { statements = session.old.statements + 1 }) }
     ensures found { OnOk result (LeavesBehind S.fits S.stands S.says (P.opening caller.old)

@@ -1,4 +1,5 @@
 -- A statement that is refused and leaves nothing but that.
+use mathlib.Core.List.{IsPrefix}
 use Rattle.std.proofs.Common.{◌≡◌, ℕ, ◌+◌, List, [], ◌∷◌, Option, None, Some, refl, sym, subst, arith}
 use Rattle.core_events.specs.Events.{Opening}
 use Rattle.core_events.specs.Jobs.{CoreJob, JobOutcome}
@@ -127,6 +128,14 @@ module _ {S : Type 0} (fits : Opening → ℕ → ShardCall → Type 0) (stands 
       → GoOnByCalls fits stands says cells caller session IsPlainCall own now
   either-plain added (Replied said) left stopped = left.plain
   either-plain added Stopped left stopped = stopped.plain
+
+  -- Whether it is answered or not, own calls go on.
+  pub either-more : (added : List JournalEntry) (result : Answered)
+      → IfReplied result (λ said. LeavesBehind fits stands says cells caller session own now added)
+      → OnStopped result (LeavesBehind fits stands says cells caller session own now [])
+      → IsPrefix own now
+  either-more added (Replied said) left stopped = left.more
+  either-more added Stopped left stopped = stopped.more
 
   -- After calls that leave nothing, and then a refusal.
   pub then-refused : (mid : List CoreEntry) (added : List JournalEntry) (result : Answered)

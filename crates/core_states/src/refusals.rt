@@ -1,5 +1,6 @@
 //! Statements that are refused at once.
 ghost use Rattle.std.specs.Prelude.{◌≡◌, ◌<◌, ◌≤◌, [], Some};
+ghost use mathlib.Core.List.{IsPrefix};
 ghost use Rattle.core_program.specs.Knowing.{IsClientOf, IsSessionOf};
 ghost use Rattle.core_states.specs.ExecutedInCore.{ExecutesInCore, HasOneMore};
 ghost use Rattle.core_states.specs.LeftBehind.{GoOnByCalls, IsPlainCall, LeavesBehind};
@@ -50,6 +51,7 @@ pub fn refuse_syntax<S: LinkedShard, R: Wait, P: CellCaller<CoreCells<S>>>(
         (P.number caller.old) session.old.number IsPlainCall (P.own caller.old)
         (P.own caller.new) }
     ensures more { HasOneMore session.old session.new }
+    ensures goes_on { IsPrefix (P.own caller.old) (P.own caller.new) }
     ensures said { IfReplied result (λ said. said ≡ reply.Refused (cause.Syntax fault)) }
     ensures executed { IfReplied result (ExecutesInCore S.fits S.stands S.says
         (P.opening caller.old) (P.number caller.old) (SaysNone fault.at) session.old (P.own caller.old)
@@ -91,6 +93,7 @@ pub fn refuse_by_mode<S: LinkedShard, R: Wait, P: CellCaller<CoreCells<S>>>(
         (P.number caller.old) session.old.number IsPlainCall (P.own caller.old)
         (P.own caller.new) }
     ensures more { HasOneMore session.old session.new }
+    ensures goes_on { IsPrefix (P.own caller.old) (P.own caller.new) }
     ensures said { IfReplied result (λ said. said ≡ reply.Refused refusal) }
     ensures executed { IfReplied result (λ said. (s : Statement)
         → refused_by_mode (mode_of session.old.mode) s ≡ Some refusal
@@ -130,6 +133,7 @@ pub fn refuse_memory<S: LinkedShard, R: Wait, P: CellCaller<CoreCells<S>>>(
         (P.number caller.old) session.old.number IsPlainCall (P.own caller.old)
         (P.own caller.new) }
     ensures more { HasOneMore session.old session.new }
+    ensures goes_on { IsPrefix (P.own caller.old) (P.own caller.new) }
     ensures said { IfReplied result (λ said. said ≡ reply.Refused cause.NoMemory) }
     ensures executed { IfReplied result (λ said. (sentence : Sentence)
         → ExecutesInCore S.fits S.stands S.says (P.opening caller.old) (P.number caller.old)

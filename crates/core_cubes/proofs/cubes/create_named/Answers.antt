@@ -1,5 +1,6 @@
 use Rattle.std.proofs.Common.{◌∙◌, ◌+◌, [], ◌∷◌, List, ℕ, refl, sym, ap, subst, arith}
 use Rattle.core_program.specs.Knowing.{IsSessionOf}
+use Rattle.client_calls.specs.ClientCalls.{desk_entry}
 use Rattle.core_cells.specs.declared.desk.DeskAnswer.TheVariants as answer
 use Rattle.core_cells.specs.declared.desk.DeskCall.TheVariants as call
 use Rattle.core_cubes.proofs.CallsForStatements.{plain-for}
@@ -8,7 +9,7 @@ use Rattle.core_cubes.proofs.CubesCreated.{answers-made, refusal-tells-none, tol
 use Rattle.core_cubes.specs.MadeAndFound.{IsToldWhereMade}
 use Rattle.core_cubes.specs.StatementCalls.{IsCallFor}
 use Rattle.core_states.proofs.LeftCalls.{left-by-call}
-use Rattle.core_states.proofs.Refused.{counted, either-plain, if-refused, refuses-memory, then-refused, then-stopped}
+use Rattle.core_states.proofs.Refused.{counted, either-more, either-plain, if-refused, refuses-memory, then-refused, then-stopped}
 use Rattle.core_states.specs.ExecutedInCore.{ExecutesInCore}
 use Rattle.core_states.specs.LeftBehind.{IsPlainCall, LeavesBehind}
 use Rattle.core_states.specs.StandingInCore.{HoldsForMode}
@@ -174,3 +175,39 @@ returns-in-None-clause-stopped g c =
     session.number own now mid c.refuse_plainly.result first
     (coe 0 1 (i. OnStopped c.refuse_plainly.result (LeavesBehind g.S.LinkedShard.fits g.S.LinkedShard.stands g.S.LinkedShard.says
     (c.create_cube.ensures.opening i) (c.create_cube.ensures.number i) session.number mid now [])) c.refuse_plainly.ensures.stopped)
+
+pub returns-in-Some-clause-goes_on : goal.returns-in-Some-clause-goes_on
+returns-in-Some-clause-goes_on g c =
+    let session = c.args.session.now in
+    (
+      desk_entry (g.P.CellCaller.number c.args.caller.now)
+          (call.CreateCube session.number (session.statements + 1) c.args.decl) (answer.Created c.in-Some.made) ∷ [],
+      sym c.in-Some.ensures.own,
+    )
+
+pub returns-in-None-clause-goes_on : goal.returns-in-None-clause-goes_on
+returns-in-None-clause-goes_on g c =
+    let session = c.args.session.now in
+    let own = g.P.CellCaller.own c.args.caller.now in
+    let mid = g.P.CellCaller.own c.create_cube.new.caller in
+    let now = g.P.CellCaller.own c.refuse_plainly.new.caller in
+    let added = entry.Refused session.number (session.statements + 1) 16 ∷ [] in
+    let first =
+    left-by-call g.S.LinkedShard.fits g.S.LinkedShard.stands g.S.LinkedShard.says
+    (g.P.CellCaller.opening c.args.caller.now) (g.P.CellCaller.number c.args.caller.now)
+    session.number c.requires.client own mid 0 (call.CreateCube session.number (session.statements + 1) c.args.decl) answer.NoMemory
+    c.in-None.ensures.own (λ o log run es later are. tt) (λ k. tt)
+    in
+    either-more g.S.LinkedShard.fits g.S.LinkedShard.stands g.S.LinkedShard.says
+    (g.P.CellCaller.opening c.args.caller.now) (g.P.CellCaller.number c.args.caller.now)
+    session.number own now added c.refuse_plainly.result
+    (then-refused g.S.LinkedShard.fits g.S.LinkedShard.stands g.S.LinkedShard.says
+    (g.P.CellCaller.opening c.args.caller.now) (g.P.CellCaller.number c.args.caller.now)
+    session.number own now mid added c.refuse_plainly.result first
+    (coe 0 1 (i. IfReplied c.refuse_plainly.result (λ (said : Reply). LeavesBehind g.S.LinkedShard.fits g.S.LinkedShard.stands g.S.LinkedShard.says
+    (c.create_cube.ensures.opening i) (c.create_cube.ensures.number i) session.number mid now added)) c.refuse_plainly.ensures.left))
+    (then-stopped g.S.LinkedShard.fits g.S.LinkedShard.stands g.S.LinkedShard.says
+    (g.P.CellCaller.opening c.args.caller.now) (g.P.CellCaller.number c.args.caller.now)
+    session.number own now mid c.refuse_plainly.result first
+    (coe 0 1 (i. OnStopped c.refuse_plainly.result (LeavesBehind g.S.LinkedShard.fits g.S.LinkedShard.stands g.S.LinkedShard.says
+    (c.create_cube.ensures.opening i) (c.create_cube.ensures.number i) session.number mid now [])) c.refuse_plainly.ensures.stopped))

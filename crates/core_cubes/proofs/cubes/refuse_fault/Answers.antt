@@ -3,7 +3,7 @@ use Rattle.core_cubes.proofs.CallsForStatements.{plain-for}
 use Rattle.core_cubes.proofs.CallsGoOn.{go-on-as}
 use Rattle.core_cubes.proofs.CubesCreated.{refusal-tells-none}
 use Rattle.core_cubes.specs.StatementCalls.{IsCallFor}
-use Rattle.core_states.proofs.Refused.{counted, either-plain, if-refused, refuses}
+use Rattle.core_states.proofs.Refused.{counted, either-more, either-plain, if-refused, refuses}
 use Rattle.core_states.specs.ExecutedInCore.{ExecutesInCore}
 use Rattle.core_states.specs.LeftBehind.{IsPlainCall}
 use Rattle.cube_journal.specs.declared.journal_entry.JournalEntry.TheVariants as entry
@@ -59,3 +59,13 @@ pub returns-clause-more : goal.returns-clause-more
 returns-clause-more g c =
     let few = c.requires.counted in
     record { number = refl; statements = refl; every = refl; counted = omega (arith, few) }
+
+pub returns-clause-goes_on : goal.returns-clause-goes_on
+returns-clause-goes_on g c =
+    let number = c.args.session.now.statements + 1 in
+    let own = g.P.CellCaller.own c.args.caller.now in
+    let now = g.P.CellCaller.own c.refuse_plainly.new.caller in
+    either-more g.S.LinkedShard.fits g.S.LinkedShard.stands g.S.LinkedShard.says
+    (g.P.CellCaller.opening c.args.caller.now) (g.P.CellCaller.number c.args.caller.now)
+    c.args.session.now.number own now (entry.Refused c.args.session.now.number number 20 ∷ []) c.refuse_plainly.result
+    c.refuse_plainly.ensures.left c.refuse_plainly.ensures.stopped

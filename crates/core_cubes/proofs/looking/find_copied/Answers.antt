@@ -13,7 +13,7 @@ use Rattle.core_cubes.specs.StatementCalls.{IsCallFor}
 use Rattle.core_cubes.specs.declared.naming.NamedCube.{NamedCube}
 use Rattle.core_states.proofs.Holding.{held_for, holds-on, ready-for-mode}
 use Rattle.core_states.proofs.LeftCalls.{left-by-call}
-use Rattle.core_states.proofs.Refused.{counted, either-plain, if-refused, refuses-memory, then-refused, then-stopped}
+use Rattle.core_states.proofs.Refused.{counted, either-more, either-plain, if-refused, refuses-memory, then-refused, then-stopped}
 use Rattle.core_states.specs.LeftBehind.{IsPlainCall, LeavesBehind}
 use Rattle.cube_journal.specs.declared.journal_entry.JournalEntry.TheVariants as entry
 use Rattle.cube_journal.specs.declared.refusal.Refusal.TheVariants as refusal
@@ -257,3 +257,39 @@ returns-in-None-clause-stopped g c =
     session.number own now mid c.refuse_plainly.result first
     (coe 0 1 (i. OnStopped c.refuse_plainly.result (LeavesBehind g.S.LinkedShard.fits g.S.LinkedShard.stands g.S.LinkedShard.says
     (c.find_cube.ensures.opening i) (c.find_cube.ensures.number i) session.number mid now [])) c.refuse_plainly.ensures.stopped)
+
+pub returns-in-Some-clause-goes_on : goal.returns-in-Some-clause-goes_on
+returns-in-Some-clause-goes_on g c =
+    let session = c.args.session.now in
+    (
+      desk_entry (g.P.CellCaller.number c.args.caller.now)
+          (call.FindCube session.number (session.statements + 1) c.args.wanted) (answer.Found c.in-Some.found) ∷ [],
+      sym c.in-Some.ensures.own,
+    )
+
+pub returns-in-None-clause-goes_on : goal.returns-in-None-clause-goes_on
+returns-in-None-clause-goes_on g c =
+    let session = c.args.session.now in
+    let own = g.P.CellCaller.own c.args.caller.now in
+    let mid = g.P.CellCaller.own c.find_cube.new.caller in
+    let now = g.P.CellCaller.own c.refuse_plainly.new.caller in
+    let added = entry.Refused session.number (session.statements + 1) 16 ∷ [] in
+    let first =
+    left-by-call g.S.LinkedShard.fits g.S.LinkedShard.stands g.S.LinkedShard.says
+    (g.P.CellCaller.opening c.args.caller.now) (g.P.CellCaller.number c.args.caller.now)
+    session.number c.requires.client own mid 0 (call.FindCube session.number (session.statements + 1) c.args.wanted) answer.NoMemory
+    c.in-None.ensures.own (λ o log run es later are. tt) (λ k. tt)
+    in
+    either-more g.S.LinkedShard.fits g.S.LinkedShard.stands g.S.LinkedShard.says
+    (g.P.CellCaller.opening c.args.caller.now) (g.P.CellCaller.number c.args.caller.now)
+    session.number own now added c.refuse_plainly.result
+    (then-refused g.S.LinkedShard.fits g.S.LinkedShard.stands g.S.LinkedShard.says
+    (g.P.CellCaller.opening c.args.caller.now) (g.P.CellCaller.number c.args.caller.now)
+    session.number own now mid added c.refuse_plainly.result first
+    (coe 0 1 (i. IfReplied c.refuse_plainly.result (λ (said : Reply). LeavesBehind g.S.LinkedShard.fits g.S.LinkedShard.stands g.S.LinkedShard.says
+    (c.find_cube.ensures.opening i) (c.find_cube.ensures.number i) session.number mid now added)) c.refuse_plainly.ensures.left))
+    (then-stopped g.S.LinkedShard.fits g.S.LinkedShard.stands g.S.LinkedShard.says
+    (g.P.CellCaller.opening c.args.caller.now) (g.P.CellCaller.number c.args.caller.now)
+    session.number own now mid c.refuse_plainly.result first
+    (coe 0 1 (i. OnStopped c.refuse_plainly.result (LeavesBehind g.S.LinkedShard.fits g.S.LinkedShard.stands g.S.LinkedShard.says
+    (c.find_cube.ensures.opening i) (c.find_cube.ensures.number i) session.number mid now [])) c.refuse_plainly.ensures.stopped))

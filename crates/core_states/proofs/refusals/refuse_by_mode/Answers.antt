@@ -1,5 +1,5 @@
 use Rattle.std.proofs.Common.{◌≡◌, ◌+◌, [], ◌∷◌, Some, refl, arith}
-use Rattle.core_states.proofs.Refused.{either-plain, if-refused, refuses-by-mode}
+use Rattle.core_states.proofs.Refused.{either-more, either-plain, if-refused, refuses-by-mode}
 use Rattle.core_states.specs.ExecutedInCore.{ExecutesInCore}
 use Rattle.cube_journal.specs.Refusals.{code}
 use Rattle.cube_journal.specs.declared.journal_entry.JournalEntry.TheVariants as entry
@@ -32,6 +32,13 @@ returns-clause-more g c =
 pub returns-clause-plain : goal.returns-clause-plain
 returns-clause-plain g c =
     either-plain g.S.LinkedShard.fits g.S.LinkedShard.stands g.S.LinkedShard.says (g.P.CellCaller.opening c.args.caller.now) (g.P.CellCaller.number c.args.caller.now)
+    c.args.session.now.number (g.P.CellCaller.own c.args.caller.now) (g.P.CellCaller.own c.refuse_plainly.new.caller)
+    (entry.Refused c.args.session.now.number (c.args.session.now.statements + 1) (code (c.args.refusal)) ∷ [])
+    c.refuse_plainly.result c.refuse_plainly.ensures.left c.refuse_plainly.ensures.stopped
+
+pub returns-clause-goes_on : goal.returns-clause-goes_on
+returns-clause-goes_on g c =
+    either-more g.S.LinkedShard.fits g.S.LinkedShard.stands g.S.LinkedShard.says (g.P.CellCaller.opening c.args.caller.now) (g.P.CellCaller.number c.args.caller.now)
     c.args.session.now.number (g.P.CellCaller.own c.args.caller.now) (g.P.CellCaller.own c.refuse_plainly.new.caller)
     (entry.Refused c.args.session.now.number (c.args.session.now.statements + 1) (code (c.args.refusal)) ∷ [])
     c.refuse_plainly.result c.refuse_plainly.ensures.left c.refuse_plainly.ensures.stopped
