@@ -8,7 +8,7 @@ use Rattle.core_cubes.specs.StandingCubes.{StandsBefore}
 use Rattle.core_events.specs.Cells.{desk_of}
 use Rattle.core_events.specs.Events.{Opening, CoreEvent}
 use Rattle.core_agreements.specs.ScriptedRuns.{IsScriptedRun}
-use Rattle.core_pasts.specs.CorePasts.{CorePast, last_number}
+use Rattle.core_states.specs.CorePasts.{CorePast, last_number}
 use Rattle.core_program.specs.CoreFits.{CoreEntry}
 use Rattle.core_program.specs.Knowing.{IsLaterRun}
 use Rattle.core_records.proofs.CubesOnRecord.{cube-on-record}

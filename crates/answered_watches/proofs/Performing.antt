@@ -7,9 +7,9 @@ use Rattle.answered_watches.specs.WatchingCalls.{GoesOnByWatching, IsWatchingCal
 use Rattle.core_cubes.proofs.CallsGoOn.{go-on-as}
 use Rattle.core_events.specs.Clients.{calls_of}
 use Rattle.core_events.specs.Events.{Opening, ClientCall, CoreEvent}
-use Rattle.core_pasts.proofs.LongerPasts.{in-turn-after, run-before}
-use Rattle.core_pasts.specs.CorePasts.{CorePast, IsOneMore, last_number, last_step}
-use Rattle.core_pasts.specs.RunsFrom.{IsRunFrom}
+use Rattle.core_states.proofs.LongerPasts.{in-turn-after, run-before}
+use Rattle.core_states.specs.CorePasts.{CorePast, IsOneMore, last_number, last_step}
+use Rattle.core_states.specs.RunsFrom.{IsRunFrom}
 use Rattle.core_program.proofs.KnownCalls.{earlier-run}
 use Rattle.core_program.specs.CoreFits.{CoreEntry}
 use Rattle.core_program.specs.Knowing.{IsLaterRun}

@@ -11,7 +11,7 @@ use Rattle.answered_watches.specs.WatchEnds.{EndsWatch, HasFoundCube, begun, gav
 use Rattle.answered_watches.specs.WatchingCalls.{LeavesByWatching}
 use Rattle.core_events.specs.Clients.{reader_up_to}
 use Rattle.core_events.specs.Events.{Opening, CoreEvent}
-use Rattle.core_pasts.specs.CorePasts.{CorePast}
+use Rattle.core_states.specs.CorePasts.{CorePast}
 use Rattle.core_program.proofs.KnownCalls.{earlier-run}
 use Rattle.core_program.specs.CoreFits.{CoreEntry}
 use Rattle.core_program.specs.Knowing.{IsLaterRun}

@@ -6,7 +6,7 @@ use Rattle.client_calls.specs.ClientCalls.{desk_entry}
 use Rattle.core_cells.specs.declared.desk.DeskAnswer.TheVariants as answer
 use Rattle.core_cells.specs.declared.desk.DeskCall.TheVariants as call
 use Rattle.core_cubes.proofs.CallsGoOn.{adds-by-call, go-on-as, go-on-by-call, go-on-then}
-use Rattle.core_pasts.specs.OwnCalls.{OwnCallsLeave}
+use Rattle.core_states.specs.OwnCalls.{OwnCallsLeave}
 use Rattle.core_program.specs.CoreFits.{CoreEntry}
 use Rattle.core_program.specs.Knowing.{IsClientOf}
 use Rattle.core_states.proofs.LeftCalls.{longer-front}

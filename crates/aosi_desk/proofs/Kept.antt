@@ -12,11 +12,11 @@ use Rattle.cube_journal.specs.Legal.{has_cube, CubesAllow, CubesAllowAll, Counte
 use Rattle.cube_journal.specs.declared.journal_entry.JournalEntry.{JournalEntry}
 use Rattle.cube_journal.specs.declared.journal_entry.JournalEntry.TheVariants as entry
 use Rattle.cube_schema.proofs.Repeated.{repeated-push}
-use Rattle.aosi_register.specs.State.{RegisterState, with_entry, answer_entry, end_entry}
-use Rattle.aosi_register.specs.declared.answer.RoundAnswer.{RoundAnswer}
-use Rattle.aosi_register.specs.declared.answer.RoundAnswer.TheVariants.{Target, Nothing}
-use Rattle.aosi_register.specs.declared.answer.RoundEnd.{RoundEnd}
-use Rattle.aosi_register.specs.declared.answer.RoundEnd.TheVariants.{Safe, Lost}
+use Rattle.aosi_desk.specs.State.{RegisterState, with_entry, answer_entry, end_entry}
+use Rattle.aosi_desk.specs.declared.answer.RoundAnswer.{RoundAnswer}
+use Rattle.aosi_desk.specs.declared.answer.RoundAnswer.TheVariants.{Target, Nothing}
+use Rattle.aosi_desk.specs.declared.answer.RoundEnd.{RoundEnd}
+use Rattle.aosi_desk.specs.declared.answer.RoundEnd.TheVariants.{Safe, Lost}
 use Rattle.aosi_desk.specs.Desks.{decl_names, is_cube_code, speaks_of_cubes, cubes_after_all, KeepsCubes, AreCubes, IsLegalDesk}
 
 -- One more entry that the cubes allow.

@@ -1,2 +1,11 @@
+pub mod Loops
+pub mod Held
+pub mod HoldsFits
+pub mod Pending
+pub mod Sessions
+pub mod Openings
+pub mod Ends
+pub mod Wholes
+pub mod Rounds
 pub mod Kept
 pub mod Named

@@ -10,7 +10,7 @@ use Rattle.cube_journal.specs.declared.journal_entry.JournalEntry.{JournalEntry}
 use Rattle.cube_journal.specs.declared.journal_entry.JournalEntry.TheVariants as entry
 use Rattle.cube_journal.specs.declared.refusal.Refusal.{Refusal}
 use Rattle.cube_journal.specs.declared.refusal.Refusal.TheVariants.{UnknownCube, CubeExists, TooManyCubes}
-use Rattle.aosi_register.specs.State.{RegisterState, state_of, with_entry}
+use Rattle.aosi_desk.specs.State.{RegisterState, state_of, with_entry}
 use Rattle.aosi_desk.specs.declared.cube.CubeAnswer.{CubeAnswer}
 use Rattle.aosi_desk.specs.declared.cube.CubeAnswer.TheVariants.{Created, Exists, TooMany}
 use Rattle.aosi_desk.specs.declared.cube.CubeFound.{CubeFound}

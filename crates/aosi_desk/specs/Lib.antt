@@ -1,1 +1,4 @@
+pub mod State
+pub mod Holds
+pub mod Fits
 pub mod Desks

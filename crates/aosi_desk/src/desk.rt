@@ -7,13 +7,13 @@ ghost use Rattle.cube_journal.specs.Legal.{CountersAllow, HoldsReader, MayAskRou
 ghost use Rattle.cube_journal.specs.Order.{IsInOrder};
 ghost use Rattle.cube_language.specs.Cubes.{IsStorable, first_repeated};
 ghost use Rattle.linked_roll.specs.Members.{items};
-ghost use Rattle.aosi_register.specs.Holds.{Rise};
-ghost use Rattle.aosi_register.specs.State.{state_of, writer_snapshot, reader_snapshot, IsWriting, round_answer, end_entry, answer_entry, after_begin, after_read, after_commit, after_abort};
+ghost use Rattle.aosi_desk.specs.Holds.{Rise};
+ghost use Rattle.aosi_desk.specs.State.{state_of, writer_snapshot, reader_snapshot, IsWriting, round_answer, end_entry, answer_entry, after_begin, after_read, after_commit, after_abort};
 ghost use Rattle.aosi_desk.specs.Desks.{opening_desk, desk_over, desk_with_entry, decl_names, IsFound, desk_after_search, cube_answer, desk_after_answer, speaks_of_cubes, IsLegalDesk, AreCubes};
 
 use crate::cube::{CubeAnswer, CubeFound};
 use crate::search::{copy_decls, decls_of, find, place_of};
-use aosi_register::{MOST_HOLDERS, MOST_SESSIONS, Register, RoundAnswer, RoundEnd};
+use crate::{MOST_HOLDERS, MOST_SESSIONS, Register, RoundAnswer, RoundEnd};
 use cube_journal::{AbortCause, Counters, JournalEntry, Note, OpenSnapshot};
 use cube_language::{Decl, MOST_CUBES};
 use cube_schema::Schema;

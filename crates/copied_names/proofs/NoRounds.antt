@@ -16,7 +16,7 @@ use Rattle.core_events.specs.Events.{Opening, flush_mail, RoundOpen, ClientCall,
 use Rattle.core_events.specs.Fitting.{FitsCall}
 use Rattle.core_events.specs.Jobs.{CoreJob, JobOutcome}
 use Rattle.core_events.specs.ShardView.{ShardView}
-use Rattle.core_links.specs.NamesEvents.{names_event}
+use Rattle.core_board_cells.specs.NamesEvents.{names_event}
 use Rattle.core_program.specs.CoreFits.{CoreEntry}
 use Rattle.cube_core.specs.declared.cell.CoreCell.{CoreCell}
 use Rattle.cube_core.specs.declared.shard.ShardAnswer.{ShardAnswer}

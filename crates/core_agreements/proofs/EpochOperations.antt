@@ -10,8 +10,8 @@ use Rattle.cube_journal.specs.declared.journal_entry.JournalEntry.{JournalEntry}
 use Rattle.cube_journal.specs.declared.note.Note.TheVariants as note
 use Rattle.cube_run.specs.RunRecords.{RunRecord, Sentence, script_of}
 use Rattle.cube_run.specs.RunTransactions.{DoneOperation, committed_transaction, is_commit_of, kept_transaction, operations_at, run_transactions, session_operations, session_transactions}
-use Rattle.aosi_register.specs.declared.answer.RoundAnswer.TheVariants.{Target, Nothing}
-use Rattle.aosi_register.specs.declared.answer.RoundEnd.TheVariants.{Safe, Lost}
+use Rattle.aosi_desk.specs.declared.answer.RoundAnswer.TheVariants.{Target, Nothing}
+use Rattle.aosi_desk.specs.declared.answer.RoundEnd.TheVariants.{Safe, Lost}
 use Rattle.aosi_desk.specs.declared.cube.CubeAnswer.TheVariants.{Created, Exists, TooMany}
 use Rattle.aosi_desk.specs.declared.cube.CubeFound.TheVariants.{Found, Unknown}
 use Rattle.core_events.specs.Clients.{calls_of}

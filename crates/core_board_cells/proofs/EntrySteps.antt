@@ -3,7 +3,7 @@ use Rattle.std.proofs.Common.{◌≡◌, ◌≢◌, ◌∙◌, ℕ, ◌+◌, ◌
 use Rattle.turn_board.specs.declared.history.Event.{Event}
 use Rattle.core_cells.specs.DeskCalls.{CanCallDesk, DeskStep}
 use Rattle.core_cells.specs.declared.desk.DeskAnswer.{DeskAnswer}
-use Rattle.aosi_register.specs.declared.answer.RoundAnswer.TheVariants.{Nothing}
+use Rattle.aosi_desk.specs.declared.answer.RoundAnswer.TheVariants.{Nothing}
 use Rattle.core_cells.specs.declared.desk.DeskAnswer.TheVariants as said
 use Rattle.core_cells.specs.declared.desk.DeskCall.{DeskCall}
 use Rattle.core_cells.specs.declared.desk.DeskCall.TheVariants as round
@@ -24,16 +24,16 @@ use Rattle.core_events.specs.Events.{Opening, Work, CoreEvent, By, At}
 use Rattle.core_events.specs.Jobs.{CoreJob, JobOutcome}
 use Rattle.core_events.specs.Runs.{IsCoreRun}
 use Rattle.core_events.specs.ShardView.{ShardView}
-use Rattle.core_links.specs.DeskEvents.{desk_event, FitsDeskCall}
-use Rattle.core_links.specs.MailEvents.{FitsMailCall, IsMailCellOf}
-use Rattle.core_links.specs.NamesEvents.{names_event, AreNamesOf}
+use Rattle.core_board_cells.specs.DeskEvents.{desk_event, FitsDeskCall}
+use Rattle.core_board_cells.specs.MailEvents.{FitsMailCall, IsMailCellOf}
+use Rattle.core_board_cells.specs.NamesEvents.{names_event, AreNamesOf}
 use Rattle.names_dict.specs.Dictionaries.{Dictionary}
 use Rattle.mail_cell.specs.State.{MailState}
 use Rattle.cube_core.specs.declared.jobs.Job.{Job}
 use Rattle.cube_core.specs.declared.jobs.JobAnswer.{JobAnswer}
-use Rattle.core_links.proofs.DeskLinks as desk
-use Rattle.core_links.proofs.MailLinks as mail
-use Rattle.core_links.proofs.NamesLinks as names
+use Rattle.core_board_cells.proofs.DeskLinks as desk
+use Rattle.core_board_cells.proofs.MailLinks as mail
+use Rattle.core_board_cells.proofs.NamesLinks as names
 use Rattle.core_board.specs.Links.{IsCallLinked}
 use Rattle.core_board_cells.specs.BoardCells.{client_of, call_job, job_asked, PostSuits, AnswerSays, cell_of_shard, cell_of_mail, IsShardLinked, FitsBoardEntry, IsEntryEvent, StandsInCell, IsByItself, IsClientCaller, IsRoundsOwn}
 use Rattle.core_board_cells.proofs.OwnEntries.{flusher-caller}

@@ -1,3 +1,9 @@
+pub mod MailSteps
+pub mod DeskLinks
+pub mod Dictionaries
+pub mod NamesLinks
+pub mod KnownClients
+pub mod MailLinks
 pub mod OffCells
 pub mod OwnEntries
 pub mod JobsInRuns

@@ -19,10 +19,10 @@ use Rattle.core_events.specs.Clients.{ClientState}
 use Rattle.core_events.specs.Events.{Opening, Post, Fetch, CloseMail, NoChange, Take, NoJob, Reply, CoreEvent, By, At}
 use Rattle.core_events.specs.Jobs.{CoreJob, JobOutcome}
 use Rattle.core_events.specs.ShardView.{BrickEntry}
-use Rattle.core_mail_cells.specs.MailCells.{is_on_mail}
-use Rattle.core_links.specs.DeskEvents.{desk_event, is_on_desk}
-use Rattle.core_links.specs.MailEvents.{IsMailEvent}
-use Rattle.core_links.specs.NamesEvents.{names_event, is_on_names}
+use Rattle.core_board_cells.specs.MailCells.{is_on_mail}
+use Rattle.core_board_cells.specs.DeskEvents.{desk_event, is_on_desk}
+use Rattle.core_board_cells.specs.MailEvents.{IsMailEvent}
+use Rattle.core_board_cells.specs.NamesEvents.{names_event, is_on_names}
 
 -- A call on the desk.
 pub record IsOffNames (event : CoreEvent) : Type 0 where

@@ -11,8 +11,8 @@ use Rattle.core_cells.specs.declared.names.NamesAnswer.TheVariants as told
 use Rattle.core_cells.specs.declared.names.NamesCall.{NamesCall}
 use Rattle.core_cells.specs.declared.names.NamesCall.TheVariants as names
 use Rattle.core_events.specs.Clients.{ClientState, client_state}
-use Rattle.core_links.specs.DeskEvents.{desk_event}
-use Rattle.core_links.specs.NamesEvents.{names_event}
+use Rattle.core_board_cells.specs.DeskEvents.{desk_event}
+use Rattle.core_board_cells.specs.NamesEvents.{names_event}
 use Rattle.core_cells.specs.declared.mail.MailAnswer.{MailAnswer}
 use Rattle.core_cells.specs.declared.mail.MailAnswer.TheVariants as got
 use Rattle.core_cells.specs.declared.mail.MailCall.{MailCall}
@@ -28,7 +28,7 @@ use Rattle.cube_core.specs.declared.shard.ShardCall.{ShardCall}
 use Rattle.core_events.specs.Events.{Opening, flusher, flush_mail, CoreEvent, By}
 use Rattle.core_events.specs.Jobs.{CoreJob, JobOutcome}
 use Rattle.core_events.specs.ShardView.{ShardView}
-use Rattle.core_links.specs.MailEvents.{IsMailEvent}
+use Rattle.core_board_cells.specs.MailEvents.{IsMailEvent}
 use Rattle.core_board.specs.Links.{is_call_of, is_move_at, MakesCalls, MakesMoves, is_of_rounds, MakesRounds}
 use Rattle.core_board_cells.specs.BoardCells.{client_of, server_of, IsClientCaller, job_asked, AnswerSays, IsByItself, IsEventOf, IsEntryEvent, IsRoundsOwn}
 

@@ -21,8 +21,8 @@ use Rattle.core_events.specs.Jobs.{CoreJob, JobOutcome}
 use Rattle.core_events.specs.ShardView.{ShardView}
 use Rattle.core_events.proofs.Knowledge.{known-by-calls}
 use Rattle.core_events.specs.Histories.{last_after, last_after_post, last_post, job_served}
-use Rattle.core_links.specs.DeskEvents.{desk_event}
-use Rattle.core_links.specs.MailEvents.{HandsOn, IsMailEvent}
+use Rattle.core_board_cells.specs.DeskEvents.{desk_event}
+use Rattle.core_board_cells.specs.MailEvents.{HandsOn, IsMailEvent}
 use Rattle.core_board.specs.Links.{HangsOn, IsToldByCaller, MakesCalls}
 use Rattle.core_board.proofs.OwnParts.{told-calls, told-moves, told-rounds}
 use Rattle.core_board_cells.specs.BoardCells.{client_of, server_of, IsClientCaller, job_asked, AnswerSays, IsByItself, IsEventOf, IsEntryEvent, FlusherPart, flusher_part}

@@ -37,9 +37,9 @@ use Rattle.core_events.specs.Fitting.{FitsMove, RoundProgress, round_progress}
 use Rattle.core_events.specs.Jobs.{CoreJob, Append, DropBox, Scan, Delta, Rollback, Purge, CopyRound, Flush, JobOutcome, Done, StoreLost, OutOfMemory}
 use Rattle.core_events.specs.Runs.{ShardSays}
 use Rattle.core_events.specs.ShardView.{ShardView, HasNoZeroRows}
-use Rattle.core_links.specs.DeskEvents.{desk_event, FitsDeskCall}
-use Rattle.core_links.specs.MailEvents.{IsMailEvent, FitsMailCall, IsMailCellOf}
-use Rattle.core_links.specs.NamesEvents.{names_event, FitsNamesCall, AreNamesOf}
+use Rattle.core_board_cells.specs.DeskEvents.{desk_event, FitsDeskCall}
+use Rattle.core_board_cells.specs.MailEvents.{IsMailEvent, FitsMailCall, IsMailCellOf}
+use Rattle.core_board_cells.specs.NamesEvents.{names_event, FitsNamesCall, AreNamesOf}
 
 -- Callers: main is 0, the sessions follow, then the workers of the shards, and then the flusher, which is a client and
 -- the worker of its own mail.

@@ -1,1 +1,5 @@
+pub mod MailCells
+pub mod DeskEvents
+pub mod NamesEvents
+pub mod MailEvents
 pub mod BoardCells

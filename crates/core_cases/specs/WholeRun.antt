@@ -5,8 +5,8 @@ use Rattle.cube_values.specs.declared.snapshot.Snapshot.{Snapshot}
 use Rattle.cube_language.specs.declared.decl.Decl.{Decl}
 use Rattle.cube_journal.specs.declared.counters.Counters.{Counters}
 use Rattle.cube_journal.specs.declared.note.Note.TheVariants.{Flushed, Purged}
-use Rattle.aosi_register.specs.declared.answer.RoundAnswer.TheVariants.{Target}
-use Rattle.aosi_register.specs.declared.answer.RoundEnd.TheVariants.{Safe}
+use Rattle.aosi_desk.specs.declared.answer.RoundAnswer.TheVariants.{Target}
+use Rattle.aosi_desk.specs.declared.answer.RoundEnd.TheVariants.{Safe}
 use Rattle.aosi_desk.specs.declared.cube.CubeAnswer.TheVariants.{Created}
 use Rattle.core_events.specs.ShardView.{ShardView, entries_of_round}
 use Rattle.core_events.specs.Jobs.{CoreJob, Append, Scan, Delta, Purge, CopyRound, Flush, JobOutcome, Done, Found, Compared, Copied}

@@ -6,8 +6,8 @@ use Rattle.cube_journal.specs.declared.journal_entry.JournalEntry.TheVariants as
 use Rattle.cube_journal.specs.Counters.{held_by, counters}
 use Rattle.cube_journal.specs.Entries.{note_entry}
 use Rattle.cube_journal.specs.Legal.{CountersAllow, HoldsReader, MayAskRound}
-use Rattle.aosi_register.specs.declared.register.TheConstants.{MOST_HOLDERS}
-use Rattle.aosi_register.specs.State.{state_of, writer_snapshot, reader_snapshot, IsWriting, round_answer, end_entry, answer_entry, after_begin, after_read, after_commit, after_abort}
+use Rattle.aosi_desk.specs.declared.register.TheConstants.{MOST_HOLDERS}
+use Rattle.aosi_desk.specs.State.{state_of, writer_snapshot, reader_snapshot, IsWriting, round_answer, end_entry, answer_entry, after_begin, after_read, after_commit, after_abort}
 use Rattle.aosi_desk.specs.Desks.{DeskState, desk_over, desk_with_entry, IsFound, desk_after_search, cube_answer, desk_after_answer, speaks_of_cubes}
 use Rattle.core_cells.specs.declared.desk.DeskCall.{DeskCall}
 use Rattle.core_cells.specs.declared.desk.DeskCall.TheVariants as call

@@ -15,7 +15,7 @@ use Rattle.core_cubes.specs.MadeAndFound.{IsToldWhereMade}
 use Rattle.core_events.specs.Events.{Opening}
 use Rattle.core_events.specs.Jobs.{CoreJob, JobOutcome}
 use Rattle.core_events.specs.ShardView.{ShardView}
-use Rattle.core_pasts.specs.OwnCalls.{desk_leaves}
+use Rattle.core_states.specs.OwnCalls.{desk_leaves}
 use Rattle.core_program.specs.CoreFits.{CoreEntry}
 use Rattle.core_states.proofs.Growing.{parts-of}
 use Rattle.core_states.proofs.Refused.{counted}

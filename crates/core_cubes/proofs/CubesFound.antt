@@ -21,7 +21,7 @@ use Rattle.core_events.specs.Clients.{ClientState}
 use Rattle.core_events.specs.Events.{Opening}
 use Rattle.core_events.specs.Jobs.{CoreJob, JobOutcome}
 use Rattle.core_events.specs.ShardView.{ShardView}
-use Rattle.core_links.specs.DeskEvents.{desk_event}
+use Rattle.core_board_cells.specs.DeskEvents.{desk_event}
 use Rattle.core_program.specs.CoreFits.{CoreEntry}
 use Rattle.core_states.proofs.LeftCalls.{left-by-call}
 use Rattle.core_states.proofs.Refused.{counted}

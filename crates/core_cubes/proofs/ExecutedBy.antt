@@ -5,8 +5,8 @@ use Rattle.core_cubes.specs.ExecutedWatched.{ExecutesWatched}
 use Rattle.core_events.specs.Events.{Opening}
 use Rattle.core_events.specs.Jobs.{CoreJob, JobOutcome}
 use Rattle.core_events.specs.ShardView.{ShardView}
-use Rattle.core_pasts.proofs.LongerPasts.{in-turn-after}
-use Rattle.core_pasts.specs.CorePasts.{IsOneMore, last_number, last_step}
+use Rattle.core_states.proofs.LongerPasts.{in-turn-after}
+use Rattle.core_states.specs.CorePasts.{IsOneMore, last_number, last_step}
 use Rattle.core_program.specs.CoreFits.{CoreEntry}
 use Rattle.core_records.specs.CoreRecords.{record_of}
 use Rattle.core_states.proofs.Growing.{IsStepOf, grown, parts-of}

@@ -23,7 +23,7 @@ use Rattle.core_events.specs.Runs.{IsCoreRun}
 use Rattle.core_events.specs.ShardView.{ShardView}
 use Rattle.core_serial.proofs.Entries.{journal-step}
 use Rattle.core_serial.specs.Journals.{journal_of}
-use Rattle.core_pasts.specs.CorePasts.{last_number}
+use Rattle.core_states.specs.CorePasts.{last_number}
 use Rattle.core_program.specs.CoreFits.{CoreEntry}
 use Rattle.core_records.proofs.CubesOnRecord.{cubes-are, follow-before, run-before}
 use Rattle.core_records.proofs.SessionParts.{own-part}

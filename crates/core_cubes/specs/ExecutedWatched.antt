@@ -4,7 +4,7 @@ use Rattle.std.specs.Prelude.{◌≡◌, ℕ, List, Option, None, unwrap_or}
 use Rattle.core_events.specs.Events.{Opening}
 use Rattle.core_events.specs.Jobs.{CoreJob, JobOutcome}
 use Rattle.core_events.specs.ShardView.{ShardView}
-use Rattle.core_pasts.specs.CorePasts.{CorePast, last_number}
+use Rattle.core_states.specs.CorePasts.{CorePast, last_number}
 use Rattle.core_program.specs.CoreFits.{CoreEntry}
 use Rattle.core_states.specs.ExecutedInCore.{HasExecutedInCore}
 use Rattle.core_states.specs.StandingInCore.{StandsInCore, state_of_session}

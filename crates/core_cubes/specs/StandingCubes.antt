@@ -8,7 +8,7 @@ use Rattle.core_events.specs.Events.{Opening, CoreEvent}
 use Rattle.core_events.specs.Jobs.{CoreJob, JobOutcome}
 use Rattle.core_events.specs.ShardView.{ShardView}
 use Rattle.core_serial.specs.Journals.{journal_of}
-use Rattle.core_pasts.specs.CorePasts.{CorePast, last_number}
+use Rattle.core_states.specs.CorePasts.{CorePast, last_number}
 use Rattle.core_program.specs.CoreFits.{CoreEntry}
 use Rattle.core_records.specs.CoreRecords.{RunScripts, record_of}
 use Rattle.core_records.specs.ScriptedCalls.{FollowScripts}

@@ -8,9 +8,9 @@ use Rattle.cube_journal.specs.declared.refusal.Refusal.TheVariants.{UnknownCube,
 use Rattle.cube_journal.specs.Counters.{JournalState, state_after, held_by, lce}
 use Rattle.cube_journal.specs.Entries.{note_entry}
 use Rattle.cube_journal.proofs.Orders.{state-with}
-use Rattle.aosi_register.specs.declared.answer.RoundAnswer.TheVariants.{Target, Nothing}
-use Rattle.aosi_register.specs.declared.answer.RoundEnd.TheVariants.{Safe, Lost}
-use Rattle.aosi_register.specs.State.{RegisterState, state_of, with_entry, answer_entry, end_entry}
+use Rattle.aosi_desk.specs.declared.answer.RoundAnswer.TheVariants.{Target, Nothing}
+use Rattle.aosi_desk.specs.declared.answer.RoundEnd.TheVariants.{Safe, Lost}
+use Rattle.aosi_desk.specs.State.{RegisterState, state_of, with_entry, answer_entry, end_entry}
 use Rattle.aosi_desk.specs.declared.cube.CubeAnswer.{CubeAnswer}
 use Rattle.aosi_desk.specs.declared.cube.CubeAnswer.TheVariants.{Created, Exists, TooMany}
 use Rattle.aosi_desk.specs.declared.cube.CubeFound.{CubeFound}

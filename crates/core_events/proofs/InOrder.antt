@@ -13,10 +13,10 @@ use Rattle.cube_journal.specs.Legal.{MayBegin, MayRead, MayMakeCube, HoldsWriter
 use Rattle.cube_journal.specs.Order.{IsInOrder, NeverFalls}
 use Rattle.cube_journal.proofs.OpenBounds.{oldest-above, from-lower, from-oldest}
 use Rattle.cube_journal.proofs.Orders.{state-with, legal-order, legal-with}
-use Rattle.aosi_register.specs.declared.answer.RoundAnswer.{RoundAnswer}
-use Rattle.aosi_register.specs.declared.answer.RoundAnswer.TheVariants.{Target, Nothing}
-use Rattle.aosi_register.specs.declared.answer.RoundEnd.TheVariants.{Safe, Lost}
-use Rattle.aosi_register.specs.State.{state_of}
+use Rattle.aosi_desk.specs.declared.answer.RoundAnswer.{RoundAnswer}
+use Rattle.aosi_desk.specs.declared.answer.RoundAnswer.TheVariants.{Target, Nothing}
+use Rattle.aosi_desk.specs.declared.answer.RoundEnd.TheVariants.{Safe, Lost}
+use Rattle.aosi_desk.specs.State.{state_of}
 use Rattle.aosi_desk.specs.declared.cube.CubeAnswer.{CubeAnswer}
 use Rattle.aosi_desk.specs.declared.cube.CubeAnswer.TheVariants.{Created, Exists, TooMany}
 use Rattle.aosi_desk.specs.declared.cube.CubeFound.TheVariants.{Found, Unknown}

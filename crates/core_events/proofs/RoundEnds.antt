@@ -2,7 +2,7 @@
 use Rattle.std.proofs.Common.{◌≡◌, ℕ, Bool, true, false, true≢false, refl}
 use Rattle.cube_journal.specs.declared.note.Note.TheVariants as note
 use Rattle.cube_journal.specs.Counters.{JournalState}
-use Rattle.aosi_register.specs.declared.answer.RoundAnswer.TheVariants.{Target, Nothing}
+use Rattle.aosi_desk.specs.declared.answer.RoundAnswer.TheVariants.{Target, Nothing}
 use Rattle.aosi_desk.specs.declared.cube.CubeAnswer.TheVariants.{Created, Exists, TooMany}
 use Rattle.aosi_desk.specs.declared.cube.CubeFound.TheVariants.{Found, Unknown}
 use Rattle.core_events.specs.Events.{OpenWrite, OpenRead, Commit, AbortEnd, CloseRead, TakeNote, CreateCube, FindCube, CubesFrom, CountersNow, RoundOpen, RoundClose, StoreFailed, ClientCall, OnDesk, OnNames, Post, Fetch, CloseMail, NoChange}

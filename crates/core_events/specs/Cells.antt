@@ -10,7 +10,7 @@ use Rattle.cube_journal.specs.declared.journal_entry.JournalEntry.TheVariants as
 use Rattle.cube_journal.specs.Counters.{JournalState}
 use Rattle.cube_journal.specs.Entries.{note_entry}
 use Rattle.brick_address.specs.Addresses.{brick_of, coords_of}
-use Rattle.aosi_register.specs.State.{state_of, answer_entry, end_entry}
+use Rattle.aosi_desk.specs.State.{state_of, answer_entry, end_entry}
 use Rattle.aosi_desk.specs.Desks.{DeskState, opening_desk, desk_with_entry, desk_after_search, desk_after_answer}
 use Rattle.names_dict.specs.Dictionaries.{Dictionary, with_code}
 use Rattle.core_events.specs.ShardView.{BrickEntry, RowRun, RowMark, ShardView, entries_without_epoch, entries_after_purge, every_epoch}

@@ -10,8 +10,8 @@ use Rattle.cube_journal.specs.declared.counters.Counters.{Counters}
 use Rattle.cube_journal.specs.declared.journal_entry.AbortCause.{AbortCause}
 use Rattle.cube_journal.specs.declared.note.Note.{Note}
 use Rattle.brick_address.specs.Addresses.{AreCoords}
-use Rattle.aosi_register.specs.declared.answer.RoundAnswer.{RoundAnswer}
-use Rattle.aosi_register.specs.declared.answer.RoundEnd.{RoundEnd}
+use Rattle.aosi_desk.specs.declared.answer.RoundAnswer.{RoundAnswer}
+use Rattle.aosi_desk.specs.declared.answer.RoundEnd.{RoundEnd}
 use Rattle.aosi_desk.specs.declared.cube.CubeAnswer.{CubeAnswer}
 use Rattle.aosi_desk.specs.declared.cube.CubeFound.{CubeFound}
 use Rattle.names_dict.specs.declared.code.Code.{Code}

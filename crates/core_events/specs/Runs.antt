@@ -9,7 +9,7 @@ use Rattle.cube_values.specs.Sees.{sees}
 use Rattle.cube_values.specs.Shapes.{bricks_of}
 use Rattle.cube_values.specs.Spans.{span_has}
 use Rattle.cube_journal.specs.Counters.{lce, counters_in}
-use Rattle.aosi_register.specs.State.{state_of, round_answer}
+use Rattle.aosi_desk.specs.State.{state_of, round_answer}
 use Rattle.aosi_desk.specs.Desks.{DeskState, cube_answer, IsFound}
 use Rattle.names_dict.specs.Dictionaries.{code_of, number_of}
 use Rattle.core_events.specs.ShardView.{BrickEntry, RowRun, RowMark, ShardView, EpochSet, is_below_mark, epochs_before_mark, rows_where, brick_rows_seen, entries_of_round, epoch_of_entry, is_within_round, rows_appended, rows_over_kept}

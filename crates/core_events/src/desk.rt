@@ -20,8 +20,8 @@ ghost use Rattle.cube_journal.specs.declared.journal_entry.AbortCause.{AbortCaus
 ghost use Rattle.cube_journal.specs.Counters.{held_by};
 ghost use Rattle.cube_journal.specs.Legal.{HoldsReader, HoldsWriter, MayAskRound};
 ghost use Rattle.cube_journal.specs.Order.{IsInOrder};
-ghost use Rattle.aosi_register.specs.declared.answer.RoundAnswer.{RoundAnswer};
-ghost use Rattle.aosi_register.specs.declared.answer.RoundEnd.{RoundEnd};
+ghost use Rattle.aosi_desk.specs.declared.answer.RoundAnswer.{RoundAnswer};
+ghost use Rattle.aosi_desk.specs.declared.answer.RoundEnd.{RoundEnd};
 ghost use Rattle.aosi_desk.specs.declared.cube.CubeAnswer.{CubeAnswer};
 ghost use Rattle.core_events.specs.Cells.{counters_of_run, desk_of};
 ghost use Rattle.core_events.specs.Clients.{client_state};

@@ -19,9 +19,9 @@ use Rattle.core_events.specs.Events.{Opening, ClientCall}
 use Rattle.core_events.specs.Fitting.{AreToldNames}
 use Rattle.core_events.specs.Jobs.{CoreJob, JobOutcome}
 use Rattle.core_events.specs.ShardView.{ShardView}
-use Rattle.core_links.specs.NamesEvents.{names_event}
-use Rattle.core_pasts.proofs.CallEntries.{names-left}
-use Rattle.core_pasts.specs.OwnCalls.{OwnCallsLeave}
+use Rattle.core_board_cells.specs.NamesEvents.{names_event}
+use Rattle.core_states.proofs.CallEntries.{names-left}
+use Rattle.core_states.specs.OwnCalls.{OwnCallsLeave}
 use Rattle.core_program.specs.CoreFits.{CoreEntry}
 use Rattle.cube_core.specs.declared.cell.CoreCell.{CoreCell}
 use Rattle.cube_core.specs.declared.shard.ShardAnswer.{ShardAnswer}

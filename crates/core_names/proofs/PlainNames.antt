@@ -10,9 +10,9 @@ use Rattle.core_cells.specs.declared.names.NamesCall.TheVariants as names
 use Rattle.core_events.specs.Events.{Opening}
 use Rattle.core_events.specs.Jobs.{CoreJob, JobOutcome}
 use Rattle.core_events.specs.ShardView.{ShardView}
-use Rattle.core_links.specs.NamesEvents.{names_event}
-use Rattle.core_pasts.proofs.CallEntries.{names-left}
-use Rattle.core_pasts.specs.OwnCalls.{OwnCallsLeave}
+use Rattle.core_board_cells.specs.NamesEvents.{names_event}
+use Rattle.core_states.proofs.CallEntries.{names-left}
+use Rattle.core_states.specs.OwnCalls.{OwnCallsLeave}
 use Rattle.core_program.specs.CoreFits.{CoreEntry}
 use Rattle.core_states.proofs.LeftCalls.{left-nothing, left-then}
 use Rattle.core_states.specs.LeftBehind.{IsPlainCall, LeavesBehind}

@@ -12,9 +12,9 @@ ghost use Rattle.core_events.specs.Fitting.{AreToldNames};
 ghost use Rattle.core_names.specs.AskedNames.{GoOnByNames};
 ghost use Rattle.core_names.specs.KnownNumbers.{AreNumbersTold, HasToldNumber, TextsByDim};
 ghost use Rattle.core_names.specs.NamesInTheEnd.{MayLeaveNames};
-ghost use Rattle.core_pasts.specs.CorePasts.{CorePast};
-ghost use Rattle.core_pasts.specs.OwnCalls.{OwnCallsLeave};
-ghost use Rattle.core_pasts.specs.RunsFrom.{GoesOn};
+ghost use Rattle.core_states.specs.CorePasts.{CorePast};
+ghost use Rattle.core_states.specs.OwnCalls.{OwnCallsLeave};
+ghost use Rattle.core_states.specs.RunsFrom.{GoesOn};
 ghost use Rattle.core_program.specs.CoreFits.{CoreEntry};
 ghost use Rattle.core_states.specs.LeftBehind.{LeavesBehind};
 ghost use Rattle.cube_core.specs.declared.cell.CoreCell.{CoreCell};
@@ -23,7 +23,7 @@ ghost use Rattle.known_holds.specs.KnownHolds.{HoldsTheSame};
 ghost use Rattle.row_encoding.specs.CodedInserts.{HasNumbers};
 
 use core_board_cells::LinkedShard;
-use core_pasts::Besides;
+use core_states::Besides;
 
 /// What a session holds it still holds after calls on the names alone, and these leave no entries
 /// in the journal.

@@ -23,8 +23,8 @@ use Rattle.core_events.specs.Groups.{has_number}
 use Rattle.core_events.specs.Jobs.{CoreJob, JobOutcome}
 use Rattle.core_events.specs.Runs.{IsCoreRun}
 use Rattle.core_events.specs.ShardView.{ShardView}
-use Rattle.core_links.specs.DeskEvents.{FitsDeskCall, desk_event}
-use Rattle.core_links.specs.NamesEvents.{FitsNamesCall, names_event}
+use Rattle.core_board_cells.specs.DeskEvents.{FitsDeskCall, desk_event}
+use Rattle.core_board_cells.specs.NamesEvents.{FitsNamesCall, names_event}
 use Rattle.core_events.specs.Histories.{last_after, last_after_post, last_post}
 use Rattle.core_program.specs.CoreFits.{CoreEntry, FitsOwnCalls, OpensCells}
 use Rattle.cube_core.specs.declared.cell.CoreAnswer.TheVariants as answer

@@ -22,7 +22,7 @@ use Rattle.core_events.specs.Fitting.{RoundProgress, FitsWork, FitsMove, round_p
 use Rattle.core_events.specs.Jobs.{CoreJob, Flush, JobOutcome}
 use Rattle.core_events.specs.Runs.{IsCoreRun}
 use Rattle.core_events.specs.ShardView.{ShardView}
-use Rattle.core_links.specs.MailEvents.{IsMailEvent}
+use Rattle.core_board_cells.specs.MailEvents.{IsMailEvent}
 use Rattle.core_events.specs.Histories.{job_served}
 use Rattle.core_program.specs.CoreFits.{CoreEntry, OpensCells, FitsOwnCalls}
 use Rattle.core_program.specs.LinkedCells.{linked-cells}

@@ -16,9 +16,9 @@ use Rattle.core_events.specs.Groups.{has_number}
 use Rattle.core_events.specs.Jobs.{CoreJob, JobOutcome}
 use Rattle.core_events.specs.Runs.{IsCoreRun}
 use Rattle.core_events.specs.ShardView.{ShardView}
-use Rattle.core_links.specs.DeskEvents.{FitsDeskCall}
-use Rattle.core_links.specs.MailEvents.{clients_of}
-use Rattle.core_links.specs.NamesEvents.{FitsNamesCall}
+use Rattle.core_board_cells.specs.DeskEvents.{FitsDeskCall}
+use Rattle.core_board_cells.specs.MailEvents.{clients_of}
+use Rattle.core_board_cells.specs.NamesEvents.{FitsNamesCall}
 use Rattle.core_program.specs.CoreFits.{AreOpeningCells, CoreEntry, OpensCells}
 use Rattle.cube_core.specs.declared.cell.CoreCell.{CoreCell}
 use Rattle.cube_core.specs.declared.jobs.Job.{Job}

@@ -16,9 +16,9 @@ use Rattle.cube_journal.specs.Legal.{has_cube}
 use Rattle.cube_journal.specs.declared.journal_entry.JournalEntry.{JournalEntry}
 use Rattle.cube_journal.specs.declared.note.Note.TheVariants as note
 use Rattle.cube_run.specs.RunRecords.{cubes_at, declaration_in, made_by, catalog_of}
-use Rattle.aosi_register.specs.State.{state_of}
-use Rattle.aosi_register.specs.declared.answer.RoundAnswer.TheVariants.{Target, Nothing}
-use Rattle.aosi_register.specs.declared.answer.RoundEnd.TheVariants.{Safe, Lost}
+use Rattle.aosi_desk.specs.State.{state_of}
+use Rattle.aosi_desk.specs.declared.answer.RoundAnswer.TheVariants.{Target, Nothing}
+use Rattle.aosi_desk.specs.declared.answer.RoundEnd.TheVariants.{Safe, Lost}
 use Rattle.aosi_desk.specs.Desks.{DeskState, decl_names}
 use Rattle.aosi_desk.specs.declared.cube.CubeAnswer.{CubeAnswer}
 use Rattle.aosi_desk.specs.declared.cube.CubeAnswer.TheVariants.{Created, Exists, TooMany}

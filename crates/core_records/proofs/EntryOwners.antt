@@ -12,8 +12,8 @@ use Rattle.cube_run.specs.Merge.{has_owner}
 use Rattle.cube_run.specs.RunRecords.{RunRecord}
 use Rattle.cube_run.specs.SessionSteps.{belongs_to}
 use Rattle.cube_run.specs.SessionStates.{first_holder, second_holder}
-use Rattle.aosi_register.specs.declared.answer.RoundAnswer.TheVariants.{Target, Nothing}
-use Rattle.aosi_register.specs.declared.answer.RoundEnd.TheVariants.{Safe, Lost}
+use Rattle.aosi_desk.specs.declared.answer.RoundAnswer.TheVariants.{Target, Nothing}
+use Rattle.aosi_desk.specs.declared.answer.RoundEnd.TheVariants.{Safe, Lost}
 use Rattle.aosi_desk.specs.declared.cube.CubeAnswer.TheVariants.{Created, Exists, TooMany}
 use Rattle.aosi_desk.specs.declared.cube.CubeFound.TheVariants.{Found, Unknown}
 use Rattle.core_events.specs.Clients.{ClientState, client_state}

@@ -3,7 +3,7 @@ use Rattle.std.proofs.Common.{◌≡◌, ◌∙◌, ℕ, ◌==◌, Bool, true, f
 use Rattle.std.proofs.lemmas.List.Elements.{filter-append}
 use Rattle.cube_journal.specs.declared.journal_entry.JournalEntry.{JournalEntry}
 use Rattle.cube_run.specs.SessionSteps.{belongs_to, entries_of, is_of_statement, session_part}
-use Rattle.aosi_register.specs.State.{RegisterState}
+use Rattle.aosi_desk.specs.State.{RegisterState}
 use Rattle.aosi_desk.specs.Desks.{DeskState}
 use Rattle.core_events.specs.Cells.{desk_after}
 use Rattle.core_events.specs.Clients.{calls_of, client_state}

@@ -2,7 +2,7 @@
 use Rattle.std.proofs.Common.{◌≡◌, ◌∙◌, ℕ, ◌<◌, true, List, length, sym, ap, subst}
 use Rattle.std.proofs.lemmas.Bool.{false≢true}
 use Rattle.std.proofs.lemmas.List.{length-map}
-use Rattle.answered_queries.specs.ReadLines.{IsBoundBy}
+use Rattle.core_selects.specs.ReadLines.{IsBoundBy}
 use Rattle.copied_names.specs.CopiedNames.{MayCopyCube}
 use Rattle.core_events.specs.Clients.{calls_of, state_from_calls}
 use Rattle.core_program.specs.CoreFits.{CoreEntry}

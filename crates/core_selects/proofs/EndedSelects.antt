@@ -1,8 +1,8 @@
 -- How a SELECT ends, by the ends of the calls in it.
 use Rattle.std.proofs.Common.{◌≡◌, ℕ, List, [], ◌∷◌, ◌++◌, refl, sym, subst}
 use mathlib.Core.List.{IsPrefix}
-use Rattle.answered_queries.specs.ReadLines.{GoesOnHolding}
-use Rattle.answered_queries.specs.SelectEnds.{EndsSelect, HasClosedReader, HasOpenedReader, LeavesRefusal, gave_up, unfit, without_memory}
+use Rattle.core_selects.specs.ReadLines.{GoesOnHolding}
+use Rattle.core_selects.specs.SelectEnds.{EndsSelect, HasClosedReader, HasOpenedReader, LeavesRefusal, gave_up, unfit, without_memory}
 use Rattle.client_calls.specs.ClientCalls.{desk_entry}
 use Rattle.core_cells.specs.declared.desk.DeskAnswer.TheVariants as answer
 use Rattle.core_cells.specs.declared.desk.DeskCall.TheVariants as call

@@ -5,7 +5,7 @@ use Rattle.std.proofs.lemmas.Bool.{and_parts, false≢true}
 use Rattle.agg_fold.specs.Coded.{IsQueryRow, row_for}
 use Rattle.agg_fold.specs.Standing.{HasRoom, IsTable, StandsFor}
 use Rattle.agg_fold.specs.declared.groups.Groups.{Groups}
-use Rattle.answered_queries.specs.ReadLines.{AreFirstOfTable}
+use Rattle.core_selects.specs.ReadLines.{AreFirstOfTable}
 use Rattle.cube_language.specs.ResolvedNames.{resolved_plan}
 use Rattle.cube_language.specs.declared.statement.Statement.{Statement}
 use Rattle.cube_values.specs.First.{first_rows}

@@ -3,7 +3,7 @@ use Rattle.std.proofs.Common.{◌≡◌, ℕ, ◌+◌, ◌≤◌, List, [], ◌�
 use mathlib.Core.List.{IsPrefix}
 use Rattle.agg_fold.specs.Standing.{HasRoom}
 use Rattle.agg_fold.specs.declared.groups.Groups.{Groups}
-use Rattle.answered_queries.specs.ReadLines.{GoesOnHolding}
+use Rattle.core_selects.specs.ReadLines.{GoesOnHolding}
 use Rattle.board_callers.specs.Callers.{HasHistoryOf}
 use Rattle.client_calls.specs.ClientCalls.{desk_entry}
 use Rattle.core_board.specs.Links.{AreEventsOf}

@@ -1,3 +1,10 @@
+pub mod SelectsPerformed
+pub mod ReadInRuns
+pub mod Performing
+pub mod PassedMoments
+pub mod OwnCallCounts
+pub mod ItsCube
+pub mod ReadingKinds
 pub mod AsksOfCube
 pub mod EndedSelects
 pub mod PerformedSelects

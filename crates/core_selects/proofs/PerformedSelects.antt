@@ -2,7 +2,7 @@
 use Rattle.std.proofs.Common.{◌≡◌, ℕ, true, false, List, [], refl}
 use Rattle.std.proofs.lemmas.Bool.{false≢true}
 use mathlib.Core.List.{IsPrefix}
-use Rattle.answered_queries.specs.ReadingCalls.{GoesOnByReading}
+use Rattle.core_selects.specs.ReadingCalls.{GoesOnByReading}
 use Rattle.core_program.specs.CoreFits.{CoreEntry}
 use Rattle.core_selects.proofs.Refusing.{GoesOnReading, plainly, reading-then}
 use Rattle.core_selects.specs.ScanSteps.{IsMisfitIn}

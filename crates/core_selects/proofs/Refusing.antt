@@ -1,9 +1,9 @@
 -- What calls do that end in a refusal.
 use Rattle.std.proofs.Common.{◌≡◌, ℕ, List, [], ◌∷◌, ◌++◌, refl, sym, subst}
 use mathlib.Core.List.{IsPrefix}
-use Rattle.answered_queries.proofs.ReadingKinds.{plain-reads}
-use Rattle.answered_queries.specs.ReadingCalls.{GoesOnByReading, IsReadingCall}
-use Rattle.answered_queries.specs.SelectEnds.{HasClosedReader, LeavesRefusal}
+use Rattle.core_selects.proofs.ReadingKinds.{plain-reads}
+use Rattle.core_selects.specs.ReadingCalls.{GoesOnByReading, IsReadingCall}
+use Rattle.core_selects.specs.SelectEnds.{HasClosedReader, LeavesRefusal}
 use Rattle.client_calls.specs.ClientCalls.{desk_entry}
 use Rattle.core_cells.specs.declared.desk.DeskAnswer.TheVariants as answer
 use Rattle.core_cells.specs.declared.desk.DeskCall.TheVariants as call

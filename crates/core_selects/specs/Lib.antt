@@ -1,1 +1,4 @@
+pub mod ReadingCalls
+pub mod ReadLines
+pub mod SelectEnds
 pub mod ScanSteps

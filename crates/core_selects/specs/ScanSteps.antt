@@ -2,8 +2,8 @@
 -- Source: Cubrick (VLDB 2016), one request that goes to all shards, and the merging of partial results.
 use Rattle.std.specs.Prelude.{◌≡◌, ℕ, List}
 use Rattle.agg_fold.specs.declared.groups.Groups.{Groups}
-use Rattle.answered_queries.specs.ReadLines.{AreFirstOfTable, GoesOnHolding, IsBoundBy}
-use Rattle.answered_queries.specs.SelectEnds.{HasClosedReader, LeavesRefusal}
+use Rattle.core_selects.specs.ReadLines.{AreFirstOfTable, GoesOnHolding, IsBoundBy}
+use Rattle.core_selects.specs.SelectEnds.{HasClosedReader, LeavesRefusal}
 use Rattle.condition_spans.specs.Codes.{lists_at}
 use Rattle.core_program.specs.CoreFits.{CoreEntry}
 use Rattle.core_states.specs.declared.session.CoreSession.{CoreSession}

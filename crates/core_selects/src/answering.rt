@@ -1,8 +1,8 @@
 //! A SELECT that fits its cube is answered.
 ghost use Rattle.std.specs.Prelude.{◌≡◌, ◌+◌, ◌≤◌, true, None, ℕ, List};
 ghost use mathlib.Core.List.{IsPrefix};
-ghost use Rattle.answered_queries.specs.ReadingCalls.{GoesOnByReading};
-ghost use Rattle.answered_queries.specs.SelectEnds.{EndsSelect, HasOpenedReader};
+ghost use Rattle.core_selects.specs.ReadingCalls.{GoesOnByReading};
+ghost use Rattle.core_selects.specs.SelectEnds.{EndsSelect, HasOpenedReader};
 ghost use Rattle.core_events.specs.Clients.{reader_up_to};
 ghost use Rattle.core_program.specs.CoreFits.{CoreEntry};
 ghost use Rattle.core_selects.specs.ScanSteps.{HasGivenUp};

@@ -1,7 +1,7 @@
 //! A SELECT that fits its cube, bound by the names of the cube.
 
 ghost use Rattle.std.specs.Prelude.{◌≡◌, [], ◌∷◌, IfOk, OnOk};
-ghost use Rattle.answered_queries.specs.ReadLines.{IsBoundBy};
+ghost use Rattle.core_selects.specs.ReadLines.{IsBoundBy};
 ghost use Rattle.condition_spans.specs.Codes.{lists_at};
 ghost use Rattle.cube_language.specs.Misfits.{FitsCube, HasMisfit};
 ghost use Rattle.cube_values.specs.Faults.{IfFault};

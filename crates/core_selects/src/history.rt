@@ -1,6 +1,6 @@
 //! A session reads the counters, and a history has its calls.
 ghost use Rattle.std.specs.Prelude.{◌≡◌, [], Option};
-ghost use Rattle.answered_queries.specs.ReadLines.{GoesOnHolding};
+ghost use Rattle.core_selects.specs.ReadLines.{GoesOnHolding};
 ghost use Rattle.board_callers.specs.Callers.{HasHistoryOf};
 ghost use Rattle.core_cells.specs.declared.desk.DeskAnswer.TheVariants as said;
 ghost use Rattle.core_cells.specs.declared.desk.DeskCall.TheVariants as desk;

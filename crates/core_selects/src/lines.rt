@@ -2,7 +2,7 @@
 
 ghost use Rattle.std.specs.Prelude.{IfOk};
 ghost use Rattle.agg_fold.specs.Standing.{HasRoom};
-ghost use Rattle.answered_queries.specs.ReadLines.{AreFirstOfTable};
+ghost use Rattle.core_selects.specs.ReadLines.{AreFirstOfTable};
 ghost use Rattle.condition_spans.specs.Codes.{lists_at};
 
 use crate::binding::query_at;

@@ -1,6 +1,6 @@
 //! A session reads the lines of a SELECT by the snapshot that it holds.
 ghost use Rattle.std.specs.Prelude.{◌≡◌, ◌+◌, ◌≤◌, true, ℕ, List, IfOk, Some};
-ghost use Rattle.answered_queries.specs.ReadLines.{GoesOnHolding, HasReadLines};
+ghost use Rattle.core_selects.specs.ReadLines.{GoesOnHolding, HasReadLines};
 ghost use Rattle.condition_spans.specs.Codes.{lists_at};
 ghost use Rattle.core_selects.specs.ScanSteps.{HasNamedLines, HasScannedLines};
 ghost use Rattle.cube_run.specs.StatementEntries.{is_select};

@@ -1,8 +1,8 @@
 //! SELECT.
 ghost use Rattle.std.specs.Prelude.{◌≡◌, ◌+◌, ◌<◌, ◌≤◌, true, None, Some, ℕ, List};
 ghost use mathlib.Core.List.{IsPrefix};
-ghost use Rattle.answered_queries.specs.ReadingCalls.{GoesOnByReading};
-ghost use Rattle.answered_queries.specs.SelectEnds.{EndsSelect};
+ghost use Rattle.core_selects.specs.ReadingCalls.{GoesOnByReading};
+ghost use Rattle.core_selects.specs.SelectEnds.{EndsSelect};
 ghost use Rattle.core_selects.specs.ScanSteps.{IsMisfitIn};
 ghost use Rattle.core_states.specs.ExecutedInCore.{HasOneMore};
 ghost use Rattle.core_states.specs.StandingInCore.{HoldsForMode};
@@ -20,7 +20,7 @@ ghost use Rattle.turn_board.specs.Passes.{callers_of};
 
 use crate::answering::answer_select;
 use crate::binding::fitting_cube;
-use answered_queries::{calls_leave_the_watch, selects_are_performed};
+use crate::{calls_leave_the_watch, selects_are_performed};
 use board_callers::CellCaller;
 use core_cubes::{NamedCube, find_named};
 use core_program::CoreSize;

@@ -26,8 +26,8 @@ use Rattle.core_serial.proofs.Isolation.{JobFits, job-fits, shown-within, asked-
 use Rattle.core_serial.proofs.ToldBricks.{writer-of, run-rolled, is_rolling}
 use Rattle.std.specs.List.{count_by}
 use Rattle.cube_journal.specs.declared.note.Note.TheVariants as note
-use Rattle.aosi_register.specs.declared.answer.RoundAnswer.TheVariants.{Target, Nothing}
-use Rattle.aosi_register.specs.declared.answer.RoundEnd.TheVariants.{Safe, Lost}
+use Rattle.aosi_desk.specs.declared.answer.RoundAnswer.TheVariants.{Target, Nothing}
+use Rattle.aosi_desk.specs.declared.answer.RoundEnd.TheVariants.{Safe, Lost}
 use Rattle.aosi_desk.specs.declared.cube.CubeAnswer.TheVariants.{Created, Exists, TooMany}
 use Rattle.aosi_desk.specs.declared.cube.CubeFound.TheVariants as cube_found
 use Rattle.aosi_desk.specs.declared.cube.CubeFound.TheVariants.{Unknown}

@@ -9,7 +9,7 @@ use Rattle.cube_journal.specs.declared.note.Note.TheVariants as note
 use Rattle.cube_journal.specs.Counters.{held_by}
 use Rattle.cube_journal.specs.Entries.{note_entry}
 use Rattle.cube_journal.specs.Legal.{CountersAllow}
-use Rattle.aosi_register.specs.State.{held_epoch}
+use Rattle.aosi_desk.specs.State.{held_epoch}
 use Rattle.aosi_desk.specs.Desks.{speaks_of_cubes}
 use Rattle.core_events.specs.Events.{Opening, TakeNote, Commit, AbortEnd, OnDesk, CoreEvent, By}
 use Rattle.core_events.specs.Cells.{counters_of_run, desk_of}

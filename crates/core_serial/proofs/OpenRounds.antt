@@ -6,9 +6,9 @@ use Rattle.std.proofs.lemmas.Option.{none-some, same_Some}
 use Rattle.cube_journal.specs.declared.counters.OpenSnapshot.{OpenSnapshot}
 use Rattle.cube_journal.specs.Counters.{JournalState, lce, target, oldest_bound}
 use Rattle.cube_journal.specs.Order.{NeverFalls}
-use Rattle.aosi_register.specs.declared.answer.RoundAnswer.{RoundAnswer}
-use Rattle.aosi_register.specs.declared.answer.RoundAnswer.TheVariants.{Target, Nothing}
-use Rattle.aosi_register.specs.State.{round_answer}
+use Rattle.aosi_desk.specs.declared.answer.RoundAnswer.{RoundAnswer}
+use Rattle.aosi_desk.specs.declared.answer.RoundAnswer.TheVariants.{Target, Nothing}
+use Rattle.aosi_desk.specs.State.{round_answer}
 use Rattle.core_events.specs.Jobs.{CoreJob, Append, DropBox, Scan, Delta, Rollback, Purge, CopyRound, Flush}
 use Rattle.core_events.specs.Events.{Opening, flusher, DeskEvent, OpenWrite, OpenRead, Commit, AbortEnd, CloseRead, TakeNote, CreateCube, FindCube, CubesFrom, CountersNow, RoundOpen, RoundClose, StoreFailed, ClientCall, OnDesk, OnNames, Post, Fetch, CloseMail, NoChange, CoreEvent, By, At}
 use Rattle.core_events.specs.Groups.{GroupKind, Copies, kind_of, no_group, has_ended}

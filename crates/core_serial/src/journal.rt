@@ -2,7 +2,7 @@
 
 ghost use Rattle.std.specs.Prelude.{◌≡◌, ℕ, false, List, ◌∷◌};
 ghost use Rattle.aosi_desk.specs.Desks.{cubes_after_all, decl_names, speaks_of_cubes};
-ghost use Rattle.aosi_register.specs.State.{held_epoch};
+ghost use Rattle.aosi_desk.specs.State.{held_epoch};
 ghost use Rattle.core_events.specs.Cells.{counters_of_run, desk_of};
 ghost use Rattle.core_events.specs.Events.{
   Opening,

@@ -3,10 +3,10 @@ use Rattle.std.proofs.Common.{◌≡◌, ◌∙◌, ℕ, ◌+◌, List, [], ◌�
 use Rattle.core_events.specs.Events.{Opening, CoreEvent}
 use Rattle.core_events.specs.Jobs.{CoreJob, JobOutcome}
 use Rattle.core_events.specs.ShardView.{ShardView}
-use Rattle.core_pasts.proofs.LongerPasts.{in-turn-after}
-use Rattle.core_pasts.specs.CorePasts.{CorePast, IsInTurn, IsOneMore, last_number, last_step}
-use Rattle.core_pasts.specs.OwnCalls.{OwnCallsLeave}
-use Rattle.core_pasts.specs.RunsFrom.{IsRunFrom}
+use Rattle.core_states.proofs.LongerPasts.{in-turn-after}
+use Rattle.core_states.specs.CorePasts.{CorePast, IsInTurn, IsOneMore, last_number, last_step}
+use Rattle.core_states.specs.OwnCalls.{OwnCallsLeave}
+use Rattle.core_states.specs.RunsFrom.{IsRunFrom}
 use Rattle.core_program.specs.CoreFits.{CoreEntry}
 use Rattle.core_records.specs.CoreRecords.{RunScripts, record_of}
 use Rattle.core_states.proofs.LeftCalls.{longer-front}

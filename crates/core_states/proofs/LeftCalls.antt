@@ -13,9 +13,9 @@ use Rattle.core_events.specs.Clients.{ClientState, calls_of, state_from_calls}
 use Rattle.core_events.specs.Events.{Opening, ClientCall}
 use Rattle.core_events.specs.Jobs.{CoreJob, JobOutcome}
 use Rattle.core_events.specs.ShardView.{ShardView}
-use Rattle.core_links.specs.DeskEvents.{desk_event}
-use Rattle.core_pasts.proofs.CallEntries.{desk-left}
-use Rattle.core_pasts.specs.OwnCalls.{KnowsEnd, OwnCallsLeave, desk_leaves}
+use Rattle.core_board_cells.specs.DeskEvents.{desk_event}
+use Rattle.core_states.proofs.CallEntries.{desk-left}
+use Rattle.core_states.specs.OwnCalls.{KnowsEnd, OwnCallsLeave, desk_leaves}
 use Rattle.core_program.specs.CoreFits.{CoreEntry}
 use Rattle.core_states.specs.LeftBehind.{AddsCalls, IsPlainCall, LeavesBehind}
 use Rattle.cube_core.specs.declared.cell.CoreCell.{CoreCell}

@@ -1,3 +1,6 @@
+pub mod LongerPasts
+pub mod CallEntries
+pub mod PlayedOut
 pub mod LeftCalls
 pub mod Growing
 pub mod NotedCounters

@@ -25,7 +25,7 @@ use Rattle.core_events.specs.Runs.{IsCoreRun}
 use Rattle.core_events.specs.ShardView.{ShardView}
 use Rattle.core_serial.proofs.Entries.{journal_with, journal-step, run-counters}
 use Rattle.core_serial.specs.Journals.{journal_of}
-use Rattle.core_pasts.specs.OwnCalls.{OwnCallsLeave}
+use Rattle.core_states.specs.OwnCalls.{OwnCallsLeave}
 use Rattle.core_program.specs.CoreFits.{CoreEntry}
 use Rattle.core_records.proofs.CubesOnRecord.{run-before}
 use Rattle.core_records.proofs.SessionParts.{own-part}

@@ -9,7 +9,7 @@ use Rattle.core_events.specs.Events.{Opening}
 use Rattle.core_events.specs.Jobs.{CoreJob, JobOutcome}
 use Rattle.core_events.specs.ShardView.{ShardView}
 use Rattle.core_serial.specs.Journals.{journal_of}
-use Rattle.core_pasts.specs.CorePasts.{last_number}
+use Rattle.core_states.specs.CorePasts.{last_number}
 use Rattle.core_program.specs.CoreFits.{CoreEntry}
 use Rattle.core_records.specs.CoreRecords.{record_of}
 use Rattle.core_states.proofs.Growing.{executes, parts-of}

@@ -6,8 +6,8 @@ use mathlib.Core.List.{IsPrefix}
 use Rattle.core_events.specs.Events.{Opening, CoreEvent}
 use Rattle.core_events.specs.Jobs.{CoreJob, JobOutcome}
 use Rattle.core_events.specs.ShardView.{ShardView}
-use Rattle.core_pasts.specs.CorePasts.{CorePast, IsOneMore, last_number, last_step}
-use Rattle.core_pasts.specs.RunsFrom.{IsRunFrom}
+use Rattle.core_states.specs.CorePasts.{CorePast, IsOneMore, last_number, last_step}
+use Rattle.core_states.specs.RunsFrom.{IsRunFrom}
 use Rattle.core_program.specs.CoreFits.{CoreEntry}
 use Rattle.core_records.specs.CoreRecords.{RunScripts, record_of}
 use Rattle.core_states.specs.StandingInCore.{StandsInCore, state_of_session}

@@ -3,7 +3,7 @@
 ghost use Rattle.std.specs.Prelude.{◌≡◌, ℕ, List, [], ◌++◌};
 ghost use Rattle.std.specs.List.{AllByRecursion};
 ghost use Rattle.core_events.specs.Events.{ClientCall, Opening};
-ghost use Rattle.core_pasts.specs.CorePasts.{nothing_behind};
+ghost use Rattle.core_states.specs.CorePasts.{nothing_behind};
 ghost use Rattle.core_records.specs.ScriptedCalls.{SpeaksByScript};
 ghost use Rattle.core_serial.specs.OwnOperations.{operations_by_calls};
 ghost use Rattle.core_states.specs.LeftBehind.{IsPlainCall};
@@ -12,8 +12,8 @@ ghost use Rattle.cube_core.specs.declared.cell.CoreCell.{CoreCell};
 ghost use Rattle.cube_run.specs.RunRecords.{Sentence};
 ghost use Rattle.cube_run.specs.SessionStates.{Idle};
 
+use crate::desk_calls_leave_entries;
 use core_board_cells::LinkedShard;
-use core_pasts::desk_calls_leave_entries;
 use known_holds::sessions_begin_with_nothing;
 
 /// Before its first statement nothing is behind a session, and it holds nothing.

@@ -12,7 +12,7 @@ use Rattle.core_program.specs.Knowing.{IsClientOf, IsLaterRun, Knows}
 use Rattle.core_events.specs.Clients.{ClientState, after_client_call, calls_of, state_from_calls}
 use Rattle.core_events.specs.Events.{ClientCall, Opening}
 use Rattle.core_events.specs.Fitting.{AreToldNames}
-use Rattle.core_links.specs.NamesEvents.{names_event}
+use Rattle.core_board_cells.specs.NamesEvents.{names_event}
 use Rattle.core_program.specs.CoreFits.{CoreEntry}
 use Rattle.cube_core.specs.declared.cell.CoreCell.{CoreCell}
 use Rattle.cube_language.specs.declared.decl.Decl.{Decl}

@@ -1,10 +1,10 @@
 -- A round without a store, by the flusher's calls on the desk.
 use Rattle.std.proofs.Common.{◌≡◌, ◌∙◌, ℕ, Bool, false, List, [], ◌∷◌, ◌++◌, append_assoc, append-nil, Option, Some, None, refl, sym, ap, subst}
 use Rattle.std.specs.Option.{option_map_or}
-use Rattle.aosi_register.specs.declared.answer.RoundAnswer.{RoundAnswer}
-use Rattle.aosi_register.specs.declared.answer.RoundAnswer.TheVariants.{Target, Nothing}
-use Rattle.aosi_register.specs.declared.answer.RoundEnd.{RoundEnd}
-use Rattle.aosi_register.specs.declared.answer.RoundEnd.TheVariants as end
+use Rattle.aosi_desk.specs.declared.answer.RoundAnswer.{RoundAnswer}
+use Rattle.aosi_desk.specs.declared.answer.RoundAnswer.TheVariants.{Target, Nothing}
+use Rattle.aosi_desk.specs.declared.answer.RoundEnd.{RoundEnd}
+use Rattle.aosi_desk.specs.declared.answer.RoundEnd.TheVariants as end
 use Rattle.client_calls.specs.ClientCalls.{desk_entry}
 use Rattle.core_board.specs.Links.{AreEventsOf}
 use Rattle.core_board_cells.specs.BoardCells.{IsEntryEvent}
@@ -20,7 +20,7 @@ use Rattle.core_events.specs.Jobs.{CoreJob, JobOutcome}
 use Rattle.core_events.specs.ShardView.{ShardView}
 use Rattle.core_program.proofs.FlusherCalls.{is-client}
 use Rattle.core_program.specs.Flushing.{IsFlusherOf}
-use Rattle.core_links.specs.DeskEvents.{FitsDeskCall, desk_event}
+use Rattle.core_board_cells.specs.DeskEvents.{FitsDeskCall, desk_event}
 use Rattle.core_program.specs.CoreFits.{CoreEntry}
 use Rattle.cube_core.specs.declared.cell.CoreCell.{CoreCell}
 use Rattle.cube_core.specs.declared.shard.ShardAnswer.{ShardAnswer}

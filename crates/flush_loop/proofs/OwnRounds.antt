@@ -1,8 +1,8 @@
 -- What the flusher may reply once a round has ended.
 use Rattle.std.proofs.Common.{◌≡◌, ◌≢◌, ◌∙◌, ℕ, Bool, List, [], ◌∷◌, ◌++◌, map, refl, ap, subst, sym}
 use Rattle.std.specs.List.{AllByRecursion}
-use Rattle.aosi_register.specs.declared.answer.RoundAnswer.TheVariants.{Nothing, Target}
-use Rattle.aosi_register.specs.declared.answer.RoundEnd.TheVariants as end
+use Rattle.aosi_desk.specs.declared.answer.RoundAnswer.TheVariants.{Nothing, Target}
+use Rattle.aosi_desk.specs.declared.answer.RoundEnd.TheVariants as end
 use Rattle.core_board_cells.specs.BoardCells.{AnswerSays}
 use Rattle.core_events.specs.Cells.{worker_of}
 use Rattle.core_events.specs.Events.{Opening, RoundClose, RoundOpen, OnDesk, ClientCall, CoreEvent, By}

@@ -9,9 +9,9 @@
 -- Source: Cubrick (VLDB 2016), rounds of a flush that keep all up to an epoch; the replies are this project's own.
 use Rattle.std.specs.Prelude.{◌≡◌, ℕ, Bool, true, false, List, ◌∷◌, ◌++◌}
 use Rattle.std.specs.List.{AllByRecursion}
-use Rattle.aosi_register.specs.declared.answer.RoundAnswer.TheVariants.{Target, Nothing}
-use Rattle.aosi_register.specs.declared.answer.RoundEnd.{RoundEnd}
-use Rattle.aosi_register.specs.declared.answer.RoundEnd.TheVariants as end
+use Rattle.aosi_desk.specs.declared.answer.RoundAnswer.TheVariants.{Target, Nothing}
+use Rattle.aosi_desk.specs.declared.answer.RoundEnd.{RoundEnd}
+use Rattle.aosi_desk.specs.declared.answer.RoundEnd.TheVariants as end
 use Rattle.core_events.specs.Events.{RoundOpen, RoundClose, ClientCall, OnDesk}
 use Rattle.core_events.specs.Jobs.{Done, JobOutcome, OutOfMemory, StoreLost}
 use Rattle.cube_core.specs.declared.jobs.FlushAnswer.{FlushAnswer}

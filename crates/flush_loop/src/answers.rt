@@ -1,7 +1,7 @@
 //! What the desk answers to the calls of a round, and what the flusher replies once it has ended.
 ghost use Rattle.std.specs.Prelude.{◌≡◌, ℕ};
 ghost use Rattle.std.specs.Option.{option_map_or};
-ghost use Rattle.aosi_register.specs.declared.answer.RoundEnd.{RoundEnd};
+ghost use Rattle.aosi_desk.specs.declared.answer.RoundEnd.{RoundEnd};
 ghost use Rattle.core_program.specs.AnswersOfCalls.{CoreAnswers, DeskAnswers};
 ghost use Rattle.core_cells.specs.declared.desk.DeskAnswer.TheVariants as answer;
 ghost use Rattle.core_cells.specs.declared.desk.DeskCall.TheVariants as call;

@@ -1,8 +1,8 @@
 -- The flusher's open round and a store: what has to hold before it is copied, and what the store then holds.
 -- Source: Cubrick (VLDB 2016), flush rounds; AOSI (ICDE 2018), the latest safe epoch; two files are this project's own.
 use Rattle.std.specs.Prelude.{◌≡◌, ℕ, List, [], length, map, take, Result, Ok, Err, if◌then◌else◌}
-use Rattle.aosi_register.specs.declared.answer.RoundEnd.{RoundEnd}
-use Rattle.aosi_register.specs.declared.answer.RoundEnd.TheVariants as end
+use Rattle.aosi_desk.specs.declared.answer.RoundEnd.{RoundEnd}
+use Rattle.aosi_desk.specs.declared.answer.RoundEnd.TheVariants as end
 use Rattle.cube_journal.specs.declared.journal_entry.LostCause.TheVariants.{Disk, Memory}
 use Rattle.cube_rounds.specs.Stands.{Kept}
 use Rattle.cube_rounds.specs.declared.round.Round.{Round}

@@ -1,6 +1,6 @@
 //! A round that is open is copied and added to the store.
 ghost use Rattle.std.specs.Prelude.{◌≡◌, ◌⊎◌, ◌+◌, ◌≤◌, true, false, length, IsErrOf, OnOk};
-ghost use Rattle.aosi_register.specs.declared.answer.RoundEnd.TheVariants as end;
+ghost use Rattle.aosi_desk.specs.declared.answer.RoundEnd.TheVariants as end;
 ghost use Rattle.core_program.specs.Flushing.{IsFlusherOf};
 ghost use Rattle.cube_journal.specs.declared.journal_entry.LostCause.TheVariants as cause;
 ghost use Rattle.cube_rounds.specs.Stands.{Kept};

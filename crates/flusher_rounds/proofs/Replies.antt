@@ -3,8 +3,8 @@ use Rattle.std.proofs.Common.{◌≡◌, ◌∙◌, ◌≢◌, ℕ, ◌==◌, Bo
 use Rattle.std.specs.List.{AllByRecursion}
 use Rattle.std.proofs.lemmas.Bool.{or_right}
 use Rattle.cube_journal.specs.declared.journal_entry.LostCause.TheVariants.{Disk}
-use Rattle.aosi_register.specs.declared.answer.RoundAnswer.TheVariants.{Target, Nothing}
-use Rattle.aosi_register.specs.declared.answer.RoundEnd.TheVariants.{Safe, Lost}
+use Rattle.aosi_desk.specs.declared.answer.RoundAnswer.TheVariants.{Target, Nothing}
+use Rattle.aosi_desk.specs.declared.answer.RoundEnd.TheVariants.{Safe, Lost}
 use Rattle.core_events.specs.Clients.{ClientState, client_after_call, client_state, is_lost_to_disk, state_from_calls, store_lost_after}
 use Rattle.core_events.specs.Events.{Opening, flush_mail, flusher, RoundOpen, RoundClose, ClientCall, OnDesk, WorkerMove, Take, NoJob, Work, Reply, CoreEvent, By, At}
 use Rattle.core_events.specs.Fitting.{AllSaved, FlushSays, NoRound, RoundProgress, RoundUnderWay, progress_after_call, progress_after_move, round_progress}

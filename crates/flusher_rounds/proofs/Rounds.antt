@@ -4,8 +4,8 @@ use Rattle.std.proofs.Math.Bool.{or-false}
 use Rattle.std.proofs.lemmas.Bool.{and_parts, or_right}
 use Rattle.cube_journal.specs.declared.counters.Counters.{Counters}
 use Rattle.cube_language.specs.declared.decl.Decl.{Decl}
-use Rattle.aosi_register.specs.declared.answer.RoundAnswer.TheVariants.{Target, Nothing}
-use Rattle.aosi_register.specs.declared.answer.RoundEnd.{RoundEnd}
+use Rattle.aosi_desk.specs.declared.answer.RoundAnswer.TheVariants.{Target, Nothing}
+use Rattle.aosi_desk.specs.declared.answer.RoundEnd.{RoundEnd}
 use Rattle.core_cells.specs.declared.desk.DeskAnswer.{DeskAnswer}
 use Rattle.core_cells.specs.declared.desk.DeskAnswer.TheVariants as answer
 use Rattle.core_cells.specs.declared.desk.DeskCall.TheVariants as call
@@ -18,8 +18,8 @@ use Rattle.core_events.specs.Events.{Opening, CopyFrom, flusher}
 use Rattle.core_events.specs.Fitting.{FitsCall, HasCopies, MayCopy}
 use Rattle.core_events.specs.Groups.{Copies, JobGroup, has_all_below, has_ended, has_refusal, is_complete, is_empty, is_ready, is_spoiled, mails_of, no_group}
 use Rattle.core_events.specs.Jobs.{CopyRound}
-use Rattle.core_links.specs.DeskEvents.{FitsDeskCall, desk_event}
-use Rattle.core_links.specs.NamesEvents.{FitsNamesCall, names_event}
+use Rattle.core_board_cells.specs.DeskEvents.{FitsDeskCall, desk_event}
+use Rattle.core_board_cells.specs.NamesEvents.{FitsNamesCall, names_event}
 use Rattle.session_holds.specs.GroupEnds.{HasAllAnswers, MayBeginBy}
 use Rattle.session_holds.specs.HoldStates.{ComesTo, after_desk_call}
 use Rattle.session_holds.proofs.Snapshots.{same-number}

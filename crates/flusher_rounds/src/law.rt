@@ -3,8 +3,8 @@
 ghost use Rattle.std.specs.Prelude.{◌≡◌, ◌⊎◌, ℕ, ◌+◌, ◌<◌, ◌≤◌, max, Bool, true, false, List, ◌∷◌, ◌++◌, length, Some, None};
 ghost use Rattle.cube_journal.specs.declared.counters.Counters.{Counters};
 ghost use Rattle.cube_language.specs.declared.decl.Decl.{Decl};
-ghost use Rattle.aosi_register.specs.declared.answer.RoundAnswer.TheVariants.{Target, Nothing};
-ghost use Rattle.aosi_register.specs.declared.answer.RoundEnd.{RoundEnd};
+ghost use Rattle.aosi_desk.specs.declared.answer.RoundAnswer.TheVariants.{Target, Nothing};
+ghost use Rattle.aosi_desk.specs.declared.answer.RoundEnd.{RoundEnd};
 ghost use Rattle.core_cells.specs.declared.desk.DeskAnswer.TheVariants as answer;
 ghost use Rattle.core_cells.specs.declared.desk.DeskCall.TheVariants as call;
 ghost use Rattle.core_cells.specs.declared.names.NamesAnswer.TheVariants as told;
@@ -14,8 +14,8 @@ ghost use Rattle.core_events.specs.Clients.{ClientState, is_lost_to_disk, names_
 ghost use Rattle.core_events.specs.Events.{Opening, ClientCall, CopyFrom, flusher};
 ghost use Rattle.core_events.specs.Groups.{Copies, JobGroup, has_refusal, no_group};
 ghost use Rattle.core_events.specs.Jobs.{CopyRound};
-ghost use Rattle.core_links.specs.DeskEvents.{FitsDeskCall};
-ghost use Rattle.core_links.specs.NamesEvents.{FitsNamesCall};
+ghost use Rattle.core_board_cells.specs.DeskEvents.{FitsDeskCall};
+ghost use Rattle.core_board_cells.specs.NamesEvents.{FitsNamesCall};
 ghost use Rattle.session_holds.specs.GroupEnds.{HasAllAnswers, MayBeginBy};
 ghost use Rattle.session_holds.specs.HoldStates.{ComesTo, after_desk_call};
 ghost use Rattle.flusher_rounds.specs.RoundStates.{HasCopiedCubes, HasCopiedRows, HasLostStore, HasNoRound, HasRound, HasRoundCopies, IsBetweenRounds, IsInRound, LacksRows, after_names_call, round_up_to};

@@ -3,8 +3,8 @@
 ghost use Rattle.std.specs.Prelude.{◌≡◌, ◌≢◌, ℕ, Bool, List, ◌∷◌, ◌++◌, map};
 ghost use Rattle.std.specs.List.{AllByRecursion};
 ghost use Rattle.cube_journal.specs.declared.journal_entry.LostCause.TheVariants.{Disk};
-ghost use Rattle.aosi_register.specs.declared.answer.RoundAnswer.TheVariants.{Target, Nothing};
-ghost use Rattle.aosi_register.specs.declared.answer.RoundEnd.TheVariants.{Lost, Safe};
+ghost use Rattle.aosi_desk.specs.declared.answer.RoundAnswer.TheVariants.{Target, Nothing};
+ghost use Rattle.aosi_desk.specs.declared.answer.RoundEnd.TheVariants.{Lost, Safe};
 ghost use Rattle.core_events.specs.Clients.{client_state};
 ghost use Rattle.core_events.specs.Events.{Opening, flusher, RoundOpen, RoundClose, ClientCall, OnDesk, CoreEvent, By};
 ghost use Rattle.core_events.specs.Fitting.{AllSaved, FlushSays, NoRound, RoundProgress, progress_after_call, round_progress};

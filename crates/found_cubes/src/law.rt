@@ -6,7 +6,7 @@ ghost use Rattle.aosi_desk.specs.Desks.{decl_names};
 ghost use Rattle.core_program.specs.Knowing.{IsLaterRun};
 ghost use Rattle.core_cubes.specs.StandingCubes.{StandsBefore};
 ghost use Rattle.core_events.specs.Events.{CoreEvent, Opening};
-ghost use Rattle.core_pasts.specs.CorePasts.{CorePast, last_number};
+ghost use Rattle.core_states.specs.CorePasts.{CorePast, last_number};
 ghost use Rattle.core_program.specs.CoreFits.{CoreEntry};
 ghost use Rattle.core_records.specs.CoreRecords.{RunScripts, record_of};
 ghost use Rattle.core_records.specs.ScriptedCalls.{FollowScripts};

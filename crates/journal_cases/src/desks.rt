@@ -1,6 +1,6 @@
 //! Calls of a desk beside the plain program over its journal, and the list of cubes.
 ghost use Rattle.std.specs.Prelude.{◌≡◌, IfOk};
-ghost use Rattle.aosi_register.specs.State.{state_of};
+ghost use Rattle.aosi_desk.specs.State.{state_of};
 
 use crate::states::{is_free, is_reading, is_writing, may_ask};
 use aosi_desk::{CubeAnswer, CubeFound, Desk, RoundEnd};

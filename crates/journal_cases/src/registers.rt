@@ -1,9 +1,9 @@
 //! Tables of calls: what waits for a pending epoch, deps, the target of rounds, and sixteen sessions at once.
 ghost use Rattle.std.specs.Prelude.{◌≡◌, ◌≤◌, ◌^◌, IfOk};
-ghost use Rattle.aosi_register.specs.State.{state_of};
+ghost use Rattle.aosi_desk.specs.State.{state_of};
 
 use crate::states::{is_free, is_reading, is_writing, may_ask};
-use aosi_register::{MOST_HOLDERS, MOST_SESSIONS, Register, RoundEnd};
+use aosi_desk::{MOST_HOLDERS, MOST_SESSIONS, Register, RoundEnd};
 use cube_journal::{AbortCause, JournalEntry, LostCause, Note};
 use plain_journal::{State, state_of};
 use std::alloc::{AllocError, Global};

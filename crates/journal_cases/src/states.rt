@@ -3,7 +3,7 @@ ghost use Rattle.std.specs.Prelude.{◌≡◌, IsTrue, None};
 ghost use Rattle.std.specs.Option.{option_map};
 ghost use Rattle.cube_journal.specs.Counters.{held_by};
 ghost use Rattle.cube_journal.specs.Legal.{HoldsReader, MayAskRound};
-ghost use Rattle.aosi_register.specs.State.{IsWriting};
+ghost use Rattle.aosi_desk.specs.State.{IsWriting};
 
 use cube_journal::OpenSnapshot;
 use plain_journal::State;

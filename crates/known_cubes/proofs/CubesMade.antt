@@ -6,7 +6,7 @@ use Rattle.cube_language.specs.Cubes.{IsStorable}
 use Rattle.cube_language.specs.CubesText.{cubes_limit}
 use Rattle.cube_language.specs.declared.decl.Decl.{Decl}
 use Rattle.cube_journal.specs.Legal.{has_cube}
-use Rattle.aosi_register.specs.State.{state_of}
+use Rattle.aosi_desk.specs.State.{state_of}
 use Rattle.aosi_desk.specs.declared.cube.CubeAnswer.TheVariants.{Created, Exists, TooMany}
 use Rattle.aosi_desk.specs.declared.cube.CubeFound.TheVariants.{Found, Unknown}
 use Rattle.aosi_desk.specs.Desks.{AreCubes, DeskState, cube_answer, decl_names}

@@ -21,8 +21,8 @@ use Rattle.core_events.specs.Events.{Opening, ClientCall, CoreEvent, By, At}
 use Rattle.core_events.specs.Jobs.{CoreJob, JobOutcome}
 use Rattle.core_events.specs.Runs.{IsCoreRun, CallSays}
 use Rattle.core_events.specs.ShardView.{ShardView}
-use Rattle.core_links.proofs.DeskLinks as links
-use Rattle.core_links.specs.DeskEvents.{desk_event, is_on_desk}
+use Rattle.core_board_cells.proofs.DeskLinks as links
+use Rattle.core_board_cells.specs.DeskEvents.{desk_event, is_on_desk}
 use Rattle.core_program.specs.CoreFits.{CoreEntry, OpensCells, decl_at, decl_made_by, decl_made_in, first_decl}
 use Rattle.cube_core.specs.declared.cell.CoreAnswer.{CoreAnswer}
 use Rattle.cube_core.specs.declared.cell.CoreAnswer.TheVariants as answer

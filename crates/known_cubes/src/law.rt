@@ -13,7 +13,7 @@ ghost use Rattle.core_events.specs.Clients.{ClientState, state_from_calls};
 ghost use Rattle.core_events.specs.Events.{ClientCall, CoreEvent, IsSession, Opening};
 ghost use Rattle.core_events.specs.Fitting.{CutsNoBrick, IsQueryOf, MayPutRow};
 ghost use Rattle.core_events.specs.Runs.{IsCoreRun};
-ghost use Rattle.core_links.specs.NamesEvents.{FitsNamesCall};
+ghost use Rattle.core_board_cells.specs.NamesEvents.{FitsNamesCall};
 ghost use Rattle.core_program.specs.CoreFits.{CoreEntry, OpensCells, decl_at};
 ghost use Rattle.cube_core.specs.declared.cell.CoreCell.{CoreCell};
 ghost use Rattle.cube_language.specs.Cubes.{IsStorable, sizes_of};

@@ -7,7 +7,7 @@ use Rattle.core_cells.specs.declared.names.NamesCall.{NamesCall}
 use Rattle.core_cells.specs.declared.names.NamesCall.TheVariants as names
 use Rattle.core_events.specs.Clients.{ClientState, after_client_call, calls_of, state_from_calls}
 use Rattle.core_events.specs.Events.{Opening, ClientCall}
-use Rattle.core_links.specs.NamesEvents.{names_event}
+use Rattle.core_board_cells.specs.NamesEvents.{names_event}
 use Rattle.core_names.proofs.HeldOn.{by-names, holds-on}
 use Rattle.core_names.specs.AskedNames.{GoOnByNames}
 use Rattle.core_program.proofs.KnownCalls.{earlier-run, names-learn}

@@ -5,7 +5,7 @@ use Rattle.core_cubes.specs.StatementCalls.{SpeaksFor}
 use Rattle.core_events.specs.Clients.{calls_of}
 use Rattle.core_events.specs.Events.{Opening, OnDesk, OnNames, Post, Fetch, CloseMail, NoChange, ClientCall}
 use Rattle.core_events.specs.Jobs.{Append, DropBox, Scan, Delta, Rollback, Purge, CopyRound, Flush}
-use Rattle.core_pasts.specs.OwnCalls.{OwnCallsLeave}
+use Rattle.core_states.specs.OwnCalls.{OwnCallsLeave}
 use Rattle.core_program.specs.CoreFits.{CoreEntry}
 use Rattle.core_records.specs.OwnEntries.{entries_by_calls}
 use Rattle.core_states.specs.LeftBehind.{AddsCalls, AddsEntries, GoOnByCalls, LeavesReaders}

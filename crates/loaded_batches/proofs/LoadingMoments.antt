@@ -10,7 +10,7 @@ use Rattle.core_cells.specs.declared.names.NamesCall.{NamesCall}
 use Rattle.core_cells.specs.declared.names.NamesCall.TheVariants as names
 use Rattle.core_events.specs.Clients.{calls_of}
 use Rattle.core_events.specs.Events.{Opening, OnDesk, OnNames, Post, Fetch, CloseMail, NoChange, ClientCall, CoreEvent}
-use Rattle.core_links.specs.NamesEvents.{names_event}
+use Rattle.core_board_cells.specs.NamesEvents.{names_event}
 use Rattle.core_names.specs.AskedNames.{GoOnByNames}
 use Rattle.core_names.proofs.HeldOn.{by-names}
 use Rattle.core_program.proofs.KnownCalls.{earlier-run, names-learn}

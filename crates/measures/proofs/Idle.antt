@@ -6,7 +6,7 @@ use Rattle.cube_journal.specs.declared.journal_entry.JournalEntry.{JournalEntry}
 use Rattle.cube_journal.specs.declared.journal_entry.JournalEntry.TheVariants as entry
 use Rattle.cube_journal.specs.Counters.{JournalState, journal_state, state_after, held_by}
 use Rattle.cube_journal.specs.Legal.{HoldsReader}
-use Rattle.aosi_register.specs.State.{state_of, IsWriting, held_epoch, after_begin, after_read, after_commit}
+use Rattle.aosi_desk.specs.State.{state_of, IsWriting, held_epoch, after_begin, after_read, after_commit}
 use Rattle.aosi_desk.specs.Desks.{DeskState, desk_over, desk_with_entry}
 
 -- The state of a journal with one more entry.

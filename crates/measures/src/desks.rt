@@ -1,7 +1,7 @@
 //! Sessions at a desk, one after the other.
 
 ghost use Rattle.std.specs.Prelude.{◌≡◌, ◌+◌, ◌≤◌, [], IfOk, OnOk};
-ghost use Rattle.aosi_register.specs.State.{state_of};
+ghost use Rattle.aosi_desk.specs.State.{state_of};
 
 use aosi_desk::{Desk, MOST_SESSIONS};
 use cube_journal::one_more_entry;

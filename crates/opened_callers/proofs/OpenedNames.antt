@@ -18,7 +18,7 @@ use Rattle.kept_data.specs.KeptNames.{AreKeptNames, FitKeptNames, HaveKeptNames}
 use Rattle.core_board_cells.specs.BoardCells.{StandsInCell}
 use Rattle.core_events.specs.Cells.{desk_of}
 use Rattle.core_events.specs.Events.{Opening, CoreEvent}
-use Rattle.core_links.specs.NamesEvents.{AreNamesOf}
+use Rattle.core_board_cells.specs.NamesEvents.{AreNamesOf}
 use Rattle.core_program.specs.CoreFits.{CoreEntry, OpensCells}
 use Rattle.core_records.specs.OpeningNames.{OpensWithNames, SuitsDimension}
 use Rattle.cube_core.specs.declared.cell.CoreCell.{CoreCell}

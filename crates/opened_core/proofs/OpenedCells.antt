@@ -20,8 +20,8 @@ use Rattle.turn_board.proofs.Places.{at_end}
 use Rattle.core_events.proofs.Counts.{in-order}
 use Rattle.core_board_cells.specs.BoardCells.{AnswerSays, JobsSuit, StandsInCell, job_asked}
 use Rattle.core_events.specs.Events.{Opening, IsOpening}
-use Rattle.core_links.specs.MailEvents.{IsMailCellOf, clients_of}
-use Rattle.core_mail_cells.specs.MailCells.{IsPlaceIn}
+use Rattle.core_board_cells.specs.MailEvents.{IsMailCellOf, clients_of}
+use Rattle.core_board_cells.specs.MailCells.{IsPlaceIn}
 use Rattle.core_program.specs.CoreFits.{CoreEntry}
 use Rattle.cube_core.specs.declared.cell.CoreCell.{CoreCell}
 use Rattle.cube_core.specs.declared.cell.CoreCell.TheVariants as cell

@@ -6,7 +6,7 @@ use Rattle.core_cubes.proofs.CallsForStatements.{plain-for}
 use Rattle.core_cubes.proofs.CallsGoOn.{go-on-as, go-on-then}
 use Rattle.core_cubes.specs.StatementCalls.{IsCallFor}
 use Rattle.core_events.specs.Events.{OpenWrite, OpenRead, Commit, AbortEnd, CloseRead, TakeNote, CreateCube, FindCube, CubesFrom, CountersNow, RoundOpen, RoundClose, StoreFailed, ClientCall, OnDesk, OnNames, Post, Fetch, CloseMail, NoChange}
-use Rattle.core_pasts.specs.OwnCalls.{OwnCallsLeave}
+use Rattle.core_states.specs.OwnCalls.{OwnCallsLeave}
 use Rattle.core_program.specs.CoreFits.{CoreEntry}
 use Rattle.core_states.proofs.LeftCalls.{left-nothing, longer-front}
 use Rattle.core_states.specs.LeftBehind.{AddsEntries, GoOnByCalls, IsPlainCall, LeavesReaders}

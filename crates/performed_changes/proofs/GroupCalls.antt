@@ -6,7 +6,7 @@ use Rattle.core_board.specs.Links.{AreEventsOf}
 use Rattle.core_cubes.specs.StatementCalls.{SpeaksFor}
 use Rattle.core_events.specs.Clients.{calls_of}
 use Rattle.core_events.specs.Events.{Opening, ClientCall, CoreEvent, OnDesk, OnNames, Post, Fetch, CloseMail, NoChange}
-use Rattle.core_pasts.specs.OwnCalls.{OwnCallsLeave}
+use Rattle.core_states.specs.OwnCalls.{OwnCallsLeave}
 use Rattle.core_program.proofs.KnownCalls.{earlier-run}
 use Rattle.core_board_cells.specs.BoardCells.{IsEntryEvent}
 use Rattle.core_program.specs.CoreFits.{CoreEntry}

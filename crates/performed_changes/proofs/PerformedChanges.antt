@@ -4,9 +4,9 @@ use Rattle.std.specs.List.{list_any}
 use Rattle.core_agreements.specs.PostsForOperations.{batches_posted}
 use Rattle.core_events.specs.Events.{Opening, CoreEvent}
 use Rattle.core_events.specs.Serial.{DropRows}
-use Rattle.core_pasts.proofs.LongerPasts.{in-turn-after}
-use Rattle.core_pasts.specs.CorePasts.{CorePast, IsInTurn, IsOneMore, last_number, last_step}
-use Rattle.core_pasts.specs.RunsFrom.{IsRunFrom, RunClaim}
+use Rattle.core_states.proofs.LongerPasts.{in-turn-after}
+use Rattle.core_states.specs.CorePasts.{CorePast, IsInTurn, IsOneMore, last_number, last_step}
+use Rattle.core_states.specs.RunsFrom.{IsRunFrom, RunClaim}
 use Rattle.core_program.specs.CoreFits.{CoreEntry}
 use Rattle.core_records.proofs.NamedApart.{record-apart}
 use Rattle.core_records.specs.CoreRecords.{RunScripts, record_of}

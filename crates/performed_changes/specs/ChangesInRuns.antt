@@ -7,8 +7,8 @@ use Rattle.core_agreements.specs.PostsForOperations.{batches_posted}
 use Rattle.core_events.specs.Clients.{calls_of}
 use Rattle.core_events.specs.Events.{Opening, ClientCall, CoreEvent}
 use Rattle.core_events.specs.Serial.{DropRows}
-use Rattle.core_pasts.specs.CorePasts.{CorePast, last_number}
-use Rattle.core_pasts.specs.RunsFrom.{IsRunFrom}
+use Rattle.core_states.specs.CorePasts.{CorePast, last_number}
+use Rattle.core_states.specs.RunsFrom.{IsRunFrom}
 use Rattle.core_program.specs.CoreFits.{CoreEntry}
 use Rattle.core_records.specs.CoreRecords.{RunScripts, record_of}
 use Rattle.core_states.specs.StandingInCore.{StandsInCore}

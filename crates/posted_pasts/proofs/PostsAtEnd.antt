@@ -15,9 +15,9 @@ use Rattle.core_events.specs.Clients.{calls_of}
 use Rattle.core_events.specs.Events.{Opening, IsSession, CoreEvent}
 use Rattle.core_events.specs.Jobs.{CoreJob, JobOutcome}
 use Rattle.core_events.specs.ShardView.{ShardView}
-use Rattle.core_pasts.specs.CorePasts.{CorePast, last_number}
-use Rattle.core_pasts.specs.Endings.{HasEnded, IsScriptedHistory}
-use Rattle.core_pasts.specs.RunsFrom.{IsRunFrom, RunClaim}
+use Rattle.core_states.specs.CorePasts.{CorePast, last_number}
+use Rattle.core_states.specs.Endings.{HasEnded, IsScriptedHistory}
+use Rattle.core_states.specs.RunsFrom.{IsRunFrom, RunClaim}
 use Rattle.core_program.specs.CoreFits.{CoreEntry}
 use Rattle.core_records.proofs.CubesOnRecord.{run-before as run-of-earlier}
 use Rattle.core_records.proofs.SessionParts.{own-part}

@@ -5,7 +5,7 @@ use Rattle.condition_spans.specs.Codes.{lists_at}
 use Rattle.aosi_desk.specs.Desks.{decl_names}
 use Rattle.core_agreements.specs.PostsForOperations.{StandForAll, rows_of_batches}
 use Rattle.core_events.specs.Events.{Opening, CoreEvent}
-use Rattle.core_pasts.specs.RunsFrom.{RunClaim}
+use Rattle.core_states.specs.RunsFrom.{RunClaim}
 use Rattle.core_records.specs.CoreRecords.{RunScripts}
 use Rattle.cube_language.specs.Cubes.{first_repeated}
 use Rattle.cube_language.specs.declared.decl.Decl.{Decl}

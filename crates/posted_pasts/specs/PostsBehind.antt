@@ -13,8 +13,8 @@ use Rattle.core_events.specs.Clients.{calls_of}
 use Rattle.core_events.specs.Events.{Opening, ClientCall, CoreEvent}
 use Rattle.core_events.specs.Jobs.{CoreJob, JobOutcome}
 use Rattle.core_events.specs.ShardView.{ShardView}
-use Rattle.core_pasts.specs.CorePasts.{CorePast}
-use Rattle.core_pasts.specs.RunsFrom.{IsRunFrom, RunClaim}
+use Rattle.core_states.specs.CorePasts.{CorePast}
+use Rattle.core_states.specs.RunsFrom.{IsRunFrom, RunClaim}
 use Rattle.core_program.specs.CoreFits.{CoreEntry}
 use Rattle.core_records.specs.CoreRecords.{RunScripts, record_of}
 use Rattle.core_serial.specs.OwnOperations.{operations_by_calls}

@@ -7,7 +7,7 @@ ghost use Rattle.core_agreements.specs.PostsForOperations.{batches_posted};
 ghost use Rattle.core_events.specs.Events.{ClientCall, Opening};
 ghost use Rattle.core_events.specs.Jobs.{DropBox};
 ghost use Rattle.core_events.specs.Serial.{DropRows, operations_with};
-ghost use Rattle.core_pasts.specs.CorePasts.{CorePast, IsInTurn, IsOneMore, last_step};
+ghost use Rattle.core_states.specs.CorePasts.{CorePast, IsInTurn, IsOneMore, last_step};
 ghost use Rattle.core_program.specs.CoreFits.{CoreEntry};
 ghost use Rattle.core_serial.specs.OwnOperations.{operations_by_calls};
 ghost use Rattle.core_states.specs.LeftBehind.{IsPlainCall};
@@ -38,7 +38,7 @@ ghost use Rattle.posted_pasts.specs.PostsAdded.{
 ghost use Rattle.posted_pasts.specs.PostsBehind.{InEachRun, PostsStandBehind};
 
 use core_board_cells::LinkedShard;
-use core_pasts::Besides;
+use core_states::Besides;
 
 /// A statement has done nothing to rows where it says no change of them, where it ended refused, and
 /// where a refusal is its reply.

@@ -5,8 +5,8 @@ ghost use Rattle.core_agreements.specs.ScriptedRuns.{CommitsStand, IsAtStatement
 ghost use Rattle.core_events.specs.Cells.{counters_of_run};
 ghost use Rattle.core_events.specs.Clients.{calls_of};
 ghost use Rattle.core_events.specs.Events.{CoreEvent, IsSession, Opening};
-ghost use Rattle.core_pasts.specs.CorePasts.{CorePast, last_number};
-ghost use Rattle.core_pasts.specs.Endings.{HasEnded, IsScriptedHistory};
+ghost use Rattle.core_states.specs.CorePasts.{CorePast, last_number};
+ghost use Rattle.core_states.specs.Endings.{HasEnded, IsScriptedHistory};
 ghost use Rattle.core_program.specs.CoreFits.{CoreEntry};
 ghost use Rattle.core_records.specs.CoreRecords.{RunScripts, record_of};
 ghost use Rattle.core_states.specs.StandingInCore.{StandsInCore};
@@ -20,7 +20,7 @@ ghost use Rattle.cube_values.specs.declared.snapshot.Snapshot.{Snapshot};
 ghost use Rattle.posted_pasts.specs.PostsBehind.{IsRunWithCalls, PostsStandBehind};
 
 use core_board_cells::LinkedShard;
-use core_pasts::Besides;
+use core_states::Besides;
 
 /// Where a session has played its script, whatever its replies are promised for, and its posts stand for
 /// what is behind it, so do those of each transaction that it committed.

@@ -3,7 +3,7 @@
 ghost use Rattle.std.specs.Prelude.{◌≡◌, ℕ, true, List, []};
 ghost use Rattle.std.specs.List.{list_any};
 ghost use mathlib.Core.List.{IsPrefix};
-ghost use Rattle.core_pasts.specs.CorePasts.{CorePast, IsInTurn, IsOneMore, last_step, nothing_behind};
+ghost use Rattle.core_states.specs.CorePasts.{CorePast, IsInTurn, IsOneMore, last_step, nothing_behind};
 ghost use Rattle.core_program.specs.CoreFits.{CoreEntry};
 ghost use Rattle.core_states.specs.LeftBehind.{GoOnByCalls, IsPlainCall};
 ghost use Rattle.cube_core.specs.declared.cell.CoreCell.{CoreCell};
@@ -15,7 +15,7 @@ ghost use Rattle.posted_pasts.specs.PostsAdded.{AddsAtEpoch, AddsNoOperation, Le
 ghost use Rattle.posted_pasts.specs.PostsBehind.{InEachRun, PostsStandBehind, is_abort_of};
 
 use core_board_cells::LinkedShard;
-use core_pasts::Besides;
+use core_states::Besides;
 
 /// Before its first call a session has posted nothing, and nothing is behind it.
 pub fn posts_stand_at_the_beginning<S: LinkedShard, B: Besides>()

@@ -18,8 +18,8 @@ use Rattle.core_events.specs.Clients.{ClientState, after_client_call, calls_of, 
 use Rattle.core_events.specs.Events.{Opening, ClientCall, CoreEvent, By, flusher}
 use Rattle.core_program.specs.Flushing.{IsFlusherOf}
 use Rattle.core_program.proofs.FlusherCalls.{is-client}
-use Rattle.core_links.specs.DeskEvents.{FitsDeskCall, desk_event}
-use Rattle.core_links.specs.NamesEvents.{FitsNamesCall, names_event}
+use Rattle.core_board_cells.specs.DeskEvents.{FitsDeskCall, desk_event}
+use Rattle.core_board_cells.specs.NamesEvents.{FitsNamesCall, names_event}
 use Rattle.core_program.specs.CoreFits.{CoreEntry}
 use Rattle.cube_core.specs.declared.cell.CoreCell.{CoreCell}
 use Rattle.flusher_rounds.specs.FlushReplies.{IsWithinRound}

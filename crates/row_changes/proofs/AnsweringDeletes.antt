@@ -15,7 +15,7 @@ use Rattle.row_encoding.specs.CodedTexts.{AreNames}
 use Rattle.query_plan.specs.Ties.{TakesRegion}
 use Rattle.cube_language.specs.ResolvedNames.{resolved_region}
 use Rattle.cube_language.specs.StatementParts.{conds_of}
-use Rattle.aosi_register.specs.State.{state_of}
+use Rattle.aosi_desk.specs.State.{state_of}
 use Rattle.row_entries.specs.EntryGroups.{LeavesCommit}
 use Rattle.session_replies.specs.Modes.{mode_of}
 use Rattle.session_desk.specs.declared.answered.Answered.{Answered}

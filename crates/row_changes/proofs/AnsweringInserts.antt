@@ -12,7 +12,7 @@ use Rattle.one_session.specs.Changes.{Come}
 use Rattle.one_session.specs.Pasts.{NamesOnlyCome}
 use Rattle.aosi_desk.specs.Desks.{DeskState}
 use Rattle.statement_check.specs.OwnParts.{inserted_rows}
-use Rattle.aosi_register.specs.State.{state_of}
+use Rattle.aosi_desk.specs.State.{state_of}
 use Rattle.row_entries.specs.EntryGroups.{LeavesCommit}
 use Rattle.session_replies.specs.Modes.{mode_of}
 use Rattle.session_desk.specs.declared.answered.Answered.{Answered}

@@ -19,7 +19,7 @@ use Rattle.names_dict.specs.Dictionaries.{Dictionary, dictionaries_of, names_of}
 use Rattle.condition_spans.specs.Codes.{lists_at}
 use Rattle.one_session.specs.Changes.{Go}
 use Rattle.one_session.specs.Pasts.{Beginning, EndsWithMore, GoesOn, NamesOnlyCome}
-use Rattle.aosi_register.specs.State.{state_of}
+use Rattle.aosi_desk.specs.State.{state_of}
 use Rattle.aosi_desk.specs.Desks.{DeskState}
 use Rattle.query_plan.specs.Ties.{TakesRegion}
 use Rattle.query_plan.proofs.Plans.{IsDelete}

@@ -29,7 +29,7 @@ use Rattle.one_session.specs.Changes.{AllStandForValues, Come, ComeFor}
 use Rattle.one_session.specs.Pasts.{Beginning, EndsWithMore, GoesOn, NamesOnlyCome}
 use Rattle.session_desk.specs.RowsDone.{past_with}
 use Rattle.session_replies.specs.RowEntries.{lone_refusal, own_commit}
-use Rattle.aosi_register.specs.State.{state_of}
+use Rattle.aosi_desk.specs.State.{state_of}
 use Rattle.aosi_desk.specs.Desks.{DeskState}
 use Rattle.row_encoding.specs.CodedInserts.{HasCoords}
 use Rattle.row_encoding.specs.CodedValues.{HaveNames, NumbersHaveNoNames}

@@ -13,7 +13,7 @@ use Rattle.cube_run.specs.RunRecords.{Sentence}
 use Rattle.cube_run.specs.SessionStates.{Mode, Idle, is_commit, mode_after}
 use Rattle.cube_run.specs.SessionSteps.{session_part}
 use Rattle.one_session.specs.Changes.{is_begin_of}
-use Rattle.aosi_register.specs.State.{state_of}
+use Rattle.aosi_desk.specs.State.{state_of}
 use Rattle.aosi_desk.specs.Desks.{DeskState}
 use Rattle.session_replies.specs.Modes.{mode_of, round_follows}
 use Rattle.session_replies.specs.RowEntries.{own_abort, own_commit}

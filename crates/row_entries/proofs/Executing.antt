@@ -15,7 +15,7 @@ use Rattle.cube_run.specs.SessionSteps.{SessionStep}
 use Rattle.cube_run.specs.StatementEntries.{is_select}
 use Rattle.names_dict.specs.Dictionaries.{names_of}
 use Rattle.one_session.specs.Pasts.{Beginning, NamesOnlyCome, SessionPast, last_number}
-use Rattle.aosi_register.specs.State.{state_of}
+use Rattle.aosi_desk.specs.State.{state_of}
 use Rattle.aosi_desk.specs.Desks.{DeskState}
 use Rattle.session_replies.specs.Modes.{mode_of}
 use Rattle.session_replies.specs.StepParts.{IsStep}

@@ -14,7 +14,7 @@ use Rattle.cube_language.specs.declared.statement.Statement.TheVariants.{Watch}
 use Rattle.cube_run.specs.SessionStates.{Mode, Open, Aborted, mode_after, mode_after_abort, watch_after}
 use Rattle.cube_run.specs.SessionSteps.{session_part}
 use Rattle.one_session.specs.Changes.{is_begin_of}
-use Rattle.aosi_register.specs.State.{state_of}
+use Rattle.aosi_desk.specs.State.{state_of}
 use Rattle.aosi_desk.specs.Desks.{DeskState}
 use Rattle.session_replies.specs.Modes.{mode_of}
 use Rattle.session_replies.specs.RowEntries.{open_abort}

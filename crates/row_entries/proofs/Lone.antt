@@ -9,7 +9,7 @@ use Rattle.cube_journal.specs.declared.journal_entry.JournalEntry.{JournalEntry}
 use Rattle.cube_journal.specs.declared.journal_entry.JournalEntry.TheVariants as entry
 use Rattle.cube_run.specs.RunRecords.{Sentence}
 use Rattle.cube_run.specs.SessionStates.{Mode, Idle, mode_after}
-use Rattle.aosi_register.specs.State.{after_read, state_of}
+use Rattle.aosi_desk.specs.State.{after_read, state_of}
 use Rattle.aosi_desk.specs.Desks.{DeskState, desk_over, is_cube_code}
 use Rattle.session_replies.specs.Modes.{mode_of}
 use Rattle.session_replies.specs.RowEntries.{lone_refusal, own_reading}

@@ -14,7 +14,7 @@ use Rattle.cube_journal.specs.declared.journal_entry.JournalEntry.TheVariants as
 use Rattle.cube_run.specs.SessionStates.{Idle}
 use Rattle.cube_run.specs.SessionSteps.{belongs_to, session_part}
 use Rattle.one_session.specs.Changes.{is_begin_of}
-use Rattle.aosi_register.specs.State.{after_abort, after_begin, after_commit, held_epoch, state_of}
+use Rattle.aosi_desk.specs.State.{after_abort, after_begin, after_commit, held_epoch, state_of}
 use Rattle.aosi_desk.specs.Desks.{DeskState, desk_over}
 use Rattle.session_replies.specs.Modes.{mode_of}
 use Rattle.session_desk.specs.declared.session.Session.{Session}

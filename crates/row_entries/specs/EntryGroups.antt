@@ -10,7 +10,7 @@ use Rattle.cube_run.specs.RunTransactions.{DoneOperation}
 use Rattle.cube_run.specs.SessionStates.{Idle, Open}
 use Rattle.cube_run.specs.SessionSteps.{session_part}
 use Rattle.one_session.specs.Pasts.{Beginning, GoesOn, SessionPast}
-use Rattle.aosi_register.specs.State.{state_of}
+use Rattle.aosi_desk.specs.State.{state_of}
 use Rattle.aosi_desk.specs.Desks.{DeskState}
 use Rattle.session_replies.specs.Modes.{mode_of}
 use Rattle.session_replies.specs.RowEntries.{IsRoundAfter, lone_refusal, open_abort, own_abort, own_commit, own_reading}

@@ -8,7 +8,7 @@ use Rattle.cube_journal.specs.declared.journal_entry.AbortCause.{AbortCause}
 use Rattle.cube_journal.specs.declared.journal_entry.AbortCause.TheVariants as abort
 use Rattle.cube_journal.specs.declared.journal_entry.JournalEntry.TheVariants as entry
 use Rattle.cube_run.specs.SessionStates.{Idle, Open}
-use Rattle.aosi_register.specs.State.{after_abort, after_begin, after_commit, after_read, reader_snapshot, state_of, writer_snapshot}
+use Rattle.aosi_desk.specs.State.{after_abort, after_begin, after_commit, after_read, reader_snapshot, state_of, writer_snapshot}
 use Rattle.aosi_desk.specs.Desks.{DeskState, desk_over, desk_with_entry}
 use Rattle.session_replies.specs.Modes.{mode_of, round_follows}
 use Rattle.session_desk.specs.declared.session.Session.{Session}

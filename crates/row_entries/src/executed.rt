@@ -12,7 +12,7 @@ ghost use Rattle.cube_run.specs.RunRecords.{LoadedFile, Says, Sentence};
 ghost use Rattle.cube_run.specs.StatementEntries.{is_select};
 ghost use Rattle.names_dict.specs.Dictionaries.{names_of};
 ghost use Rattle.one_session.specs.Pasts.{Beginning, SessionPast};
-ghost use Rattle.aosi_register.specs.State.{state_of};
+ghost use Rattle.aosi_desk.specs.State.{state_of};
 ghost use Rattle.aosi_desk.specs.Desks.{DeskState};
 ghost use Rattle.session_desk.specs.declared.session.Session.{Session};
 ghost use Rattle.session_rows.specs.Coded.{CodedOperation};

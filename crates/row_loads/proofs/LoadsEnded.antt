@@ -14,7 +14,7 @@ use Rattle.loaded_files.specs.LoadedFiles.{loaded_file}
 use Rattle.row_encoding.specs.CodedLoads.{Tell}
 use Rattle.row_encoding.specs.declared.load.BadRecords.{BadRecords}
 use Rattle.row_encoding.specs.declared.load.BatchEnd.TheVariants as batch_is
-use Rattle.aosi_register.specs.State.{state_of}
+use Rattle.aosi_desk.specs.State.{state_of}
 use Rattle.aosi_desk.specs.Desks.{DeskState}
 use Rattle.session_replies.specs.Modes.{mode_of}
 use Rattle.session_desk.specs.declared.answered.Answered.{Answered}

@@ -24,7 +24,7 @@ use Rattle.one_session.specs.Pasts.{GoesOn}
 use Rattle.outside.specs.Given.{whole}
 use Rattle.loaded_files.specs.LoadedFiles.{loaded_file}
 use Rattle.row_encoding.specs.declared.load.BadRecords.{BadRecords}
-use Rattle.aosi_register.specs.State.{state_of}
+use Rattle.aosi_desk.specs.State.{state_of}
 use Rattle.aosi_desk.specs.Desks.{DeskState}
 use Rattle.session_replies.specs.RowEntries.{open_abort, own_abort, own_commit}
 use Rattle.session_replies.specs.RowSteps.{FitsItsCube}

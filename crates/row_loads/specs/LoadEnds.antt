@@ -13,7 +13,7 @@ use Rattle.cube_journal.specs.declared.reply.Reply.TheVariants as reply
 use Rattle.cube_run.specs.SessionStates.{Mode, Idle}
 use Rattle.outside.specs.declared.reading.FileFault.{FileFault}
 use Rattle.outside.specs.declared.reading.FileFault.TheVariants.{Absent, TooLong, Failed}
-use Rattle.aosi_register.specs.State.{state_of}
+use Rattle.aosi_desk.specs.State.{state_of}
 use Rattle.aosi_desk.specs.Desks.{DeskState}
 use Rattle.row_encoding.specs.declared.load.BadRecords.{BadRecords}
 use Rattle.session_replies.specs.Modes.{mode_of}

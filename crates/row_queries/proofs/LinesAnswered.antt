@@ -26,7 +26,7 @@ use Rattle.one_session.specs.Changes.{AreNamedApart}
 use Rattle.one_session.specs.Pasts.{Beginning, GoesOn, IsOneMore, NamesOnlyCome, SessionPast, last_number}
 use Rattle.one_session.proofs.Backwards.{goes_on_before}
 use Rattle.one_session.proofs.Entries.{longer_by_one}
-use Rattle.aosi_register.specs.State.{state_of}
+use Rattle.aosi_desk.specs.State.{state_of}
 use Rattle.aosi_desk.specs.Desks.{DeskState}
 use Rattle.session_replies.specs.RowSteps.{FitsItsCube}
 use Rattle.session_replies.proofs.Reading.{selected_alone, selected_inside}

@@ -6,7 +6,7 @@ use Rattle.cube_journal.specs.declared.counters.OpenSnapshot.{OpenSnapshot}
 use Rattle.cube_journal.specs.declared.journal_entry.JournalEntry.{JournalEntry}
 use Rattle.cube_journal.specs.declared.journal_entry.JournalEntry.TheVariants as entry
 use Rattle.aosi_desk.specs.Desks.{DeskState}
-use Rattle.aosi_register.specs.State.{state_of}
+use Rattle.aosi_desk.specs.State.{state_of}
 use Rattle.session_replies.specs.Modes.{mode_of}
 use Rattle.session_replies.specs.declared.mode.SessionMode.{SessionMode}
 use Rattle.session_replies.specs.declared.mode.SessionMode.TheVariants as mode

@@ -8,8 +8,8 @@ use Rattle.core_events.specs.Clients.{calls_of}
 use Rattle.core_events.specs.Events.{Opening, IsSession, CoreEvent}
 use Rattle.core_events.specs.Jobs.{CoreJob, JobOutcome}
 use Rattle.core_events.specs.ShardView.{ShardView}
-use Rattle.core_pasts.proofs.PlayedOut.{run-played}
-use Rattle.core_pasts.specs.Endings.{HasEnded, IsScriptedHistory}
+use Rattle.core_states.proofs.PlayedOut.{run-played}
+use Rattle.core_states.specs.Endings.{HasEnded, IsScriptedHistory}
 use Rattle.core_program.proofs.KnownCalls.{client-part}
 use Rattle.core_board_cells.specs.BoardCells.{IsEntryEvent, client_of}
 use Rattle.core_program.specs.CoreFits.{CoreEntry}

@@ -4,9 +4,9 @@ use mathlib.Core.List.{IsPrefix}
 use Rattle.core_events.specs.Events.{Opening}
 use Rattle.core_events.specs.Jobs.{CoreJob, JobOutcome}
 use Rattle.core_events.specs.ShardView.{ShardView}
-use Rattle.core_pasts.specs.CorePasts.{CorePast, IsInTurn, last_number}
-use Rattle.core_pasts.specs.OwnCalls.{OwnCallsLeave}
-use Rattle.core_pasts.specs.RunsFrom.{GoesOn}
+use Rattle.core_states.specs.CorePasts.{CorePast, IsInTurn, last_number}
+use Rattle.core_states.specs.OwnCalls.{OwnCallsLeave}
+use Rattle.core_states.specs.RunsFrom.{GoesOn}
 use Rattle.core_program.specs.CoreFits.{CoreEntry}
 use Rattle.core_program.specs.Knowing.{IsClientOf}
 use Rattle.core_states.proofs.LeftCalls.{longer-front}

@@ -8,7 +8,7 @@ use Rattle.core_cubes.specs.StatementCalls.{IsCallFor}
 use Rattle.core_events.specs.Events.{Opening}
 use Rattle.core_events.specs.Jobs.{CoreJob, JobOutcome}
 use Rattle.core_events.specs.ShardView.{ShardView}
-use Rattle.core_pasts.specs.CorePasts.{CorePast, IsOneMore, last_number, last_step}
+use Rattle.core_states.specs.CorePasts.{CorePast, IsOneMore, last_number, last_step}
 use Rattle.core_program.specs.CoreFits.{CoreEntry}
 use Rattle.core_records.specs.CoreRecords.{record_of}
 use Rattle.core_states.specs.ExecutedInCore.{ExecutesInCore, HasExecutedInCore}

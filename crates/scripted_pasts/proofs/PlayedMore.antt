@@ -4,11 +4,11 @@ use Rattle.std.specs.List.{AllZip, enumerate_from}
 use Rattle.core_events.specs.Events.{Opening}
 use Rattle.core_events.specs.Jobs.{CoreJob, JobOutcome}
 use Rattle.core_events.specs.ShardView.{ShardView}
-use Rattle.core_pasts.proofs.CallEntries.{none-left}
-use Rattle.core_pasts.proofs.LongerPasts.{executed, longer-by-one}
-use Rattle.core_pasts.specs.CorePasts.{CorePast, last_number, nothing_behind}
-use Rattle.core_pasts.specs.OwnCalls.{OwnCallsLeave}
-use Rattle.core_pasts.specs.RunsFrom.{GoesOn}
+use Rattle.core_states.proofs.CallEntries.{none-left}
+use Rattle.core_states.proofs.LongerPasts.{executed, longer-by-one}
+use Rattle.core_states.specs.CorePasts.{CorePast, last_number, nothing_behind}
+use Rattle.core_states.specs.OwnCalls.{OwnCallsLeave}
+use Rattle.core_states.specs.RunsFrom.{GoesOn}
 use Rattle.core_program.specs.CoreFits.{CoreEntry}
 use Rattle.core_states.proofs.LeftCalls.{longer-front}
 use Rattle.core_states.specs.ExecutedInCore.{HasOneMore}

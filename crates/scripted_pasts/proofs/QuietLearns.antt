@@ -9,7 +9,7 @@ use Rattle.core_events.specs.Events.{Opening, ClientCall, OnDesk, OnNames, Post,
 use Rattle.core_events.specs.Jobs.{CoreJob, Append, DropBox, Scan, Delta, Rollback, Purge, CopyRound, Flush, JobOutcome}
 use Rattle.core_events.specs.Clients.{calls_of}
 use Rattle.core_events.specs.ShardView.{ShardView}
-use Rattle.core_pasts.specs.OwnCalls.{OwnCallsLeave}
+use Rattle.core_states.specs.OwnCalls.{OwnCallsLeave}
 use Rattle.core_program.specs.CoreFits.{CoreEntry}
 use Rattle.core_program.specs.Knowing.{IsClientOf}
 use Rattle.core_records.specs.ScriptedCalls.{SpeaksByScript}

@@ -6,7 +6,7 @@ use mathlib.Core.List.{IsPrefix}
 use Rattle.core_events.specs.Events.{Opening}
 use Rattle.core_events.specs.Jobs.{CoreJob, JobOutcome}
 use Rattle.core_events.specs.ShardView.{ShardView}
-use Rattle.core_pasts.specs.CorePasts.{CorePast, IsOneMore, last_number, last_step}
+use Rattle.core_states.specs.CorePasts.{CorePast, IsOneMore, last_number, last_step}
 use Rattle.core_program.specs.CoreFits.{CoreEntry}
 use Rattle.core_states.specs.StandingInCore.{state_of_session}
 use Rattle.core_states.specs.declared.session.CoreSession.{CoreSession}

@@ -6,8 +6,8 @@ use Rattle.std.specs.List.{AllZip, enumerate_from}
 use Rattle.core_events.specs.Events.{Opening}
 use Rattle.core_events.specs.Jobs.{CoreJob, JobOutcome}
 use Rattle.core_events.specs.ShardView.{ShardView}
-use Rattle.core_pasts.specs.CorePasts.{CorePast, last_number}
-use Rattle.core_pasts.specs.RunsFrom.{GoesOn}
+use Rattle.core_states.specs.CorePasts.{CorePast, last_number}
+use Rattle.core_states.specs.RunsFrom.{GoesOn}
 use Rattle.core_program.specs.CoreFits.{CoreEntry}
 use Rattle.core_states.specs.StandingInCore.{state_of_session}
 use Rattle.core_states.specs.declared.session.CoreSession.{CoreSession}

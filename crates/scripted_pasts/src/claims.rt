@@ -1,6 +1,6 @@
 //! What is asked of runs for which promises are made.
 
-use core_pasts::Besides;
+use core_states::Besides;
 
 /// Runs that open with their cubes, and in which a round follows after so many commits of a session (0: after none).
 #[derive(Clone, Copy, Debug)]

@@ -7,7 +7,7 @@ ghost use Rattle.core_cells.specs.declared.desk.DeskCall.TheVariants as desk;
 ghost use Rattle.core_cubes.specs.ExecutedWatched.{ExecutesWatched};
 ghost use Rattle.core_cubes.specs.StatementCalls.{IsCallFor};
 ghost use Rattle.core_events.specs.Events.{ClientCall, CoreEvent, Opening};
-ghost use Rattle.core_pasts.specs.CorePasts.{nothing_behind};
+ghost use Rattle.core_states.specs.CorePasts.{nothing_behind};
 ghost use Rattle.core_program.specs.CoreFits.{CoreEntry};
 ghost use Rattle.core_program.specs.Knowing.{IsClientOf};
 ghost use Rattle.core_records.specs.CoreRecords.{RunScripts};

@@ -19,7 +19,7 @@ use Rattle.one_session.specs.Behind.{last_step}
 use Rattle.one_session.specs.Pasts.{Beginning, GoesOn, IsInTurn, IsOneMore, SessionPast, last_number}
 use Rattle.one_session.proofs.Befores.{before_first}
 use Rattle.one_session.proofs.Entries.{longer_by_one}
-use Rattle.aosi_register.specs.State.{state_of}
+use Rattle.aosi_desk.specs.State.{state_of}
 use Rattle.aosi_desk.specs.Desks.{DeskState, desk_with_entry}
 use Rattle.session_replies.specs.Modes.{mode_of}
 use Rattle.session_replies.proofs.Answers.{flushed, purged, shown}

@@ -10,7 +10,7 @@ use Rattle.cube_run.specs.RunTransactions.{epoch_done, operation_at}
 use Rattle.cube_run.specs.SessionStates.{Mode, Idle, Open, mode_after}
 use Rattle.one_session.specs.Behind.{last_step}
 use Rattle.one_session.specs.Pasts.{last_number}
-use Rattle.aosi_register.specs.State.{after_begin, state_of, writer_snapshot}
+use Rattle.aosi_desk.specs.State.{after_begin, state_of, writer_snapshot}
 use Rattle.aosi_desk.specs.Desks.{DeskState, desk_over}
 use Rattle.session_replies.specs.Modes.{mode_of}
 use Rattle.session_replies.proofs.Answers.{begun}

@@ -24,7 +24,7 @@ use Rattle.played_scripts.specs.PlayedRuns.{AreNumbered}
 use Rattle.one_session.specs.Behind.{last_step}
 use Rattle.one_session.specs.Pasts.{has_one_owner, last_number}
 use Rattle.one_session.proofs.Entries.{longer_by_one}
-use Rattle.aosi_register.specs.State.{after_abort, after_commit, held_epoch, state_of}
+use Rattle.aosi_desk.specs.State.{after_abort, after_commit, held_epoch, state_of}
 use Rattle.aosi_desk.specs.Desks.{DeskState, desk_over, speaks_of_cubes}
 use Rattle.session_replies.specs.declared.mode.SessionMode.{SessionMode}
 use Rattle.session_replies.specs.declared.mode.SessionMode.TheVariants as variant

@@ -3,7 +3,7 @@ use Rattle.std.proofs.Common.{◌≡◌, ◌∙◌, ℕ, Bool, true, false, [], 
 use Rattle.std.specs.Bool.{OnTrue}
 use Rattle.cube_journal.specs.Counters.{JournalState}
 use Rattle.cube_journal.specs.declared.journal_entry.JournalEntry.TheVariants as entry
-use Rattle.aosi_register.specs.State.{state_of}
+use Rattle.aosi_desk.specs.State.{state_of}
 use Rattle.aosi_desk.specs.Desks.{DeskState, desk_with_entry}
 use Rattle.session_desk.specs.AtDesk.{IsServing, KeepsServing, desk_with_entries}
 use Rattle.session_desk.specs.Entries.{HasFollowed, HasNotes, is_done, round_entries, wants_memory}

@@ -23,7 +23,7 @@ use Rattle.one_session.proofs.CubesBehind.{cubes_behind_more}
 use Rattle.one_session.proofs.Entries.{longer_by_one}
 use Rattle.one_session.proofs.InOrder.{order_kept}
 use Rattle.one_session.proofs.Steps.{executed, no_change_more, there}
-use Rattle.aosi_register.specs.State.{state_of}
+use Rattle.aosi_desk.specs.State.{state_of}
 use Rattle.aosi_desk.specs.Desks.{DeskState}
 use Rattle.session_replies.specs.Modes.{mode_of}
 use Rattle.session_desk.specs.declared.session.Session.{Session}

@@ -19,7 +19,7 @@ use Rattle.cube_run.specs.SessionStates.{Mode, Idle, mode_after}
 use Rattle.one_session.specs.Behind.{last_step}
 use Rattle.one_session.specs.Pasts.{last_number}
 use Rattle.one_session.proofs.Entries.{longer_by_one}
-use Rattle.aosi_register.specs.State.{state_of}
+use Rattle.aosi_desk.specs.State.{state_of}
 use Rattle.cube_language.specs.CubesText.{cubes_limit}
 use Rattle.cube_journal.specs.Legal.{has_cube}
 use Rattle.aosi_desk.specs.Desks.{DeskState, cube_answer, decl_names, desk_after_answer, desk_with_cube}

@@ -7,7 +7,7 @@ use Rattle.cube_journal.specs.Legal.{has_cube}
 use Rattle.cube_journal.specs.declared.refusal.Refusal.{Refusal}
 use Rattle.cube_journal.specs.declared.reply.Reply.{Reply}
 use Rattle.cube_journal.specs.declared.reply.Reply.TheVariants as reply
-use Rattle.aosi_register.specs.State.{state_of}
+use Rattle.aosi_desk.specs.State.{state_of}
 use Rattle.aosi_desk.specs.Desks.{DeskState, cube_answer, decl_names, desk_after_answer}
 use Rattle.aosi_desk.specs.declared.cube.CubeAnswer.{CubeAnswer}
 use Rattle.aosi_desk.specs.declared.cube.CubeAnswer.TheVariants.{Created, Exists, TooMany}

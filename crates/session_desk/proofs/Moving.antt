@@ -10,7 +10,7 @@ use Rattle.cube_journal.specs.declared.journal_entry.JournalEntry.{JournalEntry}
 use Rattle.cube_journal.specs.declared.journal_entry.JournalEntry.TheVariants as entry
 use Rattle.cube_run.specs.RunTransactions.{is_commit_of}
 use Rattle.cube_run.specs.SessionSteps.{belongs_to, session_part}
-use Rattle.aosi_register.specs.State.{state_of}
+use Rattle.aosi_desk.specs.State.{state_of}
 use Rattle.aosi_desk.specs.Desks.{DeskState, desk_with_entry}
 use Rattle.session_desk.specs.AtDesk.{desk_with_entries}
 use Rattle.session_desk.specs.Entries.{round_entries}

@@ -14,7 +14,7 @@ use Rattle.one_session.specs.Pasts.{Beginning, SessionPast, has_one_owner}
 use Rattle.one_session.proofs.Settled.{all_filter, all_more}
 use Rattle.cube_run.specs.SessionStates.{Open}
 use Rattle.cube_values.specs.declared.snapshot.Snapshot.{Snapshot}
-use Rattle.aosi_register.specs.State.{state_of}
+use Rattle.aosi_desk.specs.State.{state_of}
 use Rattle.session_replies.specs.Modes.{mode_of}
 use Rattle.session_desk.specs.AtDesk.{IsServing, pending_in}
 use Rattle.session_desk.specs.Standing.{StandsBehind, World}

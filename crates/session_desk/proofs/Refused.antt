@@ -11,7 +11,7 @@ use Rattle.cube_journal.specs.declared.reply.Reply.TheVariants as reply
 use Rattle.cube_journal.proofs.Orders.{state-with}
 use Rattle.cube_run.specs.RunRecords.{Sentence, Says, SaysNone}
 use Rattle.cube_run.specs.StepOutcomes.{refused_by_mode}
-use Rattle.aosi_register.specs.State.{state_of}
+use Rattle.aosi_desk.specs.State.{state_of}
 use Rattle.aosi_desk.specs.Desks.{DeskState, desk_with_entry}
 use Rattle.session_replies.specs.Modes.{mode_of}
 use Rattle.session_replies.proofs.Refusing.{refused_by_its_mode, spells_none, without_memory}

@@ -13,7 +13,7 @@ use Rattle.session_desk.specs.declared.session.Session.{Session}
 use Rattle.session_desk.specs.Executed.{ExecutesAtDesk, IfReplied}
 use Rattle.session_desk.specs.AtDesk.{IsAtDesk, IsServing, KeepsServing}
 use Rattle.session_desk.specs.Executed.{OnStopped}
-use Rattle.aosi_register.specs.State.{state_of}
+use Rattle.aosi_desk.specs.State.{state_of}
 use Rattle.session_replies.specs.Modes.{mode_of}
 use Rattle.session_desk.proofs.RoundEntries.{keeps_same}
 use Rattle.session_desk.proofs.Refused.{Refuses, at_refused, executes_without_memory}

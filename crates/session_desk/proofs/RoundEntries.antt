@@ -12,7 +12,7 @@ use Rattle.cube_run.specs.RunRecords.{RunRecord, made_by}
 use Rattle.cube_run.specs.SessionStates.{Mode, Idle, Open, Aborted}
 use Rattle.cube_run.specs.SessionSteps.{session_part}
 use Rattle.one_session.specs.Pasts.{has_one_owner}
-use Rattle.aosi_register.specs.State.{state_of}
+use Rattle.aosi_desk.specs.State.{state_of}
 use Rattle.aosi_desk.specs.Desks.{DeskState, speaks_of_cubes}
 use Rattle.session_desk.specs.AtDesk.{IsServing, KeepsServing, change_epoch, desk_with_entries}
 use Rattle.session_desk.specs.Entries.{round_entries}

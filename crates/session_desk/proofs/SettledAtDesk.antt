@@ -6,7 +6,7 @@ use Rattle.cube_journal.specs.declared.counters.OpenSnapshot.{OpenSnapshot}
 use Rattle.cube_run.specs.SessionStates.{Mode, Idle, Open, Aborted}
 use Rattle.one_session.specs.Behind.{IsSettled}
 use Rattle.one_session.specs.Pasts.{Beginning, SessionPast}
-use Rattle.aosi_register.specs.State.{state_of}
+use Rattle.aosi_desk.specs.State.{state_of}
 use Rattle.session_replies.specs.Modes.{mode_of}
 use Rattle.session_desk.specs.AtDesk.{IsServing, change_epoch}
 use Rattle.session_desk.specs.Standing.{StandsBehind, World}

@@ -18,7 +18,7 @@ use Rattle.played_scripts.specs.PlayedRuns.{AreNumbered}
 use Rattle.one_session.specs.Behind.{last_step}
 use Rattle.one_session.specs.Pasts.{Beginning, GoesOn, IsOneMore, SessionPast, has_one_owner, last_number}
 use Rattle.one_session.proofs.Entries.{longer_by_one}
-use Rattle.aosi_register.specs.State.{state_of}
+use Rattle.aosi_desk.specs.State.{state_of}
 use Rattle.aosi_desk.specs.Desks.{DeskState}
 use Rattle.session_replies.specs.Modes.{mode_of}
 use Rattle.session_replies.specs.StepParts.{IsStep}

@@ -5,7 +5,7 @@ use Rattle.cube_values.specs.declared.snapshot.Snapshot.{Snapshot}
 use Rattle.cube_journal.specs.declared.journal_entry.AbortCause.{AbortCause}
 use Rattle.cube_journal.specs.declared.journal_entry.JournalEntry.TheVariants as entry
 use Rattle.cube_run.specs.SessionStates.{Mode, Idle, Open, Aborted}
-use Rattle.aosi_register.specs.State.{after_abort, after_begin, after_commit, held_epoch, state_of}
+use Rattle.aosi_desk.specs.State.{after_abort, after_begin, after_commit, held_epoch, state_of}
 use Rattle.aosi_desk.specs.Desks.{DeskState, desk_after_answer, desk_over}
 use Rattle.aosi_desk.specs.declared.cube.CubeAnswer.{CubeAnswer}
 use Rattle.aosi_desk.specs.declared.cube.CubeAnswer.TheVariants.{Created, Exists, TooMany}

@@ -7,7 +7,7 @@ use Rattle.cube_journal.specs.Counters.{JournalState}
 use Rattle.cube_journal.specs.declared.counters.OpenSnapshot.{OpenSnapshot}
 use Rattle.cube_journal.specs.declared.journal_entry.JournalEntry.{JournalEntry}
 use Rattle.cube_run.specs.SessionStates.{Mode, Open}
-use Rattle.aosi_register.specs.State.{state_of}
+use Rattle.aosi_desk.specs.State.{state_of}
 use Rattle.aosi_desk.specs.Desks.{DeskState, desk_over}
 use Rattle.session_replies.specs.Modes.{mode_of}
 use Rattle.session_replies.specs.declared.mode.SessionMode.{SessionMode}

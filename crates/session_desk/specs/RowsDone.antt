@@ -10,7 +10,7 @@ use Rattle.cube_run.specs.SessionSteps.{session_part}
 use Rattle.played_scripts.specs.PlayedRuns.{AreNumbered}
 use Rattle.one_session.specs.Changes.{is_begin_of}
 use Rattle.one_session.specs.Pasts.{SessionPast, has_one_owner, last_number}
-use Rattle.aosi_register.specs.State.{state_of}
+use Rattle.aosi_desk.specs.State.{state_of}
 use Rattle.aosi_desk.specs.Desks.{DeskState, speaks_of_cubes}
 use Rattle.session_replies.specs.Modes.{mode_of}
 use Rattle.session_desk.specs.declared.session.Session.{Session}

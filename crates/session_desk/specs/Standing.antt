@@ -7,7 +7,7 @@ use Rattle.cube_run.specs.SessionStates.{SessionState}
 use Rattle.one_session.specs.Behind.{HaveDone, cubes_behind}
 use Rattle.one_session.specs.Changes.{AreInEpochOrder}
 use Rattle.one_session.specs.Pasts.{Beginning, GoesOn, IsOwned, SessionPast, last_number}
-use Rattle.aosi_register.specs.State.{state_of}
+use Rattle.aosi_desk.specs.State.{state_of}
 use Rattle.aosi_desk.specs.Desks.{DeskState}
 use Rattle.session_replies.specs.Modes.{mode_of}
 use Rattle.session_desk.specs.declared.session.Session.{Session}

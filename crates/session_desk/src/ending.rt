@@ -4,7 +4,7 @@ ghost use Rattle.std.specs.Prelude.{◌≡◌, ◌≤◌, OnOk, OnErr, None};
 ghost use Rattle.aosi_desk.specs.Desks.{opening_of};
 ghost use Rattle.one_session.specs.Pasts.{Beginning, SessionPast};
 ghost use Rattle.cube_run.specs.SessionStates.{SessionState};
-ghost use Rattle.aosi_register.specs.State.{state_of};
+ghost use Rattle.aosi_desk.specs.State.{state_of};
 ghost use Rattle.session_replies.specs.Modes.{mode_of};
 ghost use Rattle.session_desk.specs.AtDesk.{IsAtDesk, IsOpen, desk_with_entries};
 ghost use Rattle.session_desk.specs.Entries.{round_entries};

@@ -17,7 +17,7 @@ ghost use Rattle.condition_spans.specs.Codes.{lists_at};
 ghost use Rattle.one_session.specs.Behind.{HasDone, IsSettled, last_step};
 ghost use Rattle.one_session.specs.Changes.{AreNamedApart, is_begin_of};
 ghost use Rattle.one_session.specs.Pasts.{Beginning, GoesOn, IsOneMore, NamesOnlyCome, SessionPast};
-ghost use Rattle.aosi_register.specs.State.{state_of};
+ghost use Rattle.aosi_desk.specs.State.{state_of};
 ghost use Rattle.aosi_desk.specs.Desks.{AreCubes, DeskState};
 ghost use Rattle.session_replies.specs.Modes.{mode_of};
 ghost use Rattle.session_replies.specs.RowSteps.{IsOnCube, final_names};

@@ -7,7 +7,7 @@ ghost use Rattle.session_desk.specs.AtDesk.{IsAtDesk};
 ghost use Rattle.cube_journal.specs.Legal.{WasFlushed};
 ghost use Rattle.cube_journal.specs.declared.journal_entry.JournalEntry.TheVariants as entry;
 ghost use Rattle.cube_journal.specs.declared.reply.Reply.TheVariants as reply;
-ghost use Rattle.aosi_register.specs.State.{state_of};
+ghost use Rattle.aosi_desk.specs.State.{state_of};
 ghost use Rattle.aosi_desk.specs.Desks.{desk_with_entry, opening_of};
 ghost use Rattle.session_desk.specs.Executed.{ExecutesAtDesk, IfReplied, OnStopped};
 ghost use Rattle.session_desk.specs.FileReplies.{SpeaksOfNoFile};

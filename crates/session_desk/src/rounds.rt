@@ -3,7 +3,7 @@
 ghost use Rattle.std.specs.Prelude.{◌≡◌, true, None, OnOk, OnErr};
 ghost use Rattle.std.specs.Bool.{OnTrue};
 ghost use Rattle.cube_journal.specs.Legal.{MayAskRound, WasFlushed, WasSafe};
-ghost use Rattle.aosi_register.specs.State.{state_of};
+ghost use Rattle.aosi_desk.specs.State.{state_of};
 ghost use Rattle.cube_journal.specs.declared.journal_entry.JournalEntry.TheVariants as entry;
 ghost use Rattle.aosi_desk.specs.Desks.{desk_with_entry, opening_of};
 ghost use Rattle.session_desk.specs.AtDesk.{KeepsServing, desk_with_entries};

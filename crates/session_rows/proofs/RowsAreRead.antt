@@ -25,7 +25,7 @@ use Rattle.one_session.specs.Pasts.{Beginning, GoesOn, SessionPast}
 use Rattle.one_session.proofs.Answering.{reader_answers, writer_answers}
 use Rattle.one_session.proofs.Befores.{le_yes}
 use Rattle.one_session.proofs.CubesBehind.{cubes_stay}
-use Rattle.aosi_register.specs.State.{state_of}
+use Rattle.aosi_desk.specs.State.{state_of}
 use Rattle.aosi_desk.specs.Desks.{DeskState}
 use Rattle.plain_rows.specs.HeldRows.{rows_at}
 use Rattle.session_replies.specs.Modes.{mode_of}

@@ -8,7 +8,7 @@ use Rattle.cube_language.specs.declared.decl.Decl.{Decl}
 use Rattle.cube_journal.specs.declared.reply.Reply.{Reply}
 use Rattle.cube_run.specs.RunRecords.{Sentence}
 use Rattle.cube_run.specs.SessionStates.{Mode, Idle, Open, Aborted}
-use Rattle.aosi_register.specs.State.{state_of}
+use Rattle.aosi_desk.specs.State.{state_of}
 use Rattle.aosi_desk.specs.Desks.{DeskState}
 use Rattle.one_session.specs.Changes.{rows_with_change}
 use Rattle.one_session.specs.Pasts.{Beginning, SessionPast}

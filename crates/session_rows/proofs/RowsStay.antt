@@ -10,7 +10,7 @@ use Rattle.cube_journal.specs.declared.journal_entry.JournalEntry.{JournalEntry}
 use Rattle.cube_run.specs.RunTransactions.{is_commit_of}
 use Rattle.cube_run.specs.SessionStates.{Mode, Idle, Open, Aborted}
 use Rattle.cube_run.specs.SessionSteps.{session_part}
-use Rattle.aosi_register.specs.State.{state_of}
+use Rattle.aosi_desk.specs.State.{state_of}
 use Rattle.aosi_desk.specs.Desks.{DeskState}
 use Rattle.one_session.specs.Changes.{rows_with_changes, rows_changed}
 use Rattle.one_session.specs.Pasts.{Beginning, GoesOn, SessionPast, nothing_behind}

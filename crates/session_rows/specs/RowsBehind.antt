@@ -11,7 +11,7 @@ use Rattle.names_dict.specs.Dictionaries.{Dictionary, names_of}
 use Rattle.condition_spans.specs.Codes.{lists_at}
 use Rattle.one_session.specs.Changes.{StandsForDone}
 use Rattle.one_session.specs.Pasts.{Beginning, GoesOn, SessionPast}
-use Rattle.aosi_register.specs.State.{state_of}
+use Rattle.aosi_desk.specs.State.{state_of}
 use Rattle.aosi_desk.specs.Desks.{DeskState}
 use Rattle.plain_rows.specs.HeldRows.{HeldRows, rows_at}
 use Rattle.row_encoding.specs.CodedTexts.{HavePlaces}

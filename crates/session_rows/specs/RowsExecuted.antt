@@ -7,7 +7,7 @@ use Rattle.cube_run.specs.RunRecords.{RunRecord, Sentence}
 use Rattle.cube_run.specs.SessionStates.{Idle}
 use Rattle.one_session.specs.Changes.{ChangeAt, rows_with_change}
 use Rattle.one_session.specs.Pasts.{Beginning, GoesOn, SessionPast}
-use Rattle.aosi_register.specs.State.{state_of}
+use Rattle.aosi_desk.specs.State.{state_of}
 use Rattle.plain_rows.specs.HeldRows.{HeldRows, rows_at}
 use Rattle.session_replies.specs.Modes.{mode_of}
 use Rattle.session_desk.specs.AtDesk.{HasLastWriter}

@@ -14,7 +14,7 @@ ghost use Rattle.names_dict.specs.Dictionaries.{Dictionary, names_of};
 ghost use Rattle.cube_run.specs.SessionStates.{fresh_session};
 ghost use Rattle.one_session.specs.Changes.{AllStandForValues, AreNamedApart};
 ghost use Rattle.one_session.specs.Pasts.{Beginning, EndsWithMore, GoesOn, IsOneMore, SessionPast, last_number, nothing_behind};
-ghost use Rattle.aosi_register.specs.State.{state_of};
+ghost use Rattle.aosi_desk.specs.State.{state_of};
 ghost use Rattle.row_encoding.specs.DictsAsEncoder.{MayEndWith};
 ghost use Rattle.plain_rows.specs.HeldRows.{HeldRows};
 ghost use Rattle.session_replies.specs.Modes.{mode_of};

@@ -19,7 +19,7 @@ use Rattle.core_events.specs.Clients.{ClientState, calls_of, state_from_calls}
 use Rattle.core_events.specs.Events.{Opening, IsSession, ClientCall}
 use Rattle.core_events.specs.Jobs.{CoreJob, JobOutcome}
 use Rattle.core_events.specs.ShardView.{ShardView}
-use Rattle.core_links.specs.DeskEvents.{FitsDeskCall}
+use Rattle.core_board_cells.specs.DeskEvents.{FitsDeskCall}
 use Rattle.core_program.specs.CoreFits.{CoreEntry}
 use Rattle.cube_core.specs.declared.cell.CoreCell.{CoreCell}
 use Rattle.cube_core.specs.declared.shard.ShardAnswer.{ShardAnswer}

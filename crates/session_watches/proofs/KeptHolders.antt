@@ -18,8 +18,8 @@ use Rattle.core_events.specs.Events.{Opening, ClientCall, CoreEvent}
 use Rattle.core_events.specs.Groups.{JobGroup}
 use Rattle.core_events.specs.Jobs.{CoreJob, JobOutcome}
 use Rattle.core_events.specs.ShardView.{ShardView}
-use Rattle.core_links.specs.DeskEvents.{desk_event}
-use Rattle.core_links.specs.NamesEvents.{names_event}
+use Rattle.core_board_cells.specs.DeskEvents.{desk_event}
+use Rattle.core_board_cells.specs.NamesEvents.{names_event}
 use Rattle.core_program.specs.CoreFits.{CoreEntry}
 use Rattle.cube_core.specs.declared.cell.CoreCell.{CoreCell}
 use Rattle.cube_core.specs.declared.jobs.JobAnswer.{JobAnswer}

@@ -4,7 +4,7 @@ use Rattle.client_calls.specs.ClientCalls.{desk_entry}
 use Rattle.core_program.specs.Knowing.{IsClientOf}
 use Rattle.core_cells.specs.declared.desk.DeskAnswer.TheVariants as answer
 use Rattle.core_cells.specs.declared.desk.DeskCall.TheVariants as call
-use Rattle.core_pasts.proofs.CallEntries.{commits-at}
+use Rattle.core_states.proofs.CallEntries.{commits-at}
 use Rattle.core_program.specs.CoreFits.{CoreEntry}
 use Rattle.core_states.proofs.LeftCalls.{left-by-call}
 use Rattle.core_states.specs.StandingInCore.{HoldsForMode}

@@ -6,8 +6,8 @@ use Rattle.core_cells.specs.declared.desk.DeskAnswer.TheVariants as answer
 use Rattle.core_cells.specs.declared.desk.DeskCall.TheVariants as call
 use Rattle.core_program.specs.Knowing.{IsClientOf, IsSessionOf}
 use Rattle.core_serial.specs.Journals.{journal_of}
-use Rattle.core_pasts.specs.CorePasts.{last_number}
-use Rattle.core_pasts.specs.OwnCalls.{OwnCallsLeave}
+use Rattle.core_states.specs.CorePasts.{last_number}
+use Rattle.core_states.specs.OwnCalls.{OwnCallsLeave}
 use Rattle.core_program.specs.CoreFits.{CoreEntry}
 use Rattle.core_records.specs.CoreRecords.{record_of}
 use Rattle.core_states.proofs.Growing.{executes, parts-of}

@@ -6,7 +6,7 @@ use Rattle.core_program.proofs.KnownCalls.{earlier-run}
 use Rattle.core_program.specs.Knowing.{IsLaterRun}
 use Rattle.core_events.specs.Clients.{calls_of}
 use Rattle.core_events.specs.Events.{Opening, OnDesk, OnNames, Post, Fetch, CloseMail, NoChange, ClientCall, CoreEvent}
-use Rattle.core_pasts.specs.OwnCalls.{OwnCallsLeave}
+use Rattle.core_states.specs.OwnCalls.{OwnCallsLeave}
 use Rattle.core_program.specs.CoreFits.{CoreEntry}
 use Rattle.core_records.specs.OwnEntries.{entries_by_calls}
 use Rattle.core_states.proofs.LeftCalls.{all-of-both}

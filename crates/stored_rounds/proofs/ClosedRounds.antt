@@ -1,9 +1,9 @@
 -- What is kept once the flusher has closed its round, and that its calls are those of such a round.
 use Rattle.std.proofs.Common.{◌≡◌, ◌⊎◌, ◌∙◌, ℕ, Bool, true, false, List, [], ◌∷◌, ◌++◌, append_assoc, length, map, MatchBool, if◌then◌else◌, refl, sym, ap, subst, eq-eqb}
 use Rattle.std.specs.List.{AllByRecursion}
-use Rattle.aosi_register.specs.declared.answer.RoundAnswer.TheVariants.{Target}
-use Rattle.aosi_register.specs.declared.answer.RoundEnd.{RoundEnd}
-use Rattle.aosi_register.specs.declared.answer.RoundEnd.TheVariants as end
+use Rattle.aosi_desk.specs.declared.answer.RoundAnswer.TheVariants.{Target}
+use Rattle.aosi_desk.specs.declared.answer.RoundEnd.{RoundEnd}
+use Rattle.aosi_desk.specs.declared.answer.RoundEnd.TheVariants as end
 use Rattle.client_calls.specs.ClientCalls.{desk_entry}
 use Rattle.core_cells.specs.declared.desk.DeskAnswer.TheVariants as answer
 use Rattle.core_cells.specs.declared.desk.DeskCall.TheVariants as call

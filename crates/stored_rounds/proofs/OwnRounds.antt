@@ -1,14 +1,14 @@
 -- What the flusher's store keeps before it opens a round is kept once it has, and the store takes that round.
 use Rattle.std.proofs.Common.{◌≡◌, ◌∙◌, ℕ, Bool, true, false, List, [], ◌∷◌, ◌++◌, length, Option, Some, None, MatchBool, if◌then◌else◌, refl, sym, ap, subst}
 use Rattle.std.specs.Option.{option_map_or}
-use Rattle.aosi_register.specs.declared.answer.RoundAnswer.{RoundAnswer}
-use Rattle.aosi_register.specs.declared.answer.RoundAnswer.TheVariants.{Target}
+use Rattle.aosi_desk.specs.declared.answer.RoundAnswer.{RoundAnswer}
+use Rattle.aosi_desk.specs.declared.answer.RoundAnswer.TheVariants.{Target}
 use Rattle.core_board.specs.Links.{AreEventsOf}
 use Rattle.core_cells.specs.declared.desk.DeskAnswer.TheVariants as answer
 use Rattle.core_cells.specs.declared.desk.DeskCall.TheVariants as call
 use Rattle.core_events.specs.Clients.{ClientState, calls_of, state_from_calls}
 use Rattle.core_events.specs.Events.{Opening, RoundOpen, OnDesk, ClientCall, CoreEvent, By}
-use Rattle.core_links.specs.DeskEvents.{desk_event}
+use Rattle.core_board_cells.specs.DeskEvents.{desk_event}
 use Rattle.core_program.proofs.ClientRuns.{client-run}
 use Rattle.core_program.proofs.FlusherCalls.{is-client}
 use Rattle.core_program.proofs.KnownCalls.{client-part, go-on-from}

@@ -1,9 +1,9 @@
 -- The desk's latest safe epoch is the one that the flusher's calls tell, and a round that it opens begins there.
 use Rattle.std.proofs.Common.{◌≡◌, ◌∙◌, ℕ, ◌==◌, Bool, true, false, true≢false, List, [], ◌∷◌, refl, sym, ap, eqb-true, eq-eqb, if◌then◌else◌}
-use Rattle.aosi_register.specs.State.{round_answer}
-use Rattle.aosi_register.specs.declared.answer.RoundAnswer.{RoundAnswer}
-use Rattle.aosi_register.specs.declared.answer.RoundAnswer.TheVariants.{Target, Nothing}
-use Rattle.aosi_register.specs.declared.answer.RoundEnd.TheVariants.{Safe, Lost}
+use Rattle.aosi_desk.specs.State.{round_answer}
+use Rattle.aosi_desk.specs.declared.answer.RoundAnswer.{RoundAnswer}
+use Rattle.aosi_desk.specs.declared.answer.RoundAnswer.TheVariants.{Target, Nothing}
+use Rattle.aosi_desk.specs.declared.answer.RoundEnd.TheVariants.{Safe, Lost}
 use Rattle.core_events.proofs.DeskSteps.{client_entry, run-step, state_with_entry}
 use Rattle.core_events.proofs.RoundEnds.{closes_round, lse-same}
 use Rattle.core_events.specs.Cells.{counters_of_run}

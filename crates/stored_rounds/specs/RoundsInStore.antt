@@ -8,8 +8,8 @@
 --
 -- Source: Cubrick (VLDB 2016), flush rounds; AOSI (ICDE 2018), LSE and recovery; two files are this project's own.
 use Rattle.std.specs.Prelude.{◌≡◌, ◌⊎◌, ℕ, true, false, List, [], ◌∷◌, ◌++◌, MatchBool}
-use Rattle.aosi_register.specs.declared.answer.RoundEnd.{RoundEnd}
-use Rattle.aosi_register.specs.declared.answer.RoundEnd.TheVariants as end
+use Rattle.aosi_desk.specs.declared.answer.RoundEnd.{RoundEnd}
+use Rattle.aosi_desk.specs.declared.answer.RoundEnd.TheVariants as end
 use Rattle.cube_journal.specs.declared.journal_entry.LostCause.TheVariants.{Disk}
 use Rattle.cube_rounds.specs.Stands.{Kept}
 use Rattle.cube_rounds.specs.declared.round.Round.{Round}

@@ -1,7 +1,7 @@
 -- The latest safe epoch, as the flusher's own calls tell it.
 -- Source: AOSI (ICDE 2018), LSE and flush rounds; what is known by own calls is this project's own.
 use Rattle.std.specs.Prelude.{ℕ, List, [], ◌∷◌}
-use Rattle.aosi_register.specs.declared.answer.RoundEnd.TheVariants.{Safe}
+use Rattle.aosi_desk.specs.declared.answer.RoundEnd.TheVariants.{Safe}
 use Rattle.core_events.specs.Events.{Opening, RoundClose, ClientCall, OnDesk}
 
 -- A round that is closed as safe makes its epoch the latest safe one.

@@ -1,6 +1,6 @@
 //! One round that is kept in a store.
 ghost use Rattle.std.specs.Prelude.{◌≡◌, ◌+◌, ◌≤◌, false};
-ghost use Rattle.aosi_register.specs.declared.answer.RoundAnswer.TheVariants as asked;
+ghost use Rattle.aosi_desk.specs.declared.answer.RoundAnswer.TheVariants as asked;
 ghost use Rattle.core_events.specs.Clients.{is_lost_to_disk};
 ghost use Rattle.core_program.specs.Flushing.{IsFlusherOf};
 ghost use Rattle.cube_rounds.specs.Stands.{Kept};

@@ -260,8 +260,7 @@ returns-in-None-clause-stopped g c =
 
 pub returns-in-Some-clause-goes_on : goal.returns-in-Some-clause-goes_on
 returns-in-Some-clause-goes_on g c =
-    let session = c.args.session.now in
-    (
+    let session = c.args.session.now in (
       desk_entry (g.P.CellCaller.number c.args.caller.now)
           (call.FindCube session.number (session.statements + 1) c.args.wanted) (answer.Found c.in-Some.found) ∷ [],
       sym c.in-Some.ensures.own,

@@ -1,6 +1,6 @@
 use Rattle.std.proofs.Common.{sym, refl}
-use Rattle.answered_queries.specs.ReadingCalls.{GoesOnByReading}
-use Rattle.answered_queries.specs.SelectEnds.{EndsSelect, HasOpenedReader}
+use Rattle.core_selects.specs.ReadingCalls.{GoesOnByReading}
+use Rattle.core_selects.specs.SelectEnds.{EndsSelect, HasOpenedReader}
 use Rattle.core_selects.proofs.EndedSelects.{none-opened, opened-as, opened-reader, told-then, tried-ends, tried-reads}
 use Rattle.core_selects.proofs.Refusing.{reading-opened, reading-then}
 use Rattle.core_states.specs.StandingInCore.{HoldsForMode}

@@ -1,5 +1,5 @@
 use Rattle.std.proofs.Common.{refl}
-use Rattle.answered_queries.specs.SelectEnds.{read_inside}
+use Rattle.core_selects.specs.SelectEnds.{read_inside}
 use Rattle.core_selects.proofs.EndedSelects.{holding-reads, tried-ends, tried-reads}
 use Rattle.core_states.specs.StandingInCore.{HoldsForMode}
 use Rattle.cube_journal.specs.declared.refusal.Refusal.TheVariants.{NoMemory}

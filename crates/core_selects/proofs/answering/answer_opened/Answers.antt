@@ -1,6 +1,6 @@
-use Rattle.answered_queries.specs.ReadLines.{HasReadLines}
-use Rattle.answered_queries.specs.ReadingCalls.{GoesOnByReading}
-use Rattle.answered_queries.specs.SelectEnds.{HasClosedReader, read_alone}
+use Rattle.core_selects.specs.ReadLines.{HasReadLines}
+use Rattle.core_selects.specs.ReadingCalls.{GoesOnByReading}
+use Rattle.core_selects.specs.SelectEnds.{HasClosedReader, read_alone}
 use Rattle.core_selects.proofs.EndedSelects.{gave-up, holding-reads}
 use Rattle.core_selects.proofs.Refusing.{reading-closed, reading-then}
 use Rattle.core_selects.specs.ScanSteps.{HasGivenUp}

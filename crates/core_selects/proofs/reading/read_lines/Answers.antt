@@ -1,11 +1,11 @@
 use Rattle.std.proofs.Common.{List, Some, sym, subst}
 use Rattle.std.proofs.lemmas.Result.{IfOk-weaker}
-use Rattle.answered_queries.specs.ReadLines.{GoesOnHolding}
+use Rattle.core_selects.specs.ReadLines.{GoesOnHolding}
 use Rattle.core_program.specs.CoreFits.{CoreEntry}
 use Rattle.core_selects.proofs.AsksOfCube.{may-copy}
 use Rattle.core_selects.proofs.GoneOn.{holding-names, holding-then, same-here}
 use Rattle.core_selects.specs.ScanSteps.{HasNamedLines}
-use Rattle.answered_queries.specs.ReadLines.{HasReadLines}
+use Rattle.core_selects.specs.ReadLines.{HasReadLines}
 use Rattle.known_cubes.proofs.ToldCubes.{told-later}
 use Rattle.known_cubes.specs.KnownCubes.{IsToldOfCube}
 use Rattle.scripted_pasts.specs.Served.{IsServed}

@@ -1,5 +1,5 @@
 use Rattle.std.proofs.lemmas.Result.{IfOk-weaker}
-use Rattle.answered_queries.specs.ReadLines.{AreFirstOfTable, GoesOnHolding}
+use Rattle.core_selects.specs.ReadLines.{AreFirstOfTable, GoesOnHolding}
 use Rattle.board_callers.specs.Callers.{HasHistoryOf}
 use Rattle.condition_spans.specs.Codes.{lists_at}
 use Rattle.core_program.specs.CoreFits.{FitsOwnCalls}

@@ -1,5 +1,5 @@
 use Rattle.std.proofs.Common.{subst}
-use Rattle.answered_queries.specs.SelectEnds.{EndsSelect, without_memory}
+use Rattle.core_selects.specs.SelectEnds.{EndsSelect, without_memory}
 use Rattle.core_selects.proofs.EndedSelects.{ends-unfit}
 use Rattle.core_selects.proofs.Refusing.{ends-refused, reading-refused}
 use Rattle.core_selects.specs.ScanSteps.{IsMisfitIn}

@@ -1,5 +1,5 @@
 use Rattle.std.proofs.Common.{sym, subst}
-use Rattle.answered_queries.specs.SelectEnds.{EndsSelect}
+use Rattle.core_selects.specs.SelectEnds.{EndsSelect}
 use Rattle.core_selects.proofs.PerformedSelects.{misfit-in}
 use Rattle.cube_language.specs.declared.decl.Decl.{Decl}
 use Rattle.known_cubes.specs.KnownCubes.{IsToldOfCube}

@@ -1,6 +1,6 @@
 use Rattle.std.proofs.Common.{◌≡◌, ◌+◌, None, refl, sym, subst}
-use Rattle.answered_queries.specs.ReadingCalls.{GoesOnByReading}
-use Rattle.answered_queries.specs.SelectEnds.{EndsSelect}
+use Rattle.core_selects.specs.ReadingCalls.{GoesOnByReading}
+use Rattle.core_selects.specs.SelectEnds.{EndsSelect}
 use Rattle.core_selects.proofs.PerformedSelects.{found-reads, no-change, where-stopped, whether-stopped}
 use Rattle.core_selects.proofs.Refusing.{weaker}
 use Rattle.core_states.specs.declared.session.CoreSession.{CoreSession}

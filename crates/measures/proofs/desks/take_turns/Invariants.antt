@@ -1,5 +1,5 @@
 use Rattle.std.proofs.Common.{◌≡◌, ◌+◌, []}
-use Rattle.aosi_register.specs.State.{state_of}
+use Rattle.aosi_desk.specs.State.{state_of}
 use Rattle.measures.proofs.desks.take_turns.Given as goal
 
 abbrev pub invariant-turns : goal.invariant-turns

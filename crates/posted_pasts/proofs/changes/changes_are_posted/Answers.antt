@@ -3,7 +3,7 @@ use Rattle.std.proofs.Common.{[], ◌∷◌}
 use Rattle.core_events.specs.Serial.{DropRows}
 use Rattle.core_records.proofs.NamedApart.{record-apart}
 use Rattle.core_records.specs.CoreRecords.{record_of}
-use Rattle.core_pasts.specs.CorePasts.{last_step}
+use Rattle.core_states.specs.CorePasts.{last_step}
 use Rattle.posted_pasts.proofs.ChangesStand.{drop-change, put-change}
 use Rattle.posted_pasts.proofs.PostsMore.{with-change}
 use Rattle.posted_pasts.proofs.changes.changes_are_posted.Goals as goal

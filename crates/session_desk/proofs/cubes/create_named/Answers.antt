@@ -13,7 +13,7 @@ use Rattle.session_desk.proofs.Making.{answers_made, at_answer}
 use Rattle.session_desk.proofs.MakingCubes.{after_reply, desk_cubes, new_name, refusal_makes_none, refusal_names_none}
 use Rattle.session_desk.proofs.Replying.{at_refuse, counted, memory_refused}
 use Rattle.std.proofs.Common.{None}
-use Rattle.aosi_register.specs.State.{state_of}
+use Rattle.aosi_desk.specs.State.{state_of}
 use Rattle.session_replies.specs.Modes.{mode_of}
 use Rattle.session_desk.proofs.Turning.{keeps_itself, moves_answered, moves_from}
 use Rattle.session_desk.proofs.Unread.{created_unread}

@@ -8,7 +8,7 @@ use Rattle.session_desk.specs.Executed.{ExecutesAtDesk}
 use Rattle.session_desk.proofs.Making.{refuses_faulty}
 use Rattle.session_desk.proofs.Replying.{counted, if_refused, refuses_next}
 use Rattle.session_desk.proofs.Turning.{keeps_itself}
-use Rattle.aosi_register.specs.State.{state_of}
+use Rattle.aosi_desk.specs.State.{state_of}
 use Rattle.session_replies.specs.Modes.{mode_of}
 use Rattle.session_desk.proofs.cubes.refuse_fault.Goals as goal
 

@@ -12,7 +12,7 @@ use Rattle.session_desk.proofs.Refused.{refuses_by_mode}
 use Rattle.session_desk.proofs.Replying.{counted, if_refused, refuses_next}
 use Rattle.session_desk.proofs.Turning.{keeps_itself}
 use Rattle.session_desk.proofs.Unread.{mode_unread}
-use Rattle.aosi_register.specs.State.{state_of}
+use Rattle.aosi_desk.specs.State.{state_of}
 use Rattle.session_desk.proofs.refusals.refuse_by_mode.Goals as goal
 
 pub returns-clause-executed : goal.returns-clause-executed

@@ -7,7 +7,7 @@ use Rattle.session_desk.specs.Executed.{ExecutesAtDesk}
 use Rattle.session_desk.proofs.Refused.{refuses_syntax}
 use Rattle.session_desk.proofs.Replying.{counted, if_refused, refuses_next}
 use Rattle.session_desk.proofs.Turning.{keeps_itself}
-use Rattle.aosi_register.specs.State.{state_of}
+use Rattle.aosi_desk.specs.State.{state_of}
 use Rattle.session_replies.specs.Modes.{mode_of}
 use Rattle.session_desk.proofs.refusals.refuse_syntax.Goals as goal
 

@@ -1,7 +1,7 @@
 use Rattle.std.proofs.Common.{ap}
 use Rattle.cube_language.specs.declared.statement.Statement.TheVariants.{Flush}
 use Rattle.cube_run.specs.RunRecords.{Says}
-use Rattle.aosi_register.specs.State.{state_of}
+use Rattle.aosi_desk.specs.State.{state_of}
 use Rattle.aosi_desk.specs.Desks.{DeskState}
 use Rattle.session_desk.proofs.Asking.{at_flush, flush_executes, flush_fits}
 use Rattle.session_desk.proofs.Replying.{memory_refused}

@@ -6,7 +6,7 @@ use Rattle.session_desk.proofs.Replying.{counted, memory_refused}
 use Rattle.session_desk.proofs.Moving.{moves_purged}
 use Rattle.std.proofs.Common.{None}
 use Rattle.std.proofs.Common.{◌+◌}
-use Rattle.aosi_register.specs.State.{state_of}
+use Rattle.aosi_desk.specs.State.{state_of}
 use Rattle.session_replies.specs.Modes.{mode_of}
 use Rattle.session_desk.proofs.Turning.{keeps_itself, moves_from}
 use Rattle.session_desk.proofs.requests.purge.Goals as goal

@@ -1,5 +1,5 @@
 use Rattle.std.proofs.Common.{ap, true, None}
-use Rattle.aosi_register.specs.State.{state_of}
+use Rattle.aosi_desk.specs.State.{state_of}
 use Rattle.aosi_desk.specs.Desks.{DeskState}
 use Rattle.session_desk.specs.Entries.{HasFollowed}
 use Rattle.session_desk.proofs.Asking.{flush_fits}

@@ -4,7 +4,7 @@ use Rattle.cube_language.specs.declared.statement.Statement.TheVariants.{Begin}
 use Rattle.cube_journal.specs.declared.reply.Reply.TheVariants as reply
 use Rattle.cube_run.specs.RunRecords.{Says}
 use Rattle.cube_run.specs.SessionStates.{Open}
-use Rattle.aosi_register.specs.State.{after_begin}
+use Rattle.aosi_desk.specs.State.{after_begin}
 use Rattle.aosi_desk.specs.Desks.{desk_over}
 use Rattle.session_replies.specs.declared.mode.SessionMode.TheVariants as variant
 use Rattle.session_desk.specs.declared.session.Session.{Session}
@@ -13,7 +13,7 @@ use Rattle.session_desk.proofs.Begun.{begin_executes}
 use Rattle.session_desk.proofs.May.{begin_idle}
 use Rattle.session_desk.proofs.Replying.{memory_refused}
 use Rattle.std.proofs.Common.{None}
-use Rattle.aosi_register.specs.State.{state_of}
+use Rattle.aosi_desk.specs.State.{state_of}
 use Rattle.session_replies.specs.Modes.{mode_of}
 use Rattle.session_desk.proofs.Turning.{begins_open, keeps_itself, moves_begun, moves_from}
 use Rattle.session_desk.proofs.transactions.begin.Goals as goal

@@ -12,7 +12,7 @@ use Rattle.session_desk.proofs.Unfit.{refuses_failing}
 use Rattle.session_desk.proofs.Turning.{keeps_itself}
 use Rattle.session_desk.proofs.Unread.{misfit_unread}
 use Rattle.session_desk.specs.FileReplies.{SpeaksOfNoFile}
-use Rattle.aosi_register.specs.State.{state_of}
+use Rattle.aosi_desk.specs.State.{state_of}
 use Rattle.session_replies.specs.Modes.{mode_of}
 use Rattle.session_desk.proofs.unbound.refuse_unfit.Goals as goal
 

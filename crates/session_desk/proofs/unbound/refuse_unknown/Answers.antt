@@ -5,7 +5,7 @@ use Rattle.session_desk.proofs.Unfit.{refuses_unknown}
 use Rattle.session_desk.proofs.Moving.{moves_refused}
 use Rattle.std.proofs.Common.{None}
 use Rattle.std.proofs.Common.{◌+◌}
-use Rattle.aosi_register.specs.State.{state_of}
+use Rattle.aosi_desk.specs.State.{state_of}
 use Rattle.session_replies.specs.Modes.{mode_of}
 use Rattle.session_desk.proofs.Turning.{keeps_itself, moves_from}
 use Rattle.session_desk.proofs.unbound.refuse_unknown.Goals as goal

@@ -1,5 +1,5 @@
 use Rattle.std.proofs.Common.{◌∙◌, ◌+◌, ◌++◌, [], ◌∷◌, false, append-nil, None, Some, refl, sym}
-use Rattle.aosi_register.specs.declared.answer.RoundAnswer.TheVariants.{Nothing}
+use Rattle.aosi_desk.specs.declared.answer.RoundAnswer.TheVariants.{Nothing}
 use Rattle.core_program.specs.Flushing.{IsFlusherOf}
 use Rattle.flush_loop.proofs.OpenedAndClosed.{opening_entry, plain-round}
 use Rattle.flush_loop.specs.MadeRounds.{HoldsInRuns, KnowsBetween, LearnsOfOwnRound}

@@ -1,3 +1,0 @@
-pub mod ReadingCalls
-pub mod ReadLines
-pub mod SelectEnds

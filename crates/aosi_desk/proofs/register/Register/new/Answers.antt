@@ -1,0 +1,18 @@
+use Rattle.std.proofs.Common.{◌≡◌, ◌+◌, ◌≤◌, ◌++◌, [], ◌∷◌, true, false, None, Some, refl, subst, sym, ap, ◌∙◌, arith}
+use Rattle.cube_journal.specs.declared.journal_entry.JournalEntry.TheVariants as entry
+use Rattle.cube_journal.specs.Counters.{journal_state, held_by, lce}
+use Rattle.cube_journal.specs.Entries.{note_entry}
+use Rattle.cube_journal.specs.Legal.{CountersAllow}
+use Rattle.aosi_desk.specs.State.{RegisterState, state_of, with_entry, held_epoch}
+use Rattle.aosi_desk.specs.Fits.{Contents, contents, FitsJournal, HasRoomFor}
+use Rattle.aosi_desk.proofs.Openings.{Laws, fits_cube}
+use Rattle.aosi_desk.proofs.Wholes.{lce_shown, writer_shown, fits_same, few_pending, begun, begun_room, read, read_room, writes, reads_by, committed, aborted, ended_journal, ended_room, read_ended, read_ended_room, noted}
+use Rattle.aosi_desk.proofs.Rounds.{fits_opening, opening_room, noted_room}
+use Rattle.aosi_desk.proofs.register.Register.new.Goals as goal
+
+pub invariant_of-result : goal.invariant_of-result
+invariant_of-result c = (
+  subst (λ x. FitsJournal x c.args.sessions c.args.safe) (sym c.in_ok-new.ensures)
+      (fits_opening c.args.sessions c.args.safe c.requires.most c.requires.safe),
+  opening_room (contents c.in_ok-new.field-0) c.args.safe _ c.in_ok-new.ensures,
+)

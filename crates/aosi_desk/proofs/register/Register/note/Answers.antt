@@ -1,0 +1,34 @@
+use Rattle.std.proofs.Common.{◌≡◌, ◌+◌, ◌≤◌, ◌++◌, [], ◌∷◌, true, false, None, Some, refl, subst, sym, ap, ◌∙◌, arith}
+use Rattle.cube_journal.specs.declared.journal_entry.JournalEntry.TheVariants as entry
+use Rattle.cube_journal.specs.Counters.{journal_state, held_by, lce}
+use Rattle.cube_journal.specs.Entries.{note_entry}
+use Rattle.cube_journal.specs.Legal.{CountersAllow}
+use Rattle.aosi_desk.specs.State.{RegisterState, state_of, with_entry, held_epoch}
+use Rattle.aosi_desk.specs.Fits.{Contents, contents, FitsJournal, HasRoomFor}
+use Rattle.aosi_desk.proofs.Openings.{Laws, fits_cube}
+use Rattle.aosi_desk.proofs.Wholes.{lce_shown, writer_shown, fits_same, few_pending, begun, begun_room, read, read_room, writes, reads_by, committed, aborted, ended_journal, ended_room, read_ended, read_ended_room, noted}
+use Rattle.aosi_desk.proofs.Rounds.{fits_opening, opening_room, noted_room}
+use Rattle.aosi_desk.proofs.register.Register.note.Goals as goal
+
+pub counters-counters-requires-clause-few : goal.counters-counters-requires-clause-few
+counters-counters-requires-clause-few c =
+    let fits = fits_same (contents c.self.inside.fields) (contents c.reserve.new.self) c.self.inside.sessions
+    c.self.inside.safe
+    c.reserve.ensures.same c.self.invariant.0 in
+    few_pending (contents c.reserve.new.self) c.self.inside.sessions c.self.inside.safe fits
+
+pub invariant_of-self-2 : goal.invariant_of-self-2
+invariant_of-self-2 c =
+    let fits = fits_same (contents c.self.inside.fields) (contents c.reserve.new.self) c.self.inside.sessions
+    c.self.inside.safe
+    c.reserve.ensures.same c.self.invariant.0 in
+    let laws : Laws = record { state = c.one_more_entry.ensures.state; legal = c.one_more_entry.ensures.legal } in
+    let first = rw (← c.self.view_is) at c.requires in
+    let allowed = subst (λ (x : Contents). CountersAllow c.self.inside.safe x.journal (note_entry c.args.note.now))
+    (sym c.reserve.ensures.same) first in
+    let room = noted_room (contents c.reserve.new.self) (contents c.add.new.self) c.entry.result 1 _ (omega arith)
+    c.add.ensures.contents c.in_ok-reserve.ensures.room in (
+      noted laws (contents c.reserve.new.self) (contents c.add.new.self) c.self.inside.sessions c.self.inside.safe fits
+          c.args.note.now c.entry.result allowed c.entry.ensures c.add.ensures.contents,
+      omega (arith, room, c.add.ensures.capacity),
+    )

@@ -1,0 +1,30 @@
+use Rattle.std.proofs.Common.{◌≡◌, ◌+◌, ◌≤◌, ◌++◌, [], ◌∷◌, true, false, None, Some, refl, subst, sym, ap, ◌∙◌, arith}
+use Rattle.cube_journal.specs.declared.journal_entry.JournalEntry.TheVariants as entry
+use Rattle.cube_journal.specs.Counters.{journal_state, held_by, lce}
+use Rattle.cube_journal.specs.Entries.{note_entry}
+use Rattle.cube_journal.specs.Legal.{CountersAllow}
+use Rattle.aosi_desk.specs.State.{RegisterState, state_of, with_entry, held_epoch}
+use Rattle.aosi_desk.specs.Fits.{Contents, contents, FitsJournal, HasRoomFor}
+use Rattle.aosi_desk.proofs.Openings.{Laws, fits_cube}
+use Rattle.aosi_desk.proofs.Wholes.{lce_shown, writer_shown, fits_same, few_pending, begun, begun_room, read, read_room, writes, reads_by, committed, aborted, ended_journal, ended_room, read_ended, read_ended_room, noted}
+use Rattle.aosi_desk.proofs.Rounds.{fits_opening, opening_room, noted_room}
+use Rattle.aosi_desk.proofs.register.Register.take_epoch.Goals as goal
+
+pub invariant_of-self-2 : goal.invariant_of-self-2
+invariant_of-self-2 c =
+    let fits = fits_same (contents c.self.inside.fields) (contents c.reserve.new.self) c.self.inside.sessions
+    c.self.inside.safe
+    c.reserve.ensures.same c.self.invariant.0 in
+    let laws : Laws = record { state = c.one_more_entry.ensures.state; legal = c.one_more_entry.ensures.legal } in
+    let first = rw (← c.self.view_is) at c.requires in
+    let free = subst (λ (x : Contents). held_by (journal_state c.self.inside.safe x.journal).snapshots
+    c.args.session ≡ None)
+    (sym c.reserve.ensures.same) first in
+    let room = noted_room (contents (record c.reserve.new.self { ec = c.reserve.new.self.ec + 1 }))
+    (contents c.add.new.self) _ 1 _ (omega arith)
+    c.add.ensures.contents c.in_ok-reserve.ensures.room in (
+      subst (λ x. FitsJournal x c.self.inside.sessions c.self.inside.safe) (sym c.add.ensures.contents)
+          (fits_cube laws (contents c.reserve.new.self) c.self.inside.sessions c.self.inside.safe fits
+          c.args.session c.args.statement free),
+      omega (arith, room, c.add.ensures.capacity),
+    )

@@ -1,9 +1,0 @@
-pub mod Loops
-pub mod Held
-pub mod HoldsFits
-pub mod Pending
-pub mod Sessions
-pub mod Openings
-pub mod Ends
-pub mod Wholes
-pub mod Rounds

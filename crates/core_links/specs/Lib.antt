@@ -1,3 +1,0 @@
-pub mod DeskEvents
-pub mod NamesEvents
-pub mod MailEvents

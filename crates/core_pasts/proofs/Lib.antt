@@ -1,3 +1,0 @@
-pub mod LongerPasts
-pub mod CallEntries
-pub mod PlayedOut

@@ -1,6 +1,0 @@
-use Rattle.core_pasts.proofs.LongerPasts.{executed}
-use Rattle.core_pasts.proofs.law.one_more_is_executed.Goals as goal
-
-pub returns : goal.returns
-returns g c = λ asked cells caller session.
-    executed g.S.LinkedShard.fits g.S.LinkedShard.stands g.S.LinkedShard.says cells caller session (g.B.Besides.claim asked)

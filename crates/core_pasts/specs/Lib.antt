@@ -1,4 +1,0 @@
-pub mod CorePasts
-pub mod RunsFrom
-pub mod OwnCalls
-pub mod Endings
