@@ -10,3 +10,4 @@ mod rounds;
 
 pub use commits::commit;
 pub use requests::{flush, purge};
+pub use rounds::follow_commit;

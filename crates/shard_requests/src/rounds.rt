@@ -133,8 +133,9 @@ fn round_after_commit<R: Wait, P: CellCaller<ShardCells>>(
     }
 }
 
-/// Does so where a round is due.
-pub(crate) fn follow_commit<R: Wait, P: CellCaller<ShardCells>>(
+/// Makes the round that follows a commit where one is due: asks the flusher for it, notes it, and purges after it. False
+/// where the journal has no memory for a note, or there is none for the purge.
+pub fn follow_commit<R: Wait, P: CellCaller<ShardCells>>(
     rt: &R,
     board: &Board<ShardCells>,
     caller: &mut P,
