@@ -1,0 +1,2 @@
+pub mod FinishedChanges
+pub mod ChangesUnderWay

@@ -1,0 +1,4 @@
+pub mod StepsOfDeletes
+pub mod DeletesInRuns
+pub mod EndedDeletes
+pub mod BegunDeletes
