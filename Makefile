@@ -1,8 +1,9 @@
 # `make demo` runs the program on an example, unproved; `make compare` on a script whose text a model in Python works out; `make starve` with each
 # of its allocations refused in turn. `make starve_append` appends to a shard, unproved, with each allocation of the append refused in turn.
 # `make program` proves the program and builds it as bin/cubrick. `make bench` proves and builds the program of measures, and prints what each hot
-# path costs per item.
-.PHONY: demo compare starve starve_append program bench
+# path costs per item. `make edits` tries the edits of edits/, which the prover must refuse and which the gate leaves out for their time: of all
+# crates, or of those in NAMES.
+.PHONY: demo compare starve starve_append program bench edits
 EXAMPLE = $(CURDIR)/examples
 demo:
 	@echo 'The program runs unproved here (rt try); make program proves and builds it.'
@@ -23,3 +24,5 @@ program:
 bench:
 	@cd crates/measures && rt run -- split 1 >/dev/null
 	@tools/bench
+edits:
+	@python3 tools/try_edits $(NAMES)
