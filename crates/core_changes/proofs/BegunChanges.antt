@@ -1,6 +1,5 @@
 -- A counted change goes on from its first calls: to its names, to its writer, and to its shards.
-use Rattle.std.proofs.Common.{◌≡◌, ℕ, ◌<◌, ◌≤◌, false, List, [], refl, sym, subst, arith, append-nil}
-use mathlib.Core.List.{IsPrefix}
+use Rattle.std.proofs.Common.{◌≡◌, ℕ, ◌<◌, ◌≤◌, false, List, [], sym, subst, arith, append-nil}
 use Rattle.core_changes.specs.ChangesUnderWay.{HasBegunWith, HasChangedNothing, MayChange}
 use Rattle.core_events.specs.Serial.{CubeOperation}
 use Rattle.core_names.proofs.HeldOn.{holds-on as names-hold}
@@ -13,7 +12,6 @@ use Rattle.core_states.specs.StandingInCore.{HoldsForMode}
 use Rattle.core_states.specs.declared.session.CoreSession.{CoreSession}
 use Rattle.cube_core.specs.declared.cell.CoreCell.{CoreCell}
 use Rattle.cube_journal.specs.declared.journal_entry.JournalEntry.{JournalEntry}
-use Rattle.cube_language.specs.declared.decl.Decl.{Decl}
 use Rattle.cube_language.specs.declared.statement.Statement.{Statement}
 use Rattle.cube_run.specs.StatementEntries.{is_aborted}
 use Rattle.cube_values.specs.declared.snapshot.Snapshot.{Snapshot}

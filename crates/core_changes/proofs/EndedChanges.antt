@@ -2,7 +2,7 @@
 use Rattle.std.proofs.Common.{◌≡◌, ◌≢◌, ℕ, ◌<◌, ◌≤◌, true, false, List, [], ◌∷◌, ◌++◌, refl, sym, subst, arith}
 use mathlib.Core.List.{IsPrefix}
 use Rattle.aosi_desk.specs.Desks.{is_cube_code}
-use Rattle.core_changes.specs.ChangesUnderWay.{HasAnswered, HasBegunWith, HasChangedNothing, IsSameStatement}
+use Rattle.core_changes.specs.ChangesUnderWay.{HasAnswered, HasChangedNothing, IsSameStatement}
 use Rattle.core_changes.specs.FinishedChanges.{HasFinished}
 use Rattle.core_cubes.proofs.CallsForStatements.{plain-for}
 use Rattle.core_cubes.proofs.CallsGoOn.{go-on-as, go-on-then}

@@ -18,7 +18,6 @@ use Rattle.cube_core.specs.declared.cell.CoreCell.{CoreCell}
 use Rattle.cube_journal.specs.declared.journal_entry.JournalEntry.{JournalEntry}
 use Rattle.cube_journal.specs.declared.journal_entry.JournalEntry.TheVariants as entry
 use Rattle.cube_run.specs.Merge.{RoundFollows}
-use Rattle.cube_run.specs.SessionStates.{Idle, Open}
 use Rattle.cube_values.specs.declared.snapshot.Snapshot.{Snapshot}
 use Rattle.known_holds.specs.KnownHolds.{HoldsNothing, HoldsWriter}
 use Rattle.linked_shards.specs.CellShards.{CoreShardStands}

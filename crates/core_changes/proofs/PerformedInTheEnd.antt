@@ -1,5 +1,5 @@
 -- A change that looked for its cube is performed: as one that has ended, or as one that is refused by its name.
-use Rattle.std.proofs.Common.{◌≡◌, ℕ, ◌+◌, inl, inr, List, [], None}
+use Rattle.std.proofs.Common.{ℕ, ◌+◌, inl, inr, List, []}
 use mathlib.Core.List.{IsPrefix}
 use Rattle.core_changes.specs.ChangesUnderWay.{HasAnswered, HasEnded, IsSameStatement}
 use Rattle.core_cubes.proofs.CallsForStatements.{plain-for}

@@ -1,4 +1,4 @@
-use Rattle.std.proofs.Common.{None}
+use Rattle.std.proofs.Common.{◌+◌, None}
 use Rattle.core_changes.proofs.Finishing.{both-after, commits-more, finishes-if, stops-if}
 use Rattle.core_program.specs.Knowing.{IsClientOf, IsMailAt, IsSessionOf, ServesClient}
 use Rattle.job_groups.specs.AskedEach.{AreShardMails}

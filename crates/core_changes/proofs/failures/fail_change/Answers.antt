@@ -28,7 +28,7 @@ take_back-requires-clause-mails g c = c.requires.served.mails
 pub returns-in-Ok-clause-becomes : goal.returns-in-Ok-clause-becomes
 returns-in-Ok-clause-becomes g c = λ i. record {
   number = c.args.session.now.number;
-  mode = c.failed_mode.ensures i;
+  mode = c.failed_mode-session.ensures i;
   statements = c.args.session.now.statements;
   commits = c.args.session.now.commits;
   round_every = c.args.session.now.round_every;
@@ -39,7 +39,7 @@ returns-in-Ok-clause-holds g c =
     let new = c.take_back.new.caller in
     let session = c.args.session.now in
     subst (λ (m : SessionMode). HoldsForMode FitsShard CoreShardStands ShardAnswerSays (g.P.CellCaller.opening new)
-    (g.P.CellCaller.number new) session.number (g.P.CellCaller.own new) (mode_of m)) (sym c.failed_mode.ensures)
+    (g.P.CellCaller.number new) session.number (g.P.CellCaller.own new) (mode_of m)) (sym c.failed_mode-session.ensures)
     (holds-failed (g.P.CellCaller.opening new) (g.P.CellCaller.number new) session.number (g.P.CellCaller.own new)
     session.mode c.in-Ok.ensures.holds)
 
