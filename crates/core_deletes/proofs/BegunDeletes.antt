@@ -1,24 +1,16 @@
 -- A counted DELETE may change rows, asks for the codes of its texts, and knows whether every shard has done it.
-use Rattle.std.proofs.Common.{◌≡◌, ◌∙◌, ℕ, ◌<◌, ◌≤◌, Bool, true, false, inr, List, [], ◌∷◌, length, replicate, None, refl, sym, ap, subst, arith, append-nil}
+use Rattle.std.proofs.Common.{◌≡◌, ◌∙◌, ℕ, Bool, true, false, inr, List, [], length, replicate, None, refl, sym, ap, subst}
 use Rattle.std.proofs.lemmas.List.{length-replicate}
 use Rattle.std.specs.Bool.{OnFalse, OnTrue}
 use Rattle.std.proofs.lemmas.Option.{none-some}
 use mathlib.Core.List.{IsPrefix}
 use Rattle.core_changes.specs.ChangesUnderWay.{MayChange}
 use Rattle.core_deletes.specs.DeleteEnds.{is_done}
-use Rattle.core_events.specs.Serial.{DropRows}
 use Rattle.core_program.specs.CoreFits.{CoreEntry}
-use Rattle.core_names.proofs.HeldOn.{holds-on as names-hold}
-use Rattle.core_names.proofs.PlainNames.{left-by-names}
-use Rattle.core_names.specs.AskedNames.{GoOnByNames}
 use Rattle.core_names.specs.CoreEncoders.{MayAskForCodes}
 use Rattle.core_names.specs.KnownNumbers.{AreNumbersTold, TextsByDim}
-use Rattle.core_states.proofs.Holding.{holds-on}
-use Rattle.core_states.proofs.LeftCalls.{left-nothing}
-use Rattle.core_states.specs.StandingInCore.{HoldsForMode}
 use Rattle.core_states.specs.declared.session.CoreSession.{CoreSession}
 use Rattle.cube_core.specs.declared.cell.CoreCell.{CoreCell}
-use Rattle.cube_journal.specs.declared.journal_entry.JournalEntry.{JournalEntry}
 use Rattle.cube_language.specs.declared.decl.Decl.{Decl}
 use Rattle.cube_language.specs.declared.statement.Cond.{Cond}
 use Rattle.cube_language.specs.declared.statement.Statement.{Statement}
@@ -33,22 +25,13 @@ use Rattle.known_cubes.proofs.ToldCubes.{told-later}
 use Rattle.known_cubes.specs.KnownCubes.{IsToldOfCube}
 use Rattle.linked_shards.specs.CellShards.{CoreShardStands}
 use Rattle.linked_shards.specs.declared.cell.CoreShard.{CoreShard}
-use Rattle.performed_changes.proofs.ChangeCalls.{by-more-calls, by-no-call, by-plain-calls}
-use Rattle.performed_changes.proofs.OperationsAdded.{epoch-then-epoch, none-at-epoch, none-then-none, none-then-some, plain-none}
-use Rattle.performed_changes.specs.CallsOfChanges.{LeavesForChange}
-use Rattle.performed_changes.specs.ChangeEnds.{begun_entries, counted_session}
-use Rattle.posted_pasts.specs.PostsAdded.{AddsAtEpoch, AddsNoOperation, AddsOperations, LearnsThat}
-use Rattle.cube_values.specs.declared.span.Span.{Span}
 use Rattle.query_plan.proofs.Plans.{delete_of}
 use Rattle.query_plan.specs.Bindings.{DeletesRows}
 use Rattle.known_holds.specs.KnownHolds.{HoldsWriter}
 use Rattle.session_groups.specs.ShardGroups.{HoldsAfterWrite, HoldsOpenWriter}
 use Rattle.session_groups.specs.declared.deletions.WriteEnd.{WriteEnd}
 use Rattle.session_groups.specs.declared.deletions.WriteEnd.TheVariants as ends
-use Rattle.scripted_pasts.specs.Served.{IsServed}
-use Rattle.session_replies.specs.Modes.{mode_of}
 use Rattle.shard_events.specs.ShardsInRuns.{FitsShard, ShardAnswerSays}
-use Rattle.shard_statements.specs.OverShards.{LeavesOverShards}
 
 -- A session that may execute a DELETE has no aborted transaction.
 active-for : (m : Mode) (cube : List ℕ) (conds : List Cond) → refused_by_mode m (Delete cube conds) ≡ None

@@ -11,6 +11,7 @@ use Rattle.core_program.specs.CoreFits.{CoreEntry}
 use Rattle.core_records.specs.CoreRecords.{RunScripts, names_left, record_of}
 use Rattle.core_states.specs.declared.session.CoreSession.{CoreSession}
 use Rattle.cube_core.specs.declared.cell.CoreCell.{CoreCell}
+use Rattle.cube_journal.specs.declared.journal_entry.JournalEntry.{JournalEntry}
 use Rattle.cube_journal.specs.declared.reply.Reply.{Reply}
 use Rattle.cube_language.specs.Misfits.{FitsCube}
 use Rattle.cube_language.specs.declared.decl.Decl.{Decl}
@@ -22,7 +23,6 @@ use Rattle.cube_run.specs.StepOutcomes.{refused_by_mode}
 use Rattle.cube_values.specs.declared.snapshot.Snapshot.{Snapshot}
 use Rattle.dropped_regions.specs.DeleteBoxes.{deleted_region}
 use Rattle.found_cubes.specs.CubesOnRecord.{HasCubeAt}
-use Rattle.linked_shards.specs.CellShards.{CoreShardStands}
 use Rattle.linked_shards.specs.declared.cell.CoreShard.{CoreShard}
 use Rattle.performed_changes.proofs.ChangeCalls.{by-more-calls, by-plain-calls}
 use Rattle.performed_changes.proofs.OperationsAdded.{epoch-then-epoch, none-at-epoch, none-then-none, none-then-some, plain-none}
@@ -34,7 +34,6 @@ use Rattle.query_plan.specs.Bindings.{DeletesRows}
 use Rattle.session_replies.specs.Modes.{mode_of}
 use Rattle.session_replies.specs.RowSteps.{FitsItsCube}
 use Rattle.session_replies.specs.StepParts.{IsStep}
-use Rattle.shard_events.specs.ShardsInRuns.{FitsShard, ShardAnswerSays}
 use Rattle.shard_statements.specs.OverShards.{LeavesOverShards}
 
 module _ (cells : List (CoreCell CoreShard)) (caller : ℕ) (old : CoreSession) (s : Statement)

@@ -89,7 +89,7 @@ returns-in-Err-clause-answered g c = λ first nothing.
     let session = c.args.session.now in
     let s = c.args.statement.now in
     coe 0 1 (i. AnswersAsDelete (did.opening i) (did.number i) session s first (own c.refuse_delete.new.caller) c.args.place
-    c.args.cube.now session c.refuse_delete.result)
+    (c.decl-decl.ensures.decl i) session c.refuse_delete.result)
     (c.refuse_delete.ensures.answered first
     (coe 1 0 (i. HasChangedNothing (did.opening i) (did.number i) session s first mid)
     (nothing-then (g.P.CellCaller.opening old) (g.P.CellCaller.number old) session s first (own old) mid nothing
