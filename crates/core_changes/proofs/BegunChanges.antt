@@ -17,10 +17,10 @@ use Rattle.cube_run.specs.StatementEntries.{is_aborted}
 use Rattle.cube_values.specs.declared.snapshot.Snapshot.{Snapshot}
 use Rattle.linked_shards.specs.CellShards.{CoreShardStands}
 use Rattle.linked_shards.specs.declared.cell.CoreShard.{CoreShard}
-use Rattle.performed_changes.proofs.ChangeCalls.{by-more-calls, by-no-call, by-plain-calls}
-use Rattle.performed_changes.proofs.OperationsAdded.{epoch-then-epoch, none-at-epoch, none-then-none, none-then-some, plain-none}
-use Rattle.performed_changes.specs.CallsOfChanges.{LeavesForChange}
-use Rattle.performed_changes.specs.ChangeEnds.{begun_entries, counted_session}
+use Rattle.core_changes.proofs.ChangeCalls.{by-more-calls, by-no-call, by-plain-calls}
+use Rattle.core_changes.proofs.OperationsAdded.{epoch-then-epoch, none-at-epoch, none-then-none, none-then-some, plain-none}
+use Rattle.core_changes.specs.CallsOfChanges.{LeavesForChange}
+use Rattle.core_changes.specs.ChangeEnds.{begun_entries, counted_session}
 use Rattle.posted_pasts.specs.PostsAdded.{AddsAtEpoch, AddsNoOperation, AddsOperations, LearnsThat}
 use Rattle.scripted_pasts.specs.Served.{IsServed}
 use Rattle.session_replies.specs.Modes.{mode_of}

@@ -19,8 +19,8 @@ use Rattle.cube_run.specs.SessionSteps.{SessionStep}
 use Rattle.found_cubes.specs.CubesOnRecord.{HasCubeAt}
 use Rattle.linked_shards.specs.CellShards.{CoreShardStands}
 use Rattle.linked_shards.specs.declared.cell.CoreShard.{CoreShard}
-use Rattle.performed_changes.specs.ChangeEnds.{ChangeEnd}
-use Rattle.performed_changes.specs.ChangesInRuns.{IsRunAfterChange, IsStepOfChange}
+use Rattle.core_changes.specs.ChangeEnds.{ChangeEnd}
+use Rattle.core_changes.specs.ChangesInRuns.{IsRunAfterChange, IsStepOfChange}
 use Rattle.session_replies.specs.RowSteps.{FitsItsCube}
 use Rattle.shard_events.specs.ShardsInRuns.{FitsShard, ShardAnswerSays}
 

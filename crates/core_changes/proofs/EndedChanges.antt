@@ -28,10 +28,10 @@ use Rattle.cube_run.specs.SessionStates.{Mode, Idle, Open, Aborted}
 use Rattle.cube_values.specs.declared.snapshot.Snapshot.{Snapshot}
 use Rattle.linked_shards.specs.CellShards.{CoreShardStands}
 use Rattle.linked_shards.specs.declared.cell.CoreShard.{CoreShard}
-use Rattle.performed_changes.proofs.ChangeCalls.{by-more-calls, by-plain-calls}
-use Rattle.performed_changes.proofs.OperationsAdded.{epoch-then-epoch, none-at-epoch, none-then-none, plain-none, some-then-none}
-use Rattle.performed_changes.specs.CallsOfChanges.{IsCallOfChange, LeavesForChange}
-use Rattle.performed_changes.specs.ChangeEnds.{ChangeEnd, Finished, Failed, RefusedBefore, IsWriterFor, begun_entries, commits_after, committed_entries, failed_entries, failed_session, finished_session, is_failure}
+use Rattle.core_changes.proofs.ChangeCalls.{by-more-calls, by-plain-calls}
+use Rattle.core_changes.proofs.OperationsAdded.{epoch-then-epoch, none-at-epoch, none-then-none, plain-none, some-then-none}
+use Rattle.core_changes.specs.CallsOfChanges.{IsCallOfChange, LeavesForChange}
+use Rattle.core_changes.specs.ChangeEnds.{ChangeEnd, Finished, Failed, RefusedBefore, IsWriterFor, begun_entries, commits_after, committed_entries, failed_entries, failed_session, finished_session, is_failure}
 use Rattle.posted_pasts.specs.PostsAdded.{AddsAtEpoch, AddsNoOperation, AddsOperations, LearnsThat}
 use Rattle.session_desk.specs.Executed.{IfReplied, OnStopped}
 use Rattle.session_desk.specs.declared.answered.Answered.{Answered}

@@ -6,7 +6,7 @@ use Rattle.cube_core.specs.declared.cell.CoreCell.{CoreCell}
 use Rattle.known_holds.specs.KnownHolds.{HoldsNothing}
 use Rattle.linked_shards.specs.CellShards.{CoreShardStands}
 use Rattle.linked_shards.specs.declared.cell.CoreShard.{CoreShard}
-use Rattle.performed_changes.specs.ChangeEnds.{failed_mode}
+use Rattle.core_changes.specs.ChangeEnds.{failed_mode}
 use Rattle.session_replies.specs.Modes.{mode_of}
 use Rattle.session_replies.specs.declared.mode.SessionMode.{SessionMode}
 use Rattle.session_replies.specs.declared.mode.SessionMode.TheVariants as variant

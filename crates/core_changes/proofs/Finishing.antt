@@ -22,7 +22,7 @@ use Rattle.cube_values.specs.declared.snapshot.Snapshot.{Snapshot}
 use Rattle.known_holds.specs.KnownHolds.{HoldsNothing, HoldsWriter}
 use Rattle.linked_shards.specs.CellShards.{CoreShardStands}
 use Rattle.linked_shards.specs.declared.cell.CoreShard.{CoreShard}
-use Rattle.performed_changes.specs.ChangeEnds.{IsWriterFor, commits_after, committed_entries, finished_session, round_due_after}
+use Rattle.core_changes.specs.ChangeEnds.{IsWriterFor, commits_after, committed_entries, finished_session, round_due_after}
 use Rattle.session_replies.specs.Modes.{mode_of, round_follows}
 use Rattle.session_replies.specs.declared.mode.SessionMode.{SessionMode}
 use Rattle.session_replies.specs.declared.mode.SessionMode.TheVariants as variant

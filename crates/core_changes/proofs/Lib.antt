@@ -1,3 +1,11 @@
+pub mod ChangeCalls
+pub mod GroupCalls
+pub mod OperationsAdded
+pub mod EndedSessions
+pub mod StepsOfChanges
+pub mod SpeakingCalls
+pub mod PerformedChanges
+pub mod AnsweredSteps
 pub mod OpenedWriters
 pub mod Finishing
 pub mod Failing

@@ -17,7 +17,7 @@ use Rattle.cube_values.specs.declared.snapshot.Snapshot.{Snapshot}
 use Rattle.known_holds.specs.KnownHolds.{HoldsWriter}
 use Rattle.linked_shards.specs.CellShards.{CoreShardStands}
 use Rattle.linked_shards.specs.declared.cell.CoreShard.{CoreShard}
-use Rattle.performed_changes.specs.ChangeEnds.{IsWriterFor, begun_entries}
+use Rattle.core_changes.specs.ChangeEnds.{IsWriterFor, begun_entries}
 use Rattle.session_replies.specs.Modes.{mode_of}
 use Rattle.session_replies.specs.declared.mode.SessionMode.{SessionMode}
 use Rattle.session_replies.specs.declared.mode.SessionMode.TheVariants as variant

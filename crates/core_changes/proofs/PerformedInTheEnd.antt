@@ -21,8 +21,8 @@ use Rattle.cube_language.specs.declared.statement.Statement.{Statement}
 use Rattle.cube_run.specs.RunRecords.{LoadedFile, Says}
 use Rattle.linked_shards.specs.CellShards.{CoreShardStands}
 use Rattle.linked_shards.specs.declared.cell.CoreShard.{CoreShard}
-use Rattle.performed_changes.specs.CallsOfChanges.{IsCallOfChange}
-use Rattle.performed_changes.specs.ChangeEnds.{ChangeEnd, counted_session}
+use Rattle.core_changes.specs.CallsOfChanges.{IsCallOfChange}
+use Rattle.core_changes.specs.ChangeEnds.{ChangeEnd, counted_session}
 use Rattle.scripted_pasts.specs.Served.{PerformsWatchedOverShards}
 use Rattle.scripted_pasts.specs.UnchangedRows.{ChangesNoRows, is_refused}
 use Rattle.session_desk.specs.Executed.{IfReplied, OnStopped}

@@ -16,8 +16,8 @@ use Rattle.cube_run.specs.StatementEntries.{is_aborted}
 use Rattle.cube_values.specs.declared.snapshot.Snapshot.{Snapshot}
 use Rattle.linked_shards.specs.CellShards.{CoreShardStands}
 use Rattle.linked_shards.specs.declared.cell.CoreShard.{CoreShard}
-use Rattle.performed_changes.specs.CallsOfChanges.{IsCallOfChange, LeavesForChange}
-use Rattle.performed_changes.specs.ChangeEnds.{ChangeEnd, MayEndSo, begun_entries, change_entries, session_after_change}
+use Rattle.core_changes.specs.CallsOfChanges.{IsCallOfChange, LeavesForChange}
+use Rattle.core_changes.specs.ChangeEnds.{ChangeEnd, MayEndSo, begun_entries, change_entries, session_after_change}
 use Rattle.posted_pasts.specs.PostsAdded.{AddsNoOperation, LearnsThat}
 use Rattle.scripted_pasts.specs.Served.{IsServed}
 use Rattle.session_desk.specs.Executed.{IfReplied}

@@ -8,7 +8,7 @@ use Rattle.cube_journal.specs.declared.journal_entry.JournalEntry.{JournalEntry}
 use Rattle.cube_run.specs.Merge.{RoundFollows}
 use Rattle.cube_values.specs.declared.snapshot.Snapshot.{Snapshot}
 use Rattle.linked_shards.specs.declared.cell.CoreShard.{CoreShard}
-use Rattle.performed_changes.specs.ChangeEnds.{committed_entries, round_due_after}
+use Rattle.core_changes.specs.ChangeEnds.{committed_entries, round_due_after}
 use Rattle.session_replies.specs.Modes.{mode_of}
 use Rattle.shard_statements.specs.OverShards.{LeavesOverShards}
 

@@ -8,7 +8,7 @@ ghost use Rattle.cube_run.specs.SessionStates.{Idle};
 ghost use Rattle.cube_run.specs.StatementEntries.{is_aborted};
 ghost use Rattle.known_holds.specs.KnownHolds.{HoldsNothing, HoldsWriter};
 ghost use Rattle.linked_shards.specs.CellShards.{CoreShardStands};
-ghost use Rattle.performed_changes.specs.ChangeEnds.{IsWriterFor, begun_entries};
+ghost use Rattle.core_changes.specs.ChangeEnds.{IsWriterFor, begun_entries};
 ghost use Rattle.session_replies.specs.Modes.{mode_of};
 ghost use Rattle.shard_events.specs.ShardsInRuns.{FitsShard, ShardAnswerSays};
 ghost use Rattle.shard_statements.specs.OverShards.{LeavesOverShards};

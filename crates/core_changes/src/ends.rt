@@ -8,7 +8,7 @@ ghost use Rattle.core_states.specs.StandingInCore.{HoldsForMode};
 ghost use Rattle.cube_run.specs.SessionStates.{Idle};
 ghost use Rattle.known_holds.specs.KnownHolds.{HoldsNothing, HoldsWriter};
 ghost use Rattle.linked_shards.specs.CellShards.{CoreShardStands};
-ghost use Rattle.performed_changes.specs.ChangeEnds.{IsWriterFor, finished_session};
+ghost use Rattle.core_changes.specs.ChangeEnds.{IsWriterFor, finished_session};
 ghost use Rattle.scripted_pasts.specs.Served.{IsServed};
 ghost use Rattle.session_replies.specs.Modes.{mode_of};
 ghost use Rattle.session_replies.specs.declared.mode.SessionMode.TheVariants as variant;

@@ -5,7 +5,7 @@ ghost use mathlib.Core.List.{IsPrefix};
 ghost use Rattle.core_states.specs.LeftBehind.{GoOnByCalls, IsPlainCall};
 ghost use Rattle.core_states.specs.StandingInCore.{HoldsForMode};
 ghost use Rattle.linked_shards.specs.CellShards.{CoreShardStands};
-ghost use Rattle.performed_changes.specs.ChangeEnds.{IsWriterFor, failed_entries, failed_mode, failed_session};
+ghost use Rattle.core_changes.specs.ChangeEnds.{IsWriterFor, failed_entries, failed_mode, failed_session};
 ghost use Rattle.scripted_pasts.specs.Served.{IsServed};
 ghost use Rattle.session_groups.specs.ShardGroups.{HoldsOpenWriter};
 ghost use Rattle.session_replies.specs.Modes.{mode_of};

@@ -24,10 +24,10 @@ use Rattle.cube_values.specs.declared.snapshot.Snapshot.{Snapshot}
 use Rattle.dropped_regions.specs.DeleteBoxes.{deleted_region}
 use Rattle.found_cubes.specs.CubesOnRecord.{HasCubeAt}
 use Rattle.linked_shards.specs.declared.cell.CoreShard.{CoreShard}
-use Rattle.performed_changes.proofs.ChangeCalls.{by-more-calls, by-plain-calls}
-use Rattle.performed_changes.proofs.OperationsAdded.{epoch-then-epoch, none-at-epoch, none-then-none, none-then-some, plain-none}
-use Rattle.performed_changes.specs.ChangeEnds.{ChangeEnd, Finished, Failed, RefusedBefore, IsWriterFor, MayEndSo, change_entries, counted_session}
-use Rattle.performed_changes.specs.ChangesInRuns.{HasEndedSo, InRunsAfterChange, IsRunAfterChange, IsStepOfChange, PostsByEnd, entries_of_change}
+use Rattle.core_changes.proofs.ChangeCalls.{by-more-calls, by-plain-calls}
+use Rattle.core_changes.proofs.OperationsAdded.{epoch-then-epoch, none-at-epoch, none-then-none, none-then-some, plain-none}
+use Rattle.core_changes.specs.ChangeEnds.{ChangeEnd, Finished, Failed, RefusedBefore, IsWriterFor, MayEndSo, change_entries, counted_session}
+use Rattle.core_changes.specs.ChangesInRuns.{HasEndedSo, InRunsAfterChange, IsRunAfterChange, IsStepOfChange, PostsByEnd, entries_of_change}
 use Rattle.posted_pasts.specs.DoneChanges.{HasDroppedRegion}
 use Rattle.query_plan.proofs.Plans.{delete_of}
 use Rattle.query_plan.specs.Bindings.{DeletesRows}

@@ -26,8 +26,8 @@ use Rattle.dropped_regions.proofs.BoxesOfPlans.{box-later}
 use Rattle.dropped_regions.specs.DeleteBoxes.{IsBoxOf}
 use Rattle.linked_shards.specs.CellShards.{CoreShardStands}
 use Rattle.linked_shards.specs.declared.cell.CoreShard.{CoreShard}
-use Rattle.performed_changes.specs.CallsOfChanges.{LeavesForChange}
-use Rattle.performed_changes.specs.ChangeEnds.{ChangeEnd, IsWriterFor, committed_entries, failed_entries, failed_session, finished_session}
+use Rattle.core_changes.specs.CallsOfChanges.{LeavesForChange}
+use Rattle.core_changes.specs.ChangeEnds.{ChangeEnd, IsWriterFor, committed_entries, failed_entries, failed_session, finished_session}
 use Rattle.posted_pasts.specs.PostsAdded.{AddsAtEpoch, AddsOperations}
 use Rattle.session_desk.specs.Executed.{IfReplied, OnStopped}
 use Rattle.session_desk.specs.declared.answered.Answered.{Answered}

@@ -26,7 +26,7 @@ use Rattle.cube_run.specs.StatementEntries.{is_change}
 use Rattle.cube_run.specs.StepOutcomes.{refused_by_mode, refused_by_watch}
 use Rattle.cube_values.specs.declared.operation.Operation.TheVariants.{Drop}
 use Rattle.cube_values.specs.declared.snapshot.Snapshot.{Snapshot}
-use Rattle.performed_changes.specs.ChangeEnds.{Finished, Failed, RefusedBefore, IsWriterFor, change_entries, round_due_after}
+use Rattle.core_changes.specs.ChangeEnds.{Finished, Failed, RefusedBefore, IsWriterFor, change_entries, round_due_after}
 use Rattle.posted_pasts.specs.DoneChanges.{DoesOperation}
 use Rattle.query_plan.proofs.Plans.{IsDelete}
 use Rattle.session_replies.proofs.Doing.{delete_done_alone, delete_done_inside}

@@ -23,7 +23,7 @@ use Rattle.dropped_regions.specs.DeleteBoxes.{IsBoxOf}
 use Rattle.linked_shards.specs.CellShards.{CoreShardStands}
 use Rattle.shard_events.specs.ShardsInRuns.{FitsShard, ShardAnswerSays}
 use Rattle.linked_shards.specs.declared.cell.CoreShard.{CoreShard}
-use Rattle.performed_changes.specs.ChangeEnds.{ChangeEnd, Finished, Failed, RefusedBefore}
+use Rattle.core_changes.specs.ChangeEnds.{ChangeEnd, Finished, Failed, RefusedBefore}
 use Rattle.posted_pasts.specs.PostsAdded.{AddsAtEpoch, AddsNoOperation, AddsOperations}
 use Rattle.session_desk.specs.declared.answered.Answered.{Answered}
 use Rattle.session_groups.specs.declared.deletions.WriteEnd.{WriteEnd}

@@ -19,6 +19,7 @@ ghost use Rattle.turn_board.specs.Passes.{callers_of};
 
 use crate::bound::{delete_bound, refuse_delete};
 use board_callers::CellCaller;
+use core_changes::changes_are_performed;
 use core_cubes::{NamedCube, find_named};
 use core_program::CoreSize;
 use core_states::CoreSession;
@@ -28,7 +29,6 @@ use cube_schema::{Schema, check};
 use cube_values::Text;
 use found_cubes::found_cubes_are_on_record;
 use linked_shards::{CoreShard, ShardCells};
-use performed_changes::changes_are_performed;
 use query_plan::cube_needed;
 use scripted_pasts::plain_statements_are_performed;
 use session_desk::Answered;

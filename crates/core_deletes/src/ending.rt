@@ -8,7 +8,7 @@ ghost use Rattle.dropped_regions.specs.DeleteBoxes.{IsBoxOf};
 ghost use Rattle.known_holds.specs.KnownHolds.{HoldsWriter};
 ghost use Rattle.linked_shards.specs.CellShards.{CoreShardStands};
 ghost use Rattle.shard_events.specs.ShardsInRuns.{FitsShard, ShardAnswerSays};
-ghost use Rattle.performed_changes.specs.ChangeEnds.{IsWriterFor};
+ghost use Rattle.core_changes.specs.ChangeEnds.{IsWriterFor};
 ghost use Rattle.posted_pasts.specs.PostsAdded.{AddsAtEpoch, AddsOperations};
 ghost use Rattle.scripted_pasts.specs.Served.{IsServed};
 ghost use Rattle.session_groups.specs.ShardGroups.{HoldsOpenWriter};

@@ -9,7 +9,7 @@ use Rattle.core_states.specs.StandingInCore.{HoldsForMode}
 use Rattle.core_states.specs.declared.session.CoreSession.{CoreSession}
 use Rattle.cube_run.specs.RunRecords.{Missing}
 use Rattle.linked_shards.specs.CellShards.{CoreShardStands}
-use Rattle.performed_changes.specs.ChangeEnds.{counted_session}
+use Rattle.core_changes.specs.ChangeEnds.{counted_session}
 use Rattle.scripted_pasts.specs.Performed.{WhateverFile}
 use Rattle.scripted_pasts.specs.Served.{IsServed}
 use Rattle.session_desk.specs.Executed.{IfReplied}

@@ -7,8 +7,8 @@ use Rattle.cube_core.specs.declared.shard.ShardCall.TheVariants as call
 use Rattle.cube_schema.specs.Schemas.{cube_of}
 use Rattle.known_holds.specs.KnownHolds.{HoldsWriter}
 use Rattle.linked_shards.specs.CellShards.{CoreShardStands}
-use Rattle.performed_changes.proofs.GroupCalls.{by-asking}
-use Rattle.performed_changes.proofs.OperationsAdded.{some-at-epoch}
+use Rattle.core_changes.proofs.GroupCalls.{by-asking}
+use Rattle.core_changes.proofs.OperationsAdded.{some-at-epoch}
 use Rattle.session_groups.specs.ShardGroups.{HoldsOpenWriter}
 use Rattle.shard_events.specs.ShardsInRuns.{FitsShard, ShardAnswerSays}
 use Rattle.core_deletes.proofs.dropping.has_dropped.Goals as goal

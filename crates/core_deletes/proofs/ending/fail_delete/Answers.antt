@@ -3,7 +3,7 @@ use Rattle.core_changes.proofs.EndedChanges.{same-unchanged}
 use Rattle.core_deletes.proofs.EndedDeletes.{failed, stopped}
 use Rattle.core_states.specs.StandingInCore.{HoldsForMode}
 use Rattle.linked_shards.specs.CellShards.{CoreShardStands}
-use Rattle.performed_changes.specs.ChangeEnds.{begun_entries}
+use Rattle.core_changes.specs.ChangeEnds.{begun_entries}
 use Rattle.session_replies.specs.Modes.{mode_of}
 use Rattle.shard_events.specs.ShardsInRuns.{FitsShard, ShardAnswerSays}
 use Rattle.core_deletes.proofs.ending.fail_delete.Goals as goal

@@ -1,4 +1,0 @@
-pub mod ChangeEnds
-pub mod CallsOfChanges
-pub mod ChangesInRuns
-pub mod StepsByWriters
