@@ -1,0 +1,4 @@
+pub mod BegunInserts
+pub mod EndedInserts
+pub mod InsertsInRuns
+pub mod StepsOfInserts
