@@ -1,0 +1,4 @@
+pub mod RowsByKey
+pub mod ToldRows
+pub mod OpenedRows
+pub mod MadeCubes
