@@ -1,0 +1,5 @@
+pub mod AgreeingReadings
+pub mod SaidTexts
+pub mod ReadInTurns
+pub mod GivenInputs
+pub mod ServedFiles
