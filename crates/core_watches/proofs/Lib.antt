@@ -1,0 +1,15 @@
+pub mod BoundNames
+pub mod TablesAt
+pub mod KnownQueries
+pub mod WatchSteps
+pub mod KeptOn
+pub mod WatchItems
+pub mod RefusedSo
+pub mod ShownWatches
+pub mod CopiedOn
+pub mod EndedWatches
+pub mod Unfit
+pub mod Ends
+pub mod WatchRefusals
+pub mod RefusedByWatch
+pub mod AskedStatements

@@ -1,0 +1,2 @@
+pub mod BoundQueries
+pub mod KeptWatches
