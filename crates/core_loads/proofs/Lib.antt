@@ -1,0 +1,4 @@
+pub mod BegunLoads
+pub mod EndedLoads
+pub mod LoadsInRuns
+pub mod StepsOfLoads

@@ -1,0 +1,2 @@
+pub mod ShelfLoads
+pub mod LoadEnds
