@@ -1,6 +1,6 @@
 -- What a LOAD reads of a shelf, how it is then answered, and which file is on record of it.
 -- Source: this project's own.
-use Rattle.std.specs.Prelude.{◌≡◌, ◌⊎◌, ℕ, List, [], Option, Some, Ok, Err}
+use Rattle.std.specs.Prelude.{◌≡◌, ◌⊎◌, ℕ, List, [], Option, Ok, Err}
 use Rattle.cube_values.specs.declared.call_error.CallError.TheVariants.{Fault, NoMemory}
 use Rattle.cube_journal.specs.declared.refusal.Refusal.TheVariants as refusal
 use Rattle.cube_journal.specs.declared.reply.Reply.{Reply}
@@ -10,10 +10,7 @@ use Rattle.cube_language.specs.declared.statement.Statement.{Statement}
 use Rattle.cube_language.specs.declared.statement.Statement.TheVariants.{Load}
 use Rattle.cube_run.specs.RunRecords.{LoadedFile}
 use Rattle.loaded_files.specs.LoadedFiles.{IsLoadFault, LoadAnswer, OpensLoad, loaded_file}
-use Rattle.loaded_files.specs.declared.reading.TheConstants.{LOADED_BYTES}
 use Rattle.outside.specs.Counts.{Rose}
-use Rattle.outside.specs.Files.{content_of}
-use Rattle.outside.specs.Given.{given_by}
 use Rattle.outside.specs.ShelfCalls.{ShelfCall}
 use Rattle.outside.specs.declared.reading.FileFault.TheVariants.{Absent, TooLong, Failed}
 use Rattle.session_desk.specs.FileReplies.{IsRefusedUnread}
@@ -86,10 +83,3 @@ pub record LeavesShelf (seen : ShelfSeen) (said : Reply) : Type 0 where
 abbrev pub IsFileRead : ShelfSeen → List ℕ → Reply → LoadedFile → Type 0
 IsFileRead seen path said file =
     ((read : ReadsItsFile seen path said) × (file ≡ loaded_file read.opened.given)) ⊎ LeavesShelf seen said
-
--- So it is as the shelf tells it, where the shelf tells its files and the LOAD is not refused unread.
-abbrev pub IsFileTold : Option (List (List ℕ × List ℕ)) → List ℕ → Reply → LoadedFile → Type 0
-IsFileTold told path said file =
-    ((files : List (List ℕ × List ℕ)) → told ≡ Some files
-    → file ≡ loaded_file (given_by LOADED_BYTES (content_of files path)))
-    ⊎ IsRefusedUnread said
