@@ -12,7 +12,7 @@ use Rattle.script_runs.specs.ScriptRuns.{LeavesLegal, RunsWhole}
 use Rattle.script_runs.specs.declared.running.Ran.{Ran}
 use Rattle.script_sentences.specs.Sentences.{sentence_of}
 use Rattle.script_sentences.specs.declared.said.Said.{Said}
-use Rattle.session_scripts.specs.CountedReplies.{GainsReplies}
+use Rattle.loaded_files.specs.CountedReplies.{GainsReplies}
 use Rattle.outside.specs.ShelfCalls.{ShelfCall, WhereKnown}
 use Rattle.cubrick_top.specs.Inputs.{FilesShow, InputCalls, ReadsInput, bad_of}
 use Rattle.cubrick_top.specs.Runs.{Ends, HasScriptText, IsLeft, IsWritten, LeavesNothing, Runs, ScriptEnds}

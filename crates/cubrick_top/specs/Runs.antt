@@ -20,7 +20,7 @@ use Rattle.row_loads.specs.LoadsFromShelf.{ShelfSeen}
 use Rattle.script_runs.specs.ScriptRuns.{LeavesLegal, RunsWhole}
 use Rattle.script_sentences.specs.Sentences.{sentence_of}
 use Rattle.script_sentences.specs.declared.said.Said.{Said}
-use Rattle.session_scripts.specs.CountedReplies.{GainsReplies}
+use Rattle.loaded_files.specs.CountedReplies.{GainsReplies}
 use Rattle.cubrick_top.specs.Inputs.{AreBothTold, AskForWatch, GiveInput, ReadsUpTo, TwoReadings, run_files_of, reading_of}
 use Rattle.cubrick_top.specs.declared.fault.BuiltPart.TheVariants as part
 use Rattle.cubrick_top.specs.declared.fault.Fault.{Fault}

@@ -1,1 +1,2 @@
 pub mod LoadedFiles
+pub mod CountedReplies

@@ -11,7 +11,7 @@ ghost use Rattle.script_sentences.specs.Sentences.{IsRunnable, sentence_of};
 ghost use Rattle.session_desk.specs.AtDesk.{IsAtDesk};
 ghost use Rattle.session_desk.specs.Ended.{EndsAtDesk};
 ghost use Rattle.session_rows.specs.CubesAtDesk.{IsAtCubes};
-ghost use Rattle.session_scripts.specs.CountedReplies.{GainsReplies};
+ghost use Rattle.loaded_files.specs.CountedReplies.{GainsReplies};
 
 use crate::start::empty_cubes;
 use aosi_desk::Desk;

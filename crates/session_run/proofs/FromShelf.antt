@@ -36,7 +36,7 @@ use Rattle.session_rows.proofs.NewlyOffered.{newly_offered}
 use Rattle.row_changes.specs.AnswersGiven.{KnowsItsCube, SpeaksOfItsCube}
 use Rattle.row_loads.specs.LoadsDone.{LoadsRows}
 use Rattle.row_loads.specs.LoadsFromShelf.{CountsLoad, IsAnsweredFor, LoadsFromShelf, ShelfSeen, path_loaded}
-use Rattle.session_run.specs.Counted.{CountsAbsence, CountsFault}
+use Rattle.loaded_files.specs.CountedReplies.{CountsAbsence, CountsFault}
 use Rattle.session_run.specs.FromShelf.{ExecutesFromShelf, IsFileTold}
 use Rattle.session_run.proofs.KnownCubes.{told_of_its_cube}
 

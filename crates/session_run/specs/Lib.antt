@@ -1,4 +1,3 @@
 pub mod RowsMade
 pub mod Forms
 pub mod FromShelf
-pub mod Counted

@@ -7,7 +7,7 @@ ghost use Rattle.cube_run.specs.StepOutcomes.{refused_by_mode};
 ghost use Rattle.session_replies.specs.Modes.{mode_of};
 ghost use Rattle.session_desk.specs.Executed.{IfReplied};
 ghost use Rattle.session_rows.specs.CubesAtDesk.{IsAtCubes};
-ghost use Rattle.session_run.specs.Counted.{CountsAbsence, CountsFault};
+ghost use Rattle.loaded_files.specs.CountedReplies.{CountsAbsence, CountsFault};
 ghost use Rattle.script_sentences.specs.Sentences.{IsWatching};
 ghost use Rattle.session_run.specs.Forms.{IsOnRows};
 ghost use Rattle.session_run.specs.FromShelf.{ExecutesFromShelf};

@@ -4,7 +4,7 @@ ghost use Rattle.std.specs.Prelude.{◌≡◌, ◌+◌, ◌<◌, ◌≤◌};
 ghost use Rattle.aosi_desk.specs.Desks.{opening_of};
 ghost use Rattle.session_desk.specs.Executed.{IfReplied};
 ghost use Rattle.session_rows.specs.CubesAtDesk.{IsAtCubes};
-ghost use Rattle.session_run.specs.Counted.{CountsAbsence, CountsFault};
+ghost use Rattle.loaded_files.specs.CountedReplies.{CountsAbsence, CountsFault};
 ghost use Rattle.session_run.specs.FromShelf.{ExecutesFromShelf};
 ghost use Rattle.script_sentences.specs.Sentences.{IsRunnable, sentence_of};
 

@@ -1,3 +1,2 @@
 pub mod NextFromShelf
-pub mod MoreReplies
 pub mod PlayedTexts

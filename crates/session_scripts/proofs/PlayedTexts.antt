@@ -9,13 +9,12 @@ use Rattle.aosi_desk.specs.Desks.{DeskState}
 use Rattle.session_desk.specs.declared.session.Session.{Session}
 use Rattle.session_rows.specs.CubesAtDesk.{IsAtCubes}
 use Rattle.session_rows.specs.declared.cubes.Cubes.{Cubes}
-use Rattle.session_run.specs.Counted.{CountsAbsence, CountsFault}
+use Rattle.loaded_files.specs.CountedReplies.{CountsAbsence, CountsFault, GainsReplies}
 use Rattle.session_run.specs.FromShelf.{ExecutesFromShelf}
 use Rattle.script_sentences.specs.Sentences.{IsRunnable, sentence_of}
 use Rattle.script_sentences.specs.declared.said.Said.{Said}
-use Rattle.session_scripts.specs.CountedReplies.{GainsReplies}
 use Rattle.session_scripts.specs.PlayedFromShelf.{HasPlayedFromShelf, PlaysFromShelf}
-use Rattle.session_scripts.proofs.MoreReplies.{gains_more, gains_none}
+use Rattle.loaded_files.proofs.MoreReplies.{gains_more, gains_none}
 use Rattle.session_scripts.proofs.NextFromShelf.{next_from_shelf}
 
 -- What a shelf tells of its files, and its counts.

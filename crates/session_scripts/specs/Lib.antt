@@ -1,2 +1,1 @@
 pub mod PlayedFromShelf
-pub mod CountedReplies

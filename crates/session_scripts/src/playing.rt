@@ -6,7 +6,7 @@ ghost use Rattle.std.specs.Bool.{OnTrue};
 ghost use Rattle.std.specs.List.{AllByRecursion};
 ghost use Rattle.session_rows.specs.CubesAtDesk.{IsAtCubes};
 ghost use Rattle.script_sentences.specs.Sentences.{IsRunnable};
-ghost use Rattle.session_scripts.specs.CountedReplies.{GainsReplies};
+ghost use Rattle.loaded_files.specs.CountedReplies.{GainsReplies};
 ghost use Rattle.session_scripts.specs.PlayedFromShelf.{PlaysFromShelf};
 
 use aosi_desk::Desk;

@@ -1,8 +1,7 @@
 -- Replies are counted one after the other.
 use Rattle.std.proofs.Common.{◌≡◌, ◌∙◌, ℕ, List, [], ◌∷◌, ◌++◌, refl, sym, ap, subst, append_assoc, append-nil}
 use Rattle.cube_journal.specs.declared.reply.Reply.{Reply}
-use Rattle.session_run.specs.Counted.{CountsAbsence, CountsFault}
-use Rattle.session_scripts.specs.CountedReplies.{CountsEach, GainsReplies}
+use Rattle.loaded_files.specs.CountedReplies.{CountsAbsence, CountsEach, CountsFault, GainsReplies}
 
 one_more : (Counts : Reply → ℕ → ℕ → Type 0) (replies : List Reply) (said : Reply) (before middle now : ℕ)
     → CountsEach Counts replies before middle → Counts said middle now
