@@ -5,8 +5,8 @@ use Rattle.std.proofs.lemmas.Bool.{or_right}
 use Rattle.std.proofs.lemmas.List.{length-replicate}
 use Rattle.board_callers.specs.Callers.{HasHistoryOf}
 use Rattle.closing_calls.specs.ClosingCalls.{HasPurgedAll, IsMainReady, MainIsReady, MainKnows, MainStays}
-use Rattle.core_board.specs.Links.{AreEventsOf}
-use Rattle.core_board_cells.specs.BoardCells.{AnswerSays, IsEntryEvent}
+use Rattle.cube_core.specs.Links.{AreEventsOf}
+use Rattle.cube_core.specs.BoardCells.{AnswerSays, IsEntryEvent}
 use Rattle.core_program.proofs.ClientRuns.{client-run}
 use Rattle.core_program.proofs.KnownCalls.{earlier-run}
 use Rattle.core_program.specs.Knowing.{Claim, HasRunOfClient, IsClientOf, IsLaterRun, Knows}

@@ -1,9 +1,9 @@
 -- What main knows after one more call.
 use Rattle.std.proofs.Common.{◌≡◌, ◌∙◌, ℕ, ◌+◌, ◌≤◌, zero, suc, true, List, [], ◌∷◌, ◌++◌, append_assoc, append-nil, max, refl, sym, ap, subst, arith}
-use Rattle.client_calls.specs.ClientCalls.{close_entry, desk_entry}
+use Rattle.core_program.specs.ClientCalls.{close_entry, desk_entry}
 use Rattle.closing_calls.specs.ClosingCalls.{MainIsReady, MainStays, close_entries}
-use Rattle.core_board.specs.Links.{AreEventsOf}
-use Rattle.core_board_cells.specs.BoardCells.{IsEntryEvent}
+use Rattle.cube_core.specs.Links.{AreEventsOf}
+use Rattle.cube_core.specs.BoardCells.{IsEntryEvent}
 use Rattle.core_cells.specs.declared.desk.DeskAnswer.TheVariants as answer
 use Rattle.core_cells.specs.declared.desk.DeskCall.TheVariants as call
 use Rattle.core_program.proofs.KnownCalls.{close-learns, desk-learns, earlier-run}

@@ -1,9 +1,9 @@
 -- Main posts a purge to each shard, and fetches the answer of each.
 use Rattle.std.proofs.Common.{◌≡◌, ◌∙◌, ℕ, zero, suc, ◌+◌, ◌<◌, ◌≤◌, List, [], ◌∷◌, ◌++◌, length, replicate, slice_get, Some, refl, sym, ap, subst, arith}
 use Rattle.std.proofs.lemmas.List.{length-replicate}
-use Rattle.client_calls.specs.ClientCalls.{HasFetched, LearnsByFetch, post_entry}
-use Rattle.core_board.specs.Links.{AreEventsOf}
-use Rattle.core_board_cells.specs.BoardCells.{IsEntryEvent, job_asked}
+use Rattle.core_program.specs.ClientCalls.{HasFetched, LearnsByFetch, post_entry}
+use Rattle.cube_core.specs.Links.{AreEventsOf}
+use Rattle.cube_core.specs.BoardCells.{IsEntryEvent, job_asked}
 use Rattle.core_program.proofs.KnownCalls.{post-learns}
 use Rattle.core_program.specs.Knowing.{IsClientOf, Knows, MayFetchFrom, MayPostJob}
 use Rattle.core_events.specs.Events.{Opening, CoreEvent, Post}

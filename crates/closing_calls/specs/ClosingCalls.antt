@@ -1,14 +1,14 @@
 -- The calls of main before the sessions and after them, and what it then knows. It is client 0 by its own number.
 -- Source: Cubrick (VLDB 2016), purges up to LSE; what main does at the end of a run is this project's own.
 use Rattle.std.specs.Prelude.{◌≡◌, ℕ, ◌+◌, zero, suc, true, List, [], ◌∷◌, ◌++◌}
-use Rattle.client_calls.specs.ClientCalls.{close_entry}
+use Rattle.core_program.specs.ClientCalls.{close_entry}
 use Rattle.core_events.specs.Clients.{ClientState}
 use Rattle.core_events.specs.Events.{Opening}
 use Rattle.core_events.specs.Fitting.{HasAllDone}
 use Rattle.core_events.specs.Groups.{Purges, is_ready}
 use Rattle.core_program.specs.CoreFits.{CoreEntry}
 use Rattle.cube_core.specs.declared.cell.CoreCell.{CoreCell}
-use Rattle.known_holds.specs.KnownHolds.{KnowsState}
+use Rattle.session_snapshots.specs.KnownHolds.{KnowsState}
 use Rattle.linked_shards.specs.CellShards.{CoreShardStands}
 use Rattle.linked_shards.specs.declared.cell.CoreShard.{CoreShard}
 use Rattle.session_requests.specs.SessionRequests.{KnowsSafe}

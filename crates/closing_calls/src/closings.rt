@@ -1,6 +1,6 @@
 //! Main closes the mails.
 ghost use Rattle.std.specs.Prelude.{◌≡◌, ◌+◌, ◌≤◌, ◌<◌, [], ◌∷◌, ◌++◌};
-ghost use Rattle.client_calls.specs.ClientCalls.{close_entry};
+ghost use Rattle.core_program.specs.ClientCalls.{close_entry};
 ghost use Rattle.closing_calls.specs.ClosingCalls.{MainStays, close_entries};
 ghost use Rattle.core_program.specs.Knowing.{IsClientOf, IsMailAt};
 ghost use Rattle.job_groups.specs.AskedEach.{AreShardMails};
@@ -9,8 +9,7 @@ ghost use Rattle.shard_events.specs.ShardsInRuns.{FitsShard, ShardAnswerSays};
 ghost use Rattle.turn_board.specs.Passes.{callers_of};
 
 use board_callers::CellCaller;
-use client_calls::close_mail;
-use core_program::{CoreSize, clients_learn_by_each_call};
+use core_program::{CoreSize, clients_learn_by_each_call, close_mail};
 use linked_shards::{CoreShard, ShardCells};
 use std::sync::Wait;
 use turn_board::Board;

@@ -1,6 +1,6 @@
 //! Main reads the counters.
 ghost use Rattle.std.specs.Prelude.{◌≡◌, [], ◌∷◌, ◌++◌};
-ghost use Rattle.client_calls.specs.ClientCalls.{desk_entry};
+ghost use Rattle.core_program.specs.ClientCalls.{desk_entry};
 ghost use Rattle.closing_calls.specs.ClosingCalls.{MainStays};
 ghost use Rattle.core_program.specs.AnswersOfCalls.{DeskAnswers};
 ghost use Rattle.core_cells.specs.declared.desk.DeskAnswer.TheVariants as answer;
@@ -11,8 +11,8 @@ ghost use Rattle.session_requests.specs.SessionRequests.{KnowsSafe};
 ghost use Rattle.shard_events.specs.ShardsInRuns.{FitsShard, ShardAnswerSays};
 
 use board_callers::CellCaller;
-use client_calls::call_desk_cell;
 use core_cells::{DeskAnswer, DeskCall};
+use core_program::call_desk_cell;
 use cube_journal::Counters;
 use linked_shards::{CoreShard, ShardCells};
 use session_requests::sessions_know_the_lse_they_saw;

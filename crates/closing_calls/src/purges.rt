@@ -1,6 +1,6 @@
 //! Main has every shard purge.
 ghost use Rattle.std.specs.Prelude.{◌≡◌, ◌+◌, ◌≤◌, [], ◌∷◌, ◌++◌};
-ghost use Rattle.client_calls.specs.ClientCalls.{desk_entry};
+ghost use Rattle.core_program.specs.ClientCalls.{desk_entry};
 ghost use Rattle.closing_calls.specs.ClosingCalls.{HasPurgedAll, MainIsReady, MainKnows, MainStays};
 ghost use Rattle.core_program.specs.Knowing.{IsClientOf};
 ghost use Rattle.core_cells.specs.declared.desk.DeskAnswer.TheVariants as answer;
@@ -15,8 +15,7 @@ ghost use Rattle.turn_board.specs.Passes.{callers_of};
 
 use crate::counters::read_run_counters;
 use board_callers::CellCaller;
-use client_calls::{fetch_answer, post_job};
-use core_program::{CoreSize, clients_learn_by_each_call};
+use core_program::{CoreSize, clients_learn_by_each_call, fetch_answer, post_job};
 use cube_core::{Job, ShardCall, Work};
 use cube_journal::Counters;
 use linked_shards::{CoreShard, ShardCells};

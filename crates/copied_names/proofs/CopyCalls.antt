@@ -3,8 +3,8 @@ use Rattle.std.proofs.Common.{◌≡◌, ◌∙◌, ℕ, List, [], ◌∷◌, �
 use Rattle.std.specs.List.{AllByRecursion}
 use Rattle.std.proofs.lemmas.List.Elements.{All-contains, All-from_recursion, filter-append}
 use mathlib.Core.List.{IsPrefix}
-use Rattle.core_board.specs.Links.{AreEventsAfter}
-use Rattle.core_board_cells.specs.BoardCells.{IsEntryEvent, IsEventOf, client_of}
+use Rattle.cube_core.specs.Links.{AreEventsAfter}
+use Rattle.cube_core.specs.BoardCells.{IsEntryEvent, IsEventOf, client_of}
 use Rattle.core_program.specs.Knowing.{IsLaterRun}
 use Rattle.core_cells.specs.declared.names.NamesAnswer.TheVariants as told
 use Rattle.core_cells.specs.declared.names.NamesCall.TheVariants as names

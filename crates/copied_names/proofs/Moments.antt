@@ -1,7 +1,7 @@
 -- A run that goes on from a caller's calls passes the moment right after them.
 use Rattle.std.proofs.Common.{◌≡◌, ◌∙◌, ℕ, eqb, Bool, true, false, cond, List, [], ◌∷◌, ◌++◌, append-nil, refl, sym, ap, subst}
-use Rattle.core_board.specs.Links.{AreEventsAfter, AreEventsOf}
-use Rattle.core_board_cells.specs.BoardCells.{IsEntryEvent, IsShardLinked}
+use Rattle.cube_core.specs.Links.{AreEventsAfter, AreEventsOf}
+use Rattle.cube_core.specs.BoardCells.{IsEntryEvent, IsShardLinked}
 use Rattle.core_program.specs.Knowing.{IsLaterRun}
 use Rattle.core_events.specs.Events.{Opening, CoreEvent}
 use Rattle.core_events.specs.Jobs.{CoreJob, JobOutcome}

@@ -3,9 +3,9 @@ use Rattle.std.proofs.Common.{◌≡◌, ◌≢◌, ◌∙◌, ℕ, ◌<◌, ◌
 use Rattle.std.specs.Prelude.{IfSome}
 use Rattle.std.specs.List.{AllByRecursion}
 use Rattle.std.proofs.lemmas.Bool.{false≢true}
-use Rattle.core_board.specs.Links.{AreEventsAfter, is_of_rounds}
-use Rattle.core_board_cells.proofs.OwnEntries.{client-high, own-rounds}
-use Rattle.core_board_cells.specs.BoardCells.{IsEntryEvent, server_of}
+use Rattle.cube_core.specs.Links.{AreEventsAfter, is_of_rounds}
+use Rattle.cube_core.proofs.OwnEntries.{client-high, own-rounds}
+use Rattle.cube_core.specs.BoardCells.{IsEntryEvent, server_of}
 use Rattle.core_program.specs.Knowing.{Knows, MayCallNames}
 use Rattle.core_cells.specs.declared.names.NamesAnswer.{NamesAnswer}
 use Rattle.core_cells.specs.declared.names.NamesAnswer.TheVariants as told
@@ -16,7 +16,7 @@ use Rattle.core_events.specs.Events.{Opening, flush_mail, RoundOpen, ClientCall,
 use Rattle.core_events.specs.Fitting.{FitsCall}
 use Rattle.core_events.specs.Jobs.{CoreJob, JobOutcome}
 use Rattle.core_events.specs.ShardView.{ShardView}
-use Rattle.core_board_cells.specs.NamesEvents.{names_event}
+use Rattle.cube_core.specs.NamesEvents.{names_event}
 use Rattle.core_program.specs.CoreFits.{CoreEntry}
 use Rattle.cube_core.specs.declared.cell.CoreCell.{CoreCell}
 use Rattle.cube_core.specs.declared.shard.ShardAnswer.{ShardAnswer}

@@ -2,11 +2,11 @@
 -- Source: Cubrick (VLDB 2016), dictionary encoding of text dimensions. A promise speaks of every run that goes on, as
 -- with prophecy variables (Abadi and Lamport, 1991).
 use Rattle.std.specs.Prelude.{◌≡◌, ℕ, List, ◌++◌, Result, Ok, Err}
-use Rattle.client_calls.specs.ClientCalls.{names_entry}
+use Rattle.core_program.specs.ClientCalls.{names_entry}
 use Rattle.condition_spans.specs.Codes.{lists_at}
 use Rattle.core_agreements.specs.NamedQueries.{EndAs}
-use Rattle.core_board.specs.Links.{AreEventsAfter}
-use Rattle.core_board_cells.specs.BoardCells.{IsEntryEvent}
+use Rattle.cube_core.specs.Links.{AreEventsAfter}
+use Rattle.cube_core.specs.BoardCells.{IsEntryEvent}
 use Rattle.core_program.specs.Knowing.{IsClientOf, IsLaterRun, IsSessionOf}
 use Rattle.core_cells.specs.declared.names.NamesAnswer.{NamesAnswer}
 use Rattle.core_cells.specs.declared.names.NamesAnswer.TheVariants as told

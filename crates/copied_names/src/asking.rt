@@ -12,10 +12,9 @@ ghost use Rattle.cube_core.specs.declared.cell.CoreAnswer.TheVariants as answer;
 ghost use Rattle.cube_core.specs.declared.cell.CoreCall.TheVariants as call;
 
 use board_callers::CellCaller;
-use core_board_cells::LinkedShard;
 use core_cells::{NamesAnswer, NamesCall};
 use core_program::{CoreCells, answers_fit_their_calls, clients_fit_by_what_they_know};
-use cube_core::{CoreAnswer, CoreCall};
+use cube_core::{CoreAnswer, CoreCall, LinkedShard};
 use cube_values::Texts;
 use std::alloc::AllocError;
 use std::sync::Wait;

@@ -6,15 +6,15 @@ ghost use Rattle.std.specs.Str.{bytes_eq};
 ghost use Rattle.condition_spans.specs.Codes.{lists_at};
 ghost use Rattle.copied_names.specs.CopiedNames.{AreCopiedBetween, MayCopyCube};
 ghost use Rattle.core_names.specs.AskedNames.{GoOnByNames};
-ghost use Rattle.known_holds.specs.KnownHolds.{HoldsTheSame};
+ghost use Rattle.session_snapshots.specs.KnownHolds.{HoldsTheSame};
 ghost use Rattle.query_plan.specs.Ties.{AreDistinct};
 ghost use Rattle.round_copies.specs.RoundCopies.{AreNamesTold, HasMoreWith, HasNamesTold};
 
 use crate::asking::ask_for_copy;
 use board_callers::CellCaller;
-use core_board_cells::LinkedShard;
 use core_names::names_calls_keep_what_is_held;
 use core_program::{CoreCells, clients_know_their_runs};
+use cube_core::LinkedShard;
 use cube_schema::Schema;
 use cube_values::{NameLists, TextLists, Texts};
 use std::alloc::{AllocError, Global};

@@ -7,7 +7,7 @@ ghost use Rattle.core_events.specs.Events.{CoreEvent, Opening};
 ghost use Rattle.core_program.specs.CoreFits.{CoreEntry};
 ghost use Rattle.cube_core.specs.declared.cell.CoreCell.{CoreCell};
 
-use core_board_cells::LinkedShard;
+use cube_core::LinkedShard;
 
 /// Each run that goes on from a caller's calls passes the moment at which it has made just these.
 pub fn runs_pass_the_moment_after_calls<S: LinkedShard>()

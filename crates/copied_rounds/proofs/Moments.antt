@@ -1,6 +1,6 @@
 -- The moment of a run at which a caller had made the first of its calls, and an entry behind it.
 use Rattle.std.proofs.Common.{◌≡◌, ◌∙◌, ℕ, zero, suc, ◌<◌, Bool, true, false, List, [], ◌∷◌, ◌++◌, length, drop, get_or, slice_index_or, cond, filter, append_assoc, refl, sym, ap, subst, arith}
-use Rattle.core_board.specs.Links.{EventOf, AreEventsAfter}
+use Rattle.cube_core.specs.Links.{EventOf, AreEventsAfter}
 use Rattle.core_events.specs.Events.{CoreEvent}
 use Rattle.turn_board.specs.declared.history.Event.{Event}
 

@@ -1,9 +1,9 @@
 -- What the flusher was told by later calls holds at some moment since it had made the earlier ones.
 use Rattle.std.proofs.Common.{◌≡◌, ◌∙◌, ℕ, List, [], ◌∷◌, ◌++◌, drop, Contains, append_assoc, append-nil, sym, subst}
 use Rattle.std.proofs.lemmas.List.Elements.{All-contains_itself, All-filter, Contains-append_left}
-use Rattle.client_calls.specs.ClientCalls.{desk_entry, names_entry}
-use Rattle.core_board.specs.Links.{AreEventsOf}
-use Rattle.core_board_cells.specs.BoardCells.{IsEntryEvent, client_of}
+use Rattle.core_program.specs.ClientCalls.{desk_entry, names_entry}
+use Rattle.cube_core.specs.Links.{AreEventsOf}
+use Rattle.cube_core.specs.BoardCells.{IsEntryEvent, client_of}
 use Rattle.core_program.proofs.ClientRuns.{known-in-run}
 use Rattle.core_program.proofs.FlusherCalls.{is-client}
 use Rattle.core_program.proofs.KnownCalls.{client-part}

@@ -3,7 +3,7 @@ use Rattle.std.proofs.Common.{ℕ, List}
 use Rattle.core_program.specs.CoreFits.{CoreEntry}
 use Rattle.core_states.specs.StandingInCore.{HoldsForMode}
 use Rattle.cube_core.specs.declared.cell.CoreCell.{CoreCell}
-use Rattle.known_holds.specs.KnownHolds.{HoldsNothing}
+use Rattle.session_snapshots.specs.KnownHolds.{HoldsNothing}
 use Rattle.linked_shards.specs.CellShards.{CoreShardStands}
 use Rattle.linked_shards.specs.declared.cell.CoreShard.{CoreShard}
 use Rattle.core_changes.specs.ChangeEnds.{failed_mode}

@@ -6,7 +6,7 @@ ghost use Rattle.core_states.specs.LeftBehind.{GoOnByCalls, IsPlainCall};
 ghost use Rattle.core_states.specs.StandingInCore.{HoldsForMode};
 ghost use Rattle.cube_run.specs.SessionStates.{Idle};
 ghost use Rattle.cube_run.specs.StatementEntries.{is_aborted};
-ghost use Rattle.known_holds.specs.KnownHolds.{HoldsNothing, HoldsWriter};
+ghost use Rattle.session_snapshots.specs.KnownHolds.{HoldsNothing, HoldsWriter};
 ghost use Rattle.linked_shards.specs.CellShards.{CoreShardStands};
 ghost use Rattle.core_changes.specs.ChangeEnds.{IsWriterFor, begun_entries};
 ghost use Rattle.session_replies.specs.Modes.{mode_of};

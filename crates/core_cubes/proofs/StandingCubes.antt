@@ -7,9 +7,9 @@ use Rattle.std.proofs.lemmas.List.Elements.{filter_map-append}
 use Rattle.std.proofs.lemmas.List.Sums.{take_while-cons}
 use Rattle.aosi_desk.specs.Desks.{IsFound}
 use Rattle.aosi_desk.specs.declared.cube.CubeFound.TheVariants.{Found}
-use Rattle.client_calls.specs.ClientCalls.{desk_entry}
-use Rattle.core_board.specs.Links.{AreEventsOf}
-use Rattle.core_board_cells.specs.BoardCells.{IsEntryEvent}
+use Rattle.core_program.specs.ClientCalls.{desk_entry}
+use Rattle.cube_core.specs.Links.{AreEventsOf}
+use Rattle.cube_core.specs.BoardCells.{IsEntryEvent}
 use Rattle.core_program.proofs.KnownCalls.{client-part, desk-learns, earlier-run, go-on-from}
 use Rattle.core_program.specs.Knowing.{IsClientOf, IsLaterRun, IsSessionOf}
 use Rattle.core_cells.specs.declared.desk.DeskAnswer.TheVariants as answer

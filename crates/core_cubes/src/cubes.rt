@@ -20,9 +20,9 @@ ghost use Rattle.session_replies.specs.Modes.{mode_of};
 
 use aosi_desk::CubeAnswer;
 use board_callers::CellCaller;
-use core_board_cells::LinkedShard;
 use core_program::CoreCells;
 use core_states::{CoreSession, refuse_memory, refuse_plainly};
+use cube_core::LinkedShard;
 use cube_journal::{Refusal, Reply};
 use cube_language::{Decl, MOST_STATEMENTS, SchemaFault};
 use cube_schema::check;

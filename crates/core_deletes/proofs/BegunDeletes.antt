@@ -27,7 +27,7 @@ use Rattle.linked_shards.specs.CellShards.{CoreShardStands}
 use Rattle.linked_shards.specs.declared.cell.CoreShard.{CoreShard}
 use Rattle.query_plan.proofs.Plans.{delete_of}
 use Rattle.query_plan.specs.Bindings.{DeletesRows}
-use Rattle.known_holds.specs.KnownHolds.{HoldsWriter}
+use Rattle.session_snapshots.specs.KnownHolds.{HoldsWriter}
 use Rattle.session_groups.specs.ShardGroups.{HoldsAfterWrite, HoldsOpenWriter}
 use Rattle.session_groups.specs.declared.deletions.WriteEnd.{WriteEnd}
 use Rattle.session_groups.specs.declared.deletions.WriteEnd.TheVariants as ends

@@ -5,7 +5,7 @@ ghost use Rattle.core_deletes.specs.DeleteEnds.{AnswersAsDelete};
 ghost use Rattle.core_events.specs.Serial.{DropRows};
 ghost use Rattle.core_program.specs.CoreFits.{CoreEntry};
 ghost use Rattle.dropped_regions.specs.DeleteBoxes.{IsBoxOf};
-ghost use Rattle.known_holds.specs.KnownHolds.{HoldsWriter};
+ghost use Rattle.session_snapshots.specs.KnownHolds.{HoldsWriter};
 ghost use Rattle.linked_shards.specs.CellShards.{CoreShardStands};
 ghost use Rattle.shard_events.specs.ShardsInRuns.{FitsShard, ShardAnswerSays};
 ghost use Rattle.core_changes.specs.ChangeEnds.{IsWriterFor};

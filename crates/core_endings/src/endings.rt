@@ -5,7 +5,7 @@ ghost use Rattle.core_states.specs.LeftBehind.{LeavesBehind};
 ghost use Rattle.core_states.specs.StandingInCore.{HoldsForMode};
 ghost use Rattle.cube_run.specs.SessionStates.{KeptWatch};
 ghost use Rattle.cube_run.specs.StatementEntries.{transaction_end};
-ghost use Rattle.known_holds.specs.KnownHolds.{HoldsNothing};
+ghost use Rattle.session_snapshots.specs.KnownHolds.{HoldsNothing};
 ghost use Rattle.linked_shards.specs.CellShards.{CoreShardStands};
 ghost use Rattle.scripted_ends.specs.EndedScripts.{EndsScript};
 ghost use Rattle.scripted_pasts.specs.Served.{IsServed};

@@ -26,7 +26,7 @@ use Rattle.cube_values.specs.declared.value.Value.{Value}
 use Rattle.inserted_rows.specs.RowsInTheEnd.{IsToldOfCubeAt}
 use Rattle.known_cubes.proofs.ToldCubes.{told-later}
 use Rattle.known_cubes.specs.KnownCubes.{IsToldOfCube}
-use Rattle.known_holds.specs.KnownHolds.{HoldsWriter}
+use Rattle.session_snapshots.specs.KnownHolds.{HoldsWriter}
 use Rattle.linked_shards.specs.CellShards.{CoreShardStands}
 use Rattle.linked_shards.specs.declared.cell.CoreShard.{CoreShard}
 use Rattle.query_plan.proofs.FitConditions.{nothing}

@@ -12,7 +12,7 @@ ghost use Rattle.core_inserts.specs.InsertEnds.{
 ghost use Rattle.core_program.specs.CoreFits.{CoreEntry};
 ghost use Rattle.cube_values.specs.Batches.{Batch};
 ghost use Rattle.inserted_rows.specs.RowsInTheEnd.{IsToldOfCubeAt};
-ghost use Rattle.known_holds.specs.KnownHolds.{HoldsWriter};
+ghost use Rattle.session_snapshots.specs.KnownHolds.{HoldsWriter};
 ghost use Rattle.linked_shards.specs.CellShards.{CoreShardStands};
 ghost use Rattle.core_changes.specs.ChangeEnds.{IsWriterFor};
 ghost use Rattle.posted_pasts.specs.PostsAdded.{AddsAtEpoch, AddsOperations};

@@ -9,7 +9,7 @@ ghost use Rattle.core_program.specs.CoreFits.{CoreEntry};
 ghost use Rattle.cube_journal.specs.declared.reply.Reply.TheVariants as reply;
 ghost use Rattle.cube_run.specs.RunRecords.{LoadedFile};
 ghost use Rattle.cube_values.specs.declared.row.CodedRow.{CodedRow};
-ghost use Rattle.known_holds.specs.KnownHolds.{HoldsWriter};
+ghost use Rattle.session_snapshots.specs.KnownHolds.{HoldsWriter};
 ghost use Rattle.linked_shards.specs.CellShards.{CoreShardStands};
 ghost use Rattle.loaded_batches.specs.LoadEnds.{StandForRecords};
 ghost use Rattle.core_changes.specs.ChangeEnds.{IsWriterFor};

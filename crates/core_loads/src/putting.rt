@@ -7,7 +7,7 @@ ghost use Rattle.core_loads.specs.ShelfLoads.{IsOfRecords, allowed_loaded};
 ghost use Rattle.core_names.specs.CoreEncoders.{MayAskForCodes};
 ghost use Rattle.core_program.specs.CoreFits.{CoreEntry};
 ghost use Rattle.csv_load.specs.Loads.{BeginsLoad, LoadState};
-ghost use Rattle.known_holds.specs.KnownHolds.{HoldsWriter};
+ghost use Rattle.session_snapshots.specs.KnownHolds.{HoldsWriter};
 ghost use Rattle.linked_shards.specs.CellShards.{CoreShardStands};
 ghost use Rattle.loaded_batches.specs.LoadEnds.{HasEndedSo, HoldsAfterLoad};
 ghost use Rattle.loaded_batches.specs.LoadingCalls.{GoesOnLoading};

@@ -8,8 +8,8 @@ use Rattle.cube_values.specs.declared.shape.CubeShape.{CubeShape}
 use Rattle.names_dict.specs.declared.code.Code.{Code}
 use Rattle.names_dict.specs.declared.code.Code.TheVariants.{Known, Added, Full}
 use Rattle.names_dict.specs.Dictionaries.{Dictionary, code_of, with_code}
-use Rattle.core_board.specs.Links.{AreEventsAfter}
-use Rattle.core_board_cells.specs.BoardCells.{IsEntryEvent, IsEventOf, client_of}
+use Rattle.cube_core.specs.Links.{AreEventsAfter}
+use Rattle.cube_core.specs.BoardCells.{IsEntryEvent, IsEventOf, client_of}
 use Rattle.core_cells.specs.declared.names.NamesAnswer.TheVariants as told
 use Rattle.core_cells.specs.declared.names.NamesCall.TheVariants as names
 use Rattle.core_program.specs.Knowing.{IsLaterRun}

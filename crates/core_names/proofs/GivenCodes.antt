@@ -10,7 +10,7 @@ use Rattle.condition_spans.specs.Codes.{lists_at, texts_at}
 use Rattle.names_dict.specs.declared.code.Code.{Code}
 use Rattle.names_dict.specs.declared.code.Code.TheVariants.{Known, Added, Full}
 use Rattle.known_names.specs.KnownTexts.{code_of_known, with_text}
-use Rattle.client_calls.specs.ClientCalls.{names_entry}
+use Rattle.core_program.specs.ClientCalls.{names_entry}
 use Rattle.core_cells.specs.declared.names.NamesAnswer.TheVariants as told
 use Rattle.core_cells.specs.declared.names.NamesCall.TheVariants as names
 use Rattle.core_program.specs.Knowing.{IsLaterRun}

@@ -9,7 +9,7 @@ use Rattle.cube_language.specs.declared.decl.Decl.{Decl}
 use Rattle.cube_language.specs.declared.decl.DimDecl.{DimDecl}
 use Rattle.cube_journal.specs.declared.journal_entry.JournalEntry.{JournalEntry}
 use Rattle.names_dict.specs.Dictionaries.{IsTextDimension}
-use Rattle.client_calls.specs.ClientCalls.{names_entry}
+use Rattle.core_program.specs.ClientCalls.{names_entry}
 use Rattle.core_cells.specs.declared.names.NamesAnswer.{NamesAnswer}
 use Rattle.core_cells.specs.declared.names.NamesCall.{NamesCall}
 use Rattle.core_program.proofs.KnownCalls.{earlier-run, names-learn}
@@ -19,7 +19,7 @@ use Rattle.core_events.specs.Events.{Opening, ClientCall}
 use Rattle.core_events.specs.Fitting.{AreToldNames}
 use Rattle.core_events.specs.Jobs.{CoreJob, JobOutcome}
 use Rattle.core_events.specs.ShardView.{ShardView}
-use Rattle.core_board_cells.specs.NamesEvents.{names_event}
+use Rattle.cube_core.specs.NamesEvents.{names_event}
 use Rattle.core_states.proofs.CallEntries.{names-left}
 use Rattle.core_states.specs.OwnCalls.{OwnCallsLeave}
 use Rattle.core_program.specs.CoreFits.{CoreEntry}
@@ -29,7 +29,7 @@ use Rattle.cube_core.specs.declared.shard.ShardCall.{ShardCall}
 use Rattle.known_cubes.specs.KnownCubes.{IsToldOfCube, OpenWithStorableCubes}
 use Rattle.known_cubes.proofs.ToldCubes.{knows-cube}
 use Rattle.known_cubes.proofs.ToldNames.{knows-number}
-use Rattle.known_holds.specs.KnownHolds.{HoldsReader, HoldsReady, HoldsTheSame, HoldsWriter}
+use Rattle.session_snapshots.specs.KnownHolds.{HoldsReader, HoldsReady, HoldsTheSame, HoldsWriter}
 use Rattle.row_encoding.specs.CodedInserts.{HasNumbers}
 use Rattle.row_encoding.specs.FinalCodes.{dim_at}
 use Rattle.session_holds.proofs.Looking.{asks-names}

@@ -1,6 +1,6 @@
 -- Calls on the names alone are plain calls, which leave nothing behind them.
 use Rattle.std.proofs.Common.{ℕ, List, [], ◌∷◌, ◌++◌, refl, sym, subst, append-nil}
-use Rattle.client_calls.specs.ClientCalls.{names_entry}
+use Rattle.core_program.specs.ClientCalls.{names_entry}
 use Rattle.core_program.proofs.KnownCalls.{names-learn}
 use Rattle.core_program.specs.Knowing.{IsClientOf}
 use Rattle.core_cells.specs.declared.names.NamesAnswer.{NamesAnswer}
@@ -10,7 +10,7 @@ use Rattle.core_cells.specs.declared.names.NamesCall.TheVariants as names
 use Rattle.core_events.specs.Events.{Opening}
 use Rattle.core_events.specs.Jobs.{CoreJob, JobOutcome}
 use Rattle.core_events.specs.ShardView.{ShardView}
-use Rattle.core_board_cells.specs.NamesEvents.{names_event}
+use Rattle.cube_core.specs.NamesEvents.{names_event}
 use Rattle.core_states.proofs.CallEntries.{names-left}
 use Rattle.core_states.specs.OwnCalls.{OwnCallsLeave}
 use Rattle.core_program.specs.CoreFits.{CoreEntry}

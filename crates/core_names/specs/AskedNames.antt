@@ -4,7 +4,7 @@ use Rattle.std.specs.Prelude.{◌≡◌, ℕ, List, ◌++◌, Contains, Result, 
 use Rattle.std.specs.List.{AllByRecursion}
 use Rattle.cube_values.specs.declared.shape.CubeShape.{CubeShape}
 use Rattle.names_dict.specs.declared.code.Code.{Code}
-use Rattle.client_calls.specs.ClientCalls.{names_entry}
+use Rattle.core_program.specs.ClientCalls.{names_entry}
 use Rattle.core_cells.specs.declared.names.NamesAnswer.{NamesAnswer}
 use Rattle.core_cells.specs.declared.names.NamesAnswer.TheVariants as told
 use Rattle.core_cells.specs.declared.names.NamesCall.{NamesCall}

@@ -2,8 +2,8 @@
 -- Source: Cubrick (VLDB 2016), dictionary encoding of text dimensions. A promise speaks of every run that goes on, as
 -- with prophecy variables (Abadi and Lamport, 1991).
 use Rattle.std.specs.Prelude.{◌≡◌, ℕ, List}
-use Rattle.core_board.specs.Links.{AreEventsOf}
-use Rattle.core_board_cells.specs.BoardCells.{IsEntryEvent}
+use Rattle.cube_core.specs.Links.{AreEventsOf}
+use Rattle.cube_core.specs.BoardCells.{IsEntryEvent}
 use Rattle.core_program.specs.Knowing.{IsLaterRun}
 use Rattle.core_events.specs.Cells.{desk_of}
 use Rattle.core_events.specs.Events.{Opening, CoreEvent}

@@ -13,10 +13,9 @@ ghost use Rattle.cube_core.specs.declared.cell.CoreCall.TheVariants as call;
 ghost use Rattle.cube_values.specs.declared.shape.CubeShape.{CubeShape};
 
 use board_callers::CellCaller;
-use core_board_cells::LinkedShard;
 use core_cells::{NamesAnswer, NamesCall};
 use core_program::{CoreCells, answers_fit_their_calls, clients_fit_by_what_they_know};
-use cube_core::{CoreAnswer, CoreCall};
+use cube_core::{CoreAnswer, CoreCall, LinkedShard};
 use cube_values::{CubeShape, Text};
 use names_dict::Code;
 use std::alloc::AllocError;

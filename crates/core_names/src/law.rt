@@ -19,11 +19,11 @@ ghost use Rattle.core_program.specs.CoreFits.{CoreEntry};
 ghost use Rattle.core_states.specs.LeftBehind.{LeavesBehind};
 ghost use Rattle.cube_core.specs.declared.cell.CoreCell.{CoreCell};
 ghost use Rattle.known_cubes.specs.KnownCubes.{IsToldOfCube, OpenWithStorableCubes};
-ghost use Rattle.known_holds.specs.KnownHolds.{HoldsTheSame};
+ghost use Rattle.session_snapshots.specs.KnownHolds.{HoldsTheSame};
 ghost use Rattle.row_encoding.specs.CodedInserts.{HasNumbers};
 
-use core_board_cells::LinkedShard;
 use core_states::Besides;
+use cube_core::LinkedShard;
 
 /// What a session holds it still holds after calls on the names alone, and these leave no entries
 /// in the journal.

@@ -1,9 +1,9 @@
 -- The history of a client's calls is a run, of which what the client knows holds.
 use Rattle.std.proofs.Common.{◌≡◌, ℕ, List, sym, subst}
 use Rattle.board_callers.specs.Callers.{HasHistoryOf}
-use Rattle.core_board.proofs.LinkedHistories.{history-run}
-use Rattle.core_board.specs.Links.{AreEventsOf}
-use Rattle.core_board_cells.specs.BoardCells.{IsEntryEvent, IsShardLinked, StandsInCell}
+use Rattle.cube_core.proofs.LinkedHistories.{history-run}
+use Rattle.cube_core.specs.Links.{AreEventsOf}
+use Rattle.cube_core.specs.BoardCells.{IsEntryEvent, IsShardLinked, StandsInCell}
 use Rattle.core_program.proofs.KnownCalls.{client-part, run-now}
 use Rattle.core_program.specs.Knowing.{Claim, HasRunOfClient, IsClientOf, Knows}
 use Rattle.core_events.specs.Clients.{calls_of}

@@ -2,13 +2,13 @@
 use Rattle.std.proofs.Common.{◌≡◌, ◌∙◌, ℕ, ◌+◌, ◌<◌, ◌==◌, Bool, true, false, true≢false, List, [], ◌∷◌, ◌++◌, length, map, Some, inr, refl, sym, ap, subst, arith, eq-eqb, ne_eqb, if◌then◌else◌}
 use Rattle.mail_cell.specs.declared.answer.Taken.TheVariants as taken
 use Rattle.turn_board.specs.History.{event, of_caller}
-use Rattle.core_board.specs.Links.{AreEventsOf, HangsOn, HasOwnEvents, IsToldByCaller}
+use Rattle.cube_core.specs.Links.{AreEventsOf, HangsOn, HasOwnEvents, IsToldByCaller}
 use Rattle.board_callers.specs.Callers.{HasHistoryOf}
-use Rattle.core_board.proofs.LinkedHistories.{history-run}
-use Rattle.core_board.proofs.OwnParts.{own-part}
-use Rattle.core_board_cells.specs.BoardCells.{FlusherPart, IsEntryEvent, IsShardLinked, StandsInCell, flusher_part, job_asked, server_of}
-use Rattle.core_board_cells.proofs.OwnEntries.{client-high}
-use Rattle.core_board_cells.proofs.OwnKnowledge.{flusher-hangs, flusher-told}
+use Rattle.cube_core.proofs.LinkedHistories.{history-run}
+use Rattle.cube_core.proofs.OwnParts.{own-part}
+use Rattle.cube_core.specs.BoardCells.{FlusherPart, IsEntryEvent, IsShardLinked, StandsInCell, flusher_part, job_asked, server_of}
+use Rattle.cube_core.proofs.OwnEntries.{client-high}
+use Rattle.cube_core.proofs.OwnKnowledge.{flusher-hangs, flusher-told}
 use Rattle.core_cells.specs.declared.mail.MailAnswer.TheVariants as got
 use Rattle.core_cells.specs.declared.mail.MailCall.TheVariants as mail
 use Rattle.core_program.specs.Knowing.{Claim, IsClientOf, IsMailAt, Knows, ServesClient}

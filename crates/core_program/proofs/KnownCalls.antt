@@ -3,11 +3,11 @@ use Rattle.std.proofs.Common.{◌≡◌, ◌∙◌, ℕ, ◌<◌, ◌≤◌, ◌
 use Rattle.mail_cell.specs.declared.answer.Fetched.TheVariants.{Got, NotYet}
 use Rattle.turn_board.specs.declared.history.Event.{Event}
 use Rattle.turn_board.specs.History.{event, of_caller}
-use Rattle.core_board.specs.Links.{EventOf, AreEventsAfter, AreEventsOf, HangsOn, HasOwnEvents, IsToldByCaller, MakesCalls}
-use Rattle.core_board.proofs.OwnParts.{own-part, told-calls}
-use Rattle.core_board_cells.specs.BoardCells.{FlusherPart, IsClientCaller, IsEntryEvent, client_of, flusher_part, job_asked}
-use Rattle.core_board_cells.proofs.OwnEntries.{client-high, client-low, own-calls}
-use Rattle.core_board_cells.proofs.OwnKnowledge.{clients-hang, flusher-hangs, flusher-told}
+use Rattle.cube_core.specs.Links.{EventOf, AreEventsAfter, AreEventsOf, HangsOn, HasOwnEvents, IsToldByCaller, MakesCalls}
+use Rattle.cube_core.proofs.OwnParts.{own-part, told-calls}
+use Rattle.cube_core.specs.BoardCells.{FlusherPart, IsClientCaller, IsEntryEvent, client_of, flusher_part, job_asked}
+use Rattle.cube_core.proofs.OwnEntries.{client-high, client-low, own-calls}
+use Rattle.cube_core.proofs.OwnKnowledge.{clients-hang, flusher-hangs, flusher-told}
 use Rattle.core_cells.specs.declared.desk.DeskAnswer.{DeskAnswer}
 use Rattle.core_cells.specs.declared.desk.DeskCall.{DeskCall}
 use Rattle.core_cells.specs.declared.mail.MailAnswer.TheVariants as got
@@ -23,8 +23,8 @@ use Rattle.core_events.specs.Groups.{has_number}
 use Rattle.core_events.specs.Jobs.{CoreJob, JobOutcome}
 use Rattle.core_events.specs.Runs.{IsCoreRun}
 use Rattle.core_events.specs.ShardView.{ShardView}
-use Rattle.core_board_cells.specs.DeskEvents.{FitsDeskCall, desk_event}
-use Rattle.core_board_cells.specs.NamesEvents.{FitsNamesCall, names_event}
+use Rattle.cube_core.specs.DeskEvents.{FitsDeskCall, desk_event}
+use Rattle.cube_core.specs.NamesEvents.{FitsNamesCall, names_event}
 use Rattle.core_events.specs.Histories.{last_after, last_after_post, last_post}
 use Rattle.core_program.specs.CoreFits.{CoreEntry, FitsOwnCalls, OpensCells}
 use Rattle.cube_core.specs.declared.cell.CoreAnswer.TheVariants as answer

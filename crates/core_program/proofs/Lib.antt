@@ -3,3 +3,4 @@ pub mod Answered
 pub mod KnownCalls
 pub mod ClientRuns
 pub mod FlusherCalls
+pub mod Waiting

@@ -6,11 +6,11 @@ use Rattle.mail_cell.specs.declared.answer.Fetched.TheVariants.{Got, NotYet}
 use Rattle.mail_cell.specs.declared.answer.Taken.TheVariants.{Job as SomeJob, Empty, Closed}
 use Rattle.turn_board.specs.History.{of_caller}
 use Rattle.board_callers.specs.Callers.{HasHistoryOf}
-use Rattle.core_board.specs.Links.{AreEventsAfter, AreEventsOf}
-use Rattle.core_board.proofs.LinkedHistories.{history-run}
-use Rattle.core_board.proofs.OwnParts.{told-moves}
-use Rattle.core_board_cells.specs.BoardCells.{server_of, call_job, work_job, job_asked, WorkSuits, TakeSuits, AnswerSays, IsShardLinked, IsByItself, cell_of_shard, cell_of_mail, FitsBoardEntry, IsEventOf, IsEntryEvent, StandsInCell}
-use Rattle.core_board_cells.proofs.OwnEntries.{own-moves}
+use Rattle.cube_core.specs.Links.{AreEventsAfter, AreEventsOf}
+use Rattle.cube_core.proofs.LinkedHistories.{history-run}
+use Rattle.cube_core.proofs.OwnParts.{told-moves}
+use Rattle.cube_core.specs.BoardCells.{server_of, call_job, work_job, job_asked, WorkSuits, TakeSuits, AnswerSays, IsShardLinked, IsByItself, cell_of_shard, cell_of_mail, FitsBoardEntry, IsEventOf, IsEntryEvent, StandsInCell}
+use Rattle.cube_core.proofs.OwnEntries.{own-moves}
 use Rattle.core_cells.specs.declared.mail.MailAnswer.{MailAnswer}
 use Rattle.core_cells.specs.declared.mail.MailAnswer.TheVariants as got
 use Rattle.core_cells.specs.declared.mail.MailCall.{MailCall}
@@ -22,7 +22,7 @@ use Rattle.core_events.specs.Fitting.{RoundProgress, FitsWork, FitsMove, round_p
 use Rattle.core_events.specs.Jobs.{CoreJob, Flush, JobOutcome}
 use Rattle.core_events.specs.Runs.{IsCoreRun}
 use Rattle.core_events.specs.ShardView.{ShardView}
-use Rattle.core_board_cells.specs.MailEvents.{IsMailEvent}
+use Rattle.cube_core.specs.MailEvents.{IsMailEvent}
 use Rattle.core_events.specs.Histories.{job_served}
 use Rattle.core_program.specs.CoreFits.{CoreEntry, OpensCells, FitsOwnCalls}
 use Rattle.core_program.specs.LinkedCells.{linked-cells}

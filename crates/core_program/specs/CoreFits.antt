@@ -19,8 +19,8 @@ use Rattle.core_events.specs.Events.{Opening, IsOpening, CoreEvent}
 use Rattle.core_events.specs.Jobs.{CoreJob, JobOutcome}
 use Rattle.core_events.specs.Runs.{IsCoreRun}
 use Rattle.core_events.specs.ShardView.{ShardView}
-use Rattle.core_board.specs.Links.{AreEventsOf}
-use Rattle.core_board_cells.specs.BoardCells.{FitsBoardEntry, IsEntryEvent, StandsInCell}
+use Rattle.cube_core.specs.Links.{AreEventsOf}
+use Rattle.cube_core.specs.BoardCells.{FitsBoardEntry, IsEntryEvent, StandsInCell}
 use Rattle.turn_board.specs.History.{of_caller}
 use Rattle.turn_board.specs.declared.history.Event.{Event}
 

@@ -2,8 +2,8 @@
 -- besides.
 -- Source: this project's own.
 use Rattle.std.specs.Prelude.{◌≡◌, ℕ, List, [], ◌∷◌, Some}
-use Rattle.core_board.specs.Links.{AreEventsOf}
-use Rattle.core_board_cells.specs.BoardCells.{AnswerSays, FlusherPart, IsEntryEvent, flusher_part, server_of}
+use Rattle.cube_core.specs.Links.{AreEventsOf}
+use Rattle.cube_core.specs.BoardCells.{AnswerSays, FlusherPart, IsEntryEvent, flusher_part, server_of}
 use Rattle.core_program.specs.Knowing.{IsLaterRun}
 use Rattle.core_events.specs.Cells.{Free}
 use Rattle.core_events.specs.Clients.{state_from_calls}

@@ -4,8 +4,8 @@
 use Rattle.std.specs.Prelude.{◌≡◌, ℕ, ◌<◌, ◌≤◌, ◌==◌, true, List, [], ◌∷◌, ◌++◌, Option, Some, None, if◌then◌else◌}
 use mathlib.Core.List.{IsPrefix}
 use Rattle.turn_board.specs.History.{of_caller}
-use Rattle.core_board.specs.Links.{AreEventsOf}
-use Rattle.core_board_cells.specs.BoardCells.{AnswerSays, IsClientCaller, IsEntryEvent, PostSuits, cell_of_mail, client_of, job_asked}
+use Rattle.cube_core.specs.Links.{AreEventsOf}
+use Rattle.cube_core.specs.BoardCells.{AnswerSays, IsClientCaller, IsEntryEvent, PostSuits, cell_of_mail, client_of, job_asked}
 use Rattle.core_cells.specs.declared.desk.DeskCall.{DeskCall}
 use Rattle.core_cells.specs.declared.mail.MailCall.TheVariants as mail
 use Rattle.core_cells.specs.declared.names.NamesCall.{NamesCall}
@@ -16,9 +16,9 @@ use Rattle.core_events.specs.Groups.{has_number}
 use Rattle.core_events.specs.Jobs.{CoreJob, JobOutcome}
 use Rattle.core_events.specs.Runs.{IsCoreRun}
 use Rattle.core_events.specs.ShardView.{ShardView}
-use Rattle.core_board_cells.specs.DeskEvents.{FitsDeskCall}
-use Rattle.core_board_cells.specs.MailEvents.{clients_of}
-use Rattle.core_board_cells.specs.NamesEvents.{FitsNamesCall}
+use Rattle.cube_core.specs.DeskEvents.{FitsDeskCall}
+use Rattle.cube_core.specs.MailEvents.{clients_of}
+use Rattle.cube_core.specs.NamesEvents.{FitsNamesCall}
 use Rattle.core_program.specs.CoreFits.{AreOpeningCells, CoreEntry, OpensCells}
 use Rattle.cube_core.specs.declared.cell.CoreCell.{CoreCell}
 use Rattle.cube_core.specs.declared.jobs.Job.{Job}

@@ -4,3 +4,4 @@ pub mod Workers
 pub mod AnswersOfCalls
 pub mod Knowing
 pub mod Flushing
+pub mod ClientCalls

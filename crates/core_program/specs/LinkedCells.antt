@@ -13,10 +13,10 @@ use Rattle.core_events.specs.Events.{Opening, CoreEvent}
 use Rattle.core_events.specs.Jobs.{CoreJob, JobOutcome}
 use Rattle.core_events.specs.Runs.{IsCoreRun}
 use Rattle.core_events.specs.ShardView.{ShardView}
-use Rattle.core_board.specs.Links.{AreEventsOf, IsCallLinked, IsLinked}
-use Rattle.core_board.proofs.LinkedHistories.{run-end}
-use Rattle.core_board_cells.specs.BoardCells.{IsShardLinked, IsEntryEvent, StandsInCell}
-use Rattle.core_board_cells.proofs.EntrySteps as entry
+use Rattle.cube_core.specs.Links.{AreEventsOf, IsCallLinked, IsLinked}
+use Rattle.cube_core.proofs.LinkedHistories.{run-end}
+use Rattle.cube_core.specs.BoardCells.{IsShardLinked, IsEntryEvent, StandsInCell}
+use Rattle.cube_core.proofs.EntrySteps as entry
 use Rattle.turn_board.proofs.Places.{there as place-there}
 use Rattle.turn_board.specs.History.{of_cell, of_caller, LeadsTo, IsHistory, IsSafe}
 use Rattle.core_program.specs.CoreFits.{CoreEntry, first_decl, decl_made_by, decl_made_in, decl_at, OpensCells, FitsOwnCalls}

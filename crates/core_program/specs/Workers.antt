@@ -2,7 +2,7 @@
 -- Source: this project's own.
 use Rattle.std.specs.Prelude.{◌≡◌, ℕ, ◌<◌, List, fold}
 use Rattle.mail_cell.specs.declared.answer.Taken.TheVariants.{Job as SomeJob}
-use Rattle.core_board_cells.specs.BoardCells.{server_of, cell_of_shard, cell_of_mail}
+use Rattle.cube_core.specs.BoardCells.{server_of, cell_of_shard, cell_of_mail}
 use Rattle.core_cells.specs.declared.mail.MailAnswer.TheVariants as got
 use Rattle.core_cells.specs.declared.mail.MailCall.TheVariants as mail
 use Rattle.core_events.specs.Events.{Opening}

@@ -7,7 +7,7 @@ ghost use Rattle.core_program.specs.CoreFits.{CoreEntry, FitsOwnCalls};
 ghost use Rattle.cube_core.specs.CoreSteps.{CoreStep};
 ghost use Rattle.cube_core.specs.declared.cell.CoreCell.{CoreCell};
 
-use core_board_cells::LinkedShard;
+use cube_core::LinkedShard;
 
 /// Each call that a caller made has an answer that it may have, and so has the last.
 pub fn answers_fit_their_calls<S: LinkedShard>()

@@ -1,12 +1,10 @@
 //! The cells of the core, for a board.
-ghost use Rattle.core_board_cells.specs.BoardCells.{IsEntryEvent, StandsInCell};
+ghost use Rattle.cube_core.specs.BoardCells.{IsEntryEvent, StandsInCell};
 ghost use Rattle.core_program.specs.LinkedCells.{linked-cells, safe-cells};
 ghost use Rattle.core_program.specs.CoreFits.{FitsOwnCalls, OpensCells};
 ghost use Rattle.cube_core.specs.CoreSteps.{CanTake, CoreStep};
 
-use core_board::CoreBoard;
-use core_board_cells::LinkedShard;
-use cube_core::{CoreAnswer, CoreCall, CoreCell, apply};
+use cube_core::{CoreAnswer, CoreBoard, CoreCall, CoreCell, LinkedShard, apply};
 use std::marker::PhantomData;
 use turn_board::Cells;
 

@@ -9,12 +9,12 @@ ghost use Rattle.core_cells.specs.declared.mail.MailCall.TheVariants as mail;
 ghost use Rattle.core_cells.specs.declared.names.NamesAnswer.{NamesAnswer};
 ghost use Rattle.core_cells.specs.declared.names.NamesCall.{NamesCall};
 ghost use Rattle.core_program.specs.Knowing.{GoOnBy, GoOnByFetch, GoOnFrom, HasRunOfClient, IsClientOf, IsLaterRun, IsMailAt, Knows, MayCallDesk, MayCallNames, MayFetchFrom, MayPostJob, ServesClient};
-ghost use Rattle.core_board.specs.Links.{AreEventsOf};
-ghost use Rattle.core_board_cells.specs.BoardCells.{IsEntryEvent, job_asked};
+ghost use Rattle.cube_core.specs.Links.{AreEventsOf};
+ghost use Rattle.cube_core.specs.BoardCells.{IsEntryEvent, job_asked};
 ghost use Rattle.core_events.specs.Clients.{state_from_calls};
 ghost use Rattle.core_events.specs.Events.{Opening, CloseMail, CoreEvent, NoChange, Post};
-ghost use Rattle.core_board_cells.specs.DeskEvents.{desk_event};
-ghost use Rattle.core_board_cells.specs.NamesEvents.{names_event};
+ghost use Rattle.cube_core.specs.DeskEvents.{desk_event};
+ghost use Rattle.cube_core.specs.NamesEvents.{names_event};
 ghost use Rattle.core_program.specs.CoreFits.{CoreEntry, FitsOwnCalls, OpensCells};
 ghost use Rattle.cube_core.specs.CoreSteps.{CoreStep};
 ghost use Rattle.cube_core.specs.declared.cell.CoreAnswer.TheVariants as answer;
@@ -25,7 +25,7 @@ ghost use Rattle.cube_core.specs.declared.jobs.JobAnswer.{JobAnswer};
 ghost use Rattle.mail_cell.specs.declared.answer.Fetched.TheVariants.{Got, NotYet};
 ghost use Rattle.turn_board.specs.History.{event};
 
-use core_board_cells::LinkedShard;
+use cube_core::LinkedShard;
 
 /// A client may make a call where it knows that it may, by its own calls alone.
 pub fn clients_fit_by_what_they_know<S: LinkedShard>()

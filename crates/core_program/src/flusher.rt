@@ -2,8 +2,8 @@
 
 ghost use Rattle.std.specs.Prelude.{◌≡◌, ◌<◌, ℕ, List, [], ◌∷◌, ◌++◌, map, Some, true, false};
 ghost use Rattle.board_callers.specs.Callers.{HasHistoryOf};
-ghost use Rattle.core_board.specs.Links.{AreEventsOf};
-ghost use Rattle.core_board_cells.specs.BoardCells.{IsEntryEvent, flusher_part, job_asked};
+ghost use Rattle.cube_core.specs.Links.{AreEventsOf};
+ghost use Rattle.cube_core.specs.BoardCells.{IsEntryEvent, flusher_part, job_asked};
 ghost use Rattle.core_cells.specs.declared.mail.MailAnswer.TheVariants as got;
 ghost use Rattle.core_cells.specs.declared.mail.MailCall.TheVariants as mail;
 ghost use Rattle.core_program.specs.Knowing.{IsClientOf, IsMailAt, ServesClient};
@@ -21,7 +21,7 @@ ghost use Rattle.cube_core.specs.declared.jobs.JobAnswer.{JobAnswer};
 ghost use Rattle.mail_cell.specs.declared.answer.Taken.TheVariants as taken;
 ghost use Rattle.turn_board.specs.History.{event};
 
-use core_board_cells::LinkedShard;
+use cube_core::LinkedShard;
 
 /// The flusher is a client, and one of the clients of each shard's mail.
 pub fn the_flusher_is_a_client<S: LinkedShard>()

@@ -8,7 +8,7 @@ ghost use Rattle.cube_core.specs.CoreSteps.{CoreStep};
 ghost use Rattle.cube_core.specs.declared.cell.CoreCell.{CoreCell};
 ghost use Rattle.cube_core.specs.declared.jobs.Job.{Job};
 
-use core_board_cells::LinkedShard;
+use cube_core::LinkedShard;
 
 /// The worker of a shard may take a job where it has none in hand, do on its shard what it took, and
 /// reply what it did, whatever others do. A job that it took is one for a shard.

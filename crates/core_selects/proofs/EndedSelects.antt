@@ -3,7 +3,7 @@ use Rattle.std.proofs.Common.{◌≡◌, ℕ, List, [], ◌∷◌, ◌++◌, ref
 use mathlib.Core.List.{IsPrefix}
 use Rattle.core_selects.specs.ReadLines.{GoesOnHolding}
 use Rattle.core_selects.specs.SelectEnds.{EndsSelect, HasClosedReader, HasOpenedReader, LeavesRefusal, gave_up, unfit, without_memory}
-use Rattle.client_calls.specs.ClientCalls.{desk_entry}
+use Rattle.core_program.specs.ClientCalls.{desk_entry}
 use Rattle.core_cells.specs.declared.desk.DeskAnswer.TheVariants as answer
 use Rattle.core_cells.specs.declared.desk.DeskCall.TheVariants as call
 use Rattle.core_events.specs.Clients.{reader_up_to}
@@ -27,7 +27,7 @@ use Rattle.cube_run.specs.SessionStates.{Idle}
 use Rattle.cube_values.specs.declared.snapshot.Snapshot.{Snapshot}
 use Rattle.known_cubes.proofs.ToldCubes.{told-later}
 use Rattle.known_cubes.specs.KnownCubes.{IsToldOfCube}
-use Rattle.known_holds.specs.KnownHolds.{HoldsReader}
+use Rattle.session_snapshots.specs.KnownHolds.{HoldsReader}
 use Rattle.linked_shards.specs.CellShards.{CoreShardStands}
 use Rattle.linked_shards.specs.declared.cell.CoreShard.{CoreShard}
 use Rattle.session_desk.specs.Executed.{IfReplied, OnStopped}

@@ -5,15 +5,15 @@ use Rattle.agg_fold.specs.Standing.{HasRoom}
 use Rattle.agg_fold.specs.declared.groups.Groups.{Groups}
 use Rattle.core_selects.specs.ReadLines.{GoesOnHolding}
 use Rattle.board_callers.specs.Callers.{HasHistoryOf}
-use Rattle.client_calls.specs.ClientCalls.{desk_entry}
-use Rattle.core_board.specs.Links.{AreEventsOf}
+use Rattle.core_program.specs.ClientCalls.{desk_entry}
+use Rattle.cube_core.specs.Links.{AreEventsOf}
 use Rattle.core_cells.specs.declared.desk.DeskAnswer.TheVariants as answer
 use Rattle.core_cells.specs.declared.desk.DeskCall.TheVariants as call
 use Rattle.core_events.specs.Clients.{calls_of, state_from_calls}
 use Rattle.core_names.proofs.PlainNames.{left-by-names}
 use Rattle.core_names.specs.AskedNames.{GoOnByNames}
 use Rattle.core_program.proofs.KnownCalls.{earlier-run, go-on-from}
-use Rattle.core_board_cells.specs.BoardCells.{IsEntryEvent}
+use Rattle.cube_core.specs.BoardCells.{IsEntryEvent}
 use Rattle.core_program.specs.CoreFits.{CoreEntry, FitsOwnCalls}
 use Rattle.core_program.specs.Knowing.{IsClientOf, IsLaterRun, IsSessionOf}
 use Rattle.core_serial.specs.Queries.{rows_fetched}
@@ -26,7 +26,7 @@ use Rattle.cube_values.specs.declared.query.BoundQuery.{BoundQuery}
 use Rattle.cube_values.specs.declared.shape.CubeShape.{CubeShape}
 use Rattle.cube_values.specs.declared.snapshot.Snapshot.{Snapshot}
 use Rattle.job_groups.specs.AskedEach.{AreShardMails}
-use Rattle.known_holds.specs.KnownHolds.{HoldsTheSame}
+use Rattle.session_snapshots.specs.KnownHolds.{HoldsTheSame}
 use Rattle.linked_shards.specs.CellShards.{CoreShardStands, CoreShardStep}
 use Rattle.shard_events.specs.ShardsInRuns.{FitsShard, ShardAnswerSays}
 use Rattle.linked_shards.specs.declared.cell.CoreShard.{CoreShard}

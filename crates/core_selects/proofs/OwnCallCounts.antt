@@ -1,7 +1,7 @@
 -- Each entry of a session is one call of it, so that entries and calls are as many.
 use Rattle.std.proofs.Common.{◌≡◌, ◌∙◌, ℕ, suc, ◌+◌, ◌≤◌, Bool, nat_le, List, [], ◌∷◌, ◌++◌, length, refl, sym, ap, arith, eq-eqb, leb-true, length-append, if◌then◌else◌, true, false}
 use Rattle.std.specs.List.{AllByRecursion}
-use Rattle.core_board.specs.Links.{AreEventsAfter}
+use Rattle.cube_core.specs.Links.{AreEventsAfter}
 use Rattle.core_cells.specs.declared.mail.MailAnswer.{MailAnswer}
 use Rattle.core_cells.specs.declared.mail.MailAnswer.TheVariants as got
 use Rattle.core_cells.specs.declared.mail.MailCall.{MailCall}
@@ -10,11 +10,11 @@ use Rattle.core_events.specs.Clients.{calls_of, client_state}
 use Rattle.core_events.specs.Events.{Opening, IsSession, flusher, Post, Fetch, NoChange, ClientCall, CoreEvent, By}
 use Rattle.core_events.specs.Jobs.{CoreJob, JobOutcome}
 use Rattle.core_events.specs.ShardView.{ShardView}
-use Rattle.core_board_cells.specs.DeskEvents.{desk_event}
-use Rattle.core_board_cells.specs.MailEvents.{IsMailEvent}
-use Rattle.core_board_cells.specs.NamesEvents.{names_event}
-use Rattle.core_board_cells.proofs.OwnEntries.{client-low}
-use Rattle.core_board_cells.specs.BoardCells.{AnswerSays, IsByItself, IsEntryEvent, IsEventOf, client_of, job_asked}
+use Rattle.cube_core.specs.DeskEvents.{desk_event}
+use Rattle.cube_core.specs.MailEvents.{IsMailEvent}
+use Rattle.cube_core.specs.NamesEvents.{names_event}
+use Rattle.cube_core.proofs.OwnEntries.{client-low}
+use Rattle.cube_core.specs.BoardCells.{AnswerSays, IsByItself, IsEntryEvent, IsEventOf, client_of, job_asked}
 use Rattle.core_program.specs.CoreFits.{CoreEntry}
 use Rattle.cube_core.specs.declared.cell.CoreAnswer.{CoreAnswer}
 use Rattle.cube_core.specs.declared.cell.CoreAnswer.TheVariants as answer

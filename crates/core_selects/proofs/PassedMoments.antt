@@ -2,7 +2,7 @@
 use Rattle.std.proofs.Common.{◌≡◌, ◌∙◌, ℕ, List, [], ◌∷◌, ◌++◌, Some, inl, refl, sym, ap, subst, append_assoc}
 use mathlib.Core.List.{IsPrefix}
 use Rattle.copied_names.specs.CopiedNames.{IsMomentAfter}
-use Rattle.core_board.specs.Links.{AreEventsAfter, AreEventsOf, EventOf}
+use Rattle.cube_core.specs.Links.{AreEventsAfter, AreEventsOf, EventOf}
 use Rattle.core_events.proofs.Agreement.{agree}
 use Rattle.core_events.proofs.Knowledge.{known-by-calls}
 use Rattle.core_events.specs.Cells.{counters_of_run}
@@ -10,13 +10,13 @@ use Rattle.core_events.specs.Clients.{ClientState, calls_of, client_state, held_
 use Rattle.core_events.specs.Events.{Opening, IsSession, ClientCall, CoreEvent}
 use Rattle.core_program.proofs.ClientRuns.{known-in-run}
 use Rattle.core_program.proofs.KnownCalls.{client-part, earlier-run}
-use Rattle.core_board_cells.specs.BoardCells.{IsEntryEvent}
+use Rattle.cube_core.specs.BoardCells.{IsEntryEvent}
 use Rattle.core_program.specs.CoreFits.{CoreEntry}
 use Rattle.core_program.specs.Knowing.{HasRunOfClient, IsClientOf, IsLaterRun}
 use Rattle.cube_core.specs.declared.cell.CoreCell.{CoreCell}
 use Rattle.cube_journal.specs.Counters.{held_by}
 use Rattle.cube_values.specs.declared.snapshot.Snapshot.{Snapshot}
-use Rattle.known_holds.specs.KnownHolds.{KnowsState}
+use Rattle.session_snapshots.specs.KnownHolds.{KnowsState}
 use Rattle.linked_shards.specs.CellShards.{CoreShardStands}
 use Rattle.shard_events.specs.ShardsInRuns.{FitsShard, ShardAnswerSays}
 use Rattle.linked_shards.specs.declared.cell.CoreShard.{CoreShard}

@@ -11,7 +11,7 @@ use Rattle.copied_names.proofs.Moments.{passes}
 use Rattle.core_agreements.proofs.TablesAnswer.{reader-tables, writer-tables}
 use Rattle.core_agreements.specs.NamedQueries.{EndAs, IsBoundBetween}
 use Rattle.core_agreements.specs.ScriptedRuns.{IsAtStatement, IsScriptedRun}
-use Rattle.core_board.specs.Links.{AreEventsOf}
+use Rattle.cube_core.specs.Links.{AreEventsOf}
 use Rattle.core_events.specs.Cells.{desk_of}
 use Rattle.core_events.specs.Clients.{ClientState, calls_of, client_state}
 use Rattle.core_events.specs.Events.{Opening, IsSession, ClientCall, CoreEvent}
@@ -19,7 +19,7 @@ use Rattle.core_events.specs.Runs.{IsCoreRun}
 use Rattle.core_events.specs.Serial.{operations_of}
 use Rattle.core_states.specs.CorePasts.{CorePast, last_number}
 use Rattle.core_states.specs.RunsFrom.{IsRunFrom, RunClaim}
-use Rattle.core_board_cells.specs.BoardCells.{IsEntryEvent}
+use Rattle.cube_core.specs.BoardCells.{IsEntryEvent}
 use Rattle.core_program.specs.CoreFits.{CoreEntry}
 use Rattle.core_program.specs.Knowing.{HasRunOfClient}
 use Rattle.core_records.proofs.CubesOnRecord.{cube-on-record}
@@ -50,7 +50,7 @@ use Rattle.cube_values.specs.declared.table.Field.{Field}
 use Rattle.known_cubes.proofs.OwnCalls.{own-caller}
 use Rattle.known_cubes.proofs.ToldCubes.{desk-has}
 use Rattle.known_cubes.specs.KnownCubes.{IsToldOfCube}
-use Rattle.known_holds.specs.KnownHolds.{HoldsReader, HoldsWriter}
+use Rattle.session_snapshots.specs.KnownHolds.{HoldsReader, HoldsWriter}
 use Rattle.linked_shards.specs.CellShards.{CanCallCoreShard, CoreShardStands, CoreShardStep, linked-shards}
 use Rattle.shard_events.specs.ShardsInRuns.{FitsShard, ShardAnswerSays}
 use Rattle.linked_shards.specs.declared.cell.CoreShard.{CoreShard}

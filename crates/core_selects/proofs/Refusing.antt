@@ -4,7 +4,7 @@ use mathlib.Core.List.{IsPrefix}
 use Rattle.core_selects.proofs.ReadingKinds.{plain-reads}
 use Rattle.core_selects.specs.ReadingCalls.{GoesOnByReading, IsReadingCall}
 use Rattle.core_selects.specs.SelectEnds.{HasClosedReader, LeavesRefusal}
-use Rattle.client_calls.specs.ClientCalls.{desk_entry}
+use Rattle.core_program.specs.ClientCalls.{desk_entry}
 use Rattle.core_cells.specs.declared.desk.DeskAnswer.TheVariants as answer
 use Rattle.core_cells.specs.declared.desk.DeskCall.TheVariants as call
 use Rattle.core_cubes.proofs.CallsGoOn.{go-on-as, go-on-by-call, go-on-then}

@@ -10,7 +10,7 @@ use Rattle.core_selects.proofs.ReadingKinds.{plain-reads}
 use Rattle.core_selects.specs.ReadLines.{HasReadLines}
 use Rattle.core_selects.specs.ReadingCalls.{GoesOnByReading, IsReadingCall}
 use Rattle.core_selects.specs.SelectEnds.{EndsSelect, HasClosedReader, HasFoundCube, HasOpenedReader, LeavesRefusal, gave_up, read_alone, read_inside, unfit, without_memory}
-use Rattle.client_calls.specs.ClientCalls.{desk_entry}
+use Rattle.core_program.specs.ClientCalls.{desk_entry}
 use Rattle.core_cells.specs.declared.desk.DeskAnswer.TheVariants as answer
 use Rattle.core_cells.specs.declared.desk.DeskCall.TheVariants as call
 use Rattle.core_cubes.proofs.CallsGoOn.{adds-by-call, go-on-as, go-on-by-call, go-on-then}
@@ -52,7 +52,7 @@ use Rattle.cube_values.specs.declared.snapshot.Snapshot.{Snapshot}
 use Rattle.cube_values.specs.declared.table.Field.{Field}
 use Rattle.known_cubes.proofs.ToldCubes.{told-later}
 use Rattle.known_cubes.specs.KnownCubes.{IsToldOfCube}
-use Rattle.known_holds.specs.KnownHolds.{HoldsWriter}
+use Rattle.session_snapshots.specs.KnownHolds.{HoldsWriter}
 use Rattle.linked_shards.specs.CellShards.{CoreShardStands}
 use Rattle.shard_events.specs.ShardsInRuns.{FitsShard, ShardAnswerSays}
 use Rattle.linked_shards.specs.declared.cell.CoreShard.{CoreShard}

@@ -3,7 +3,7 @@
 -- Source: AOSI (ICDE 2018), readers and writers; the rest is this project's own.
 use Rattle.std.specs.Prelude.{◌≡◌, ℕ, List, [], ◌∷◌, ◌++◌, Some}
 use Rattle.core_selects.specs.ReadLines.{HasReadLines}
-use Rattle.client_calls.specs.ClientCalls.{desk_entry}
+use Rattle.core_program.specs.ClientCalls.{desk_entry}
 use Rattle.core_cells.specs.declared.desk.DeskAnswer.TheVariants as answer
 use Rattle.core_cells.specs.declared.desk.DeskCall.TheVariants as call
 use Rattle.core_cubes.specs.StandingCubes.{StandsBefore}
@@ -26,7 +26,7 @@ use Rattle.cube_run.specs.SessionStates.{Idle, Open}
 use Rattle.cube_values.specs.declared.snapshot.Snapshot.{Snapshot}
 use Rattle.cube_values.specs.declared.table.Field.{Field}
 use Rattle.known_cubes.specs.KnownCubes.{IsToldOfCube}
-use Rattle.known_holds.specs.KnownHolds.{HoldsReader, HoldsWriter}
+use Rattle.session_snapshots.specs.KnownHolds.{HoldsReader, HoldsWriter}
 use Rattle.linked_shards.specs.CellShards.{CoreShardStands}
 use Rattle.shard_events.specs.ShardsInRuns.{FitsShard, ShardAnswerSays}
 use Rattle.linked_shards.specs.declared.cell.CoreShard.{CoreShard}

@@ -5,7 +5,7 @@ ghost use Rattle.condition_spans.specs.Codes.{lists_at};
 ghost use Rattle.core_selects.specs.ScanSteps.{HasNamedLines, HasScannedLines};
 ghost use Rattle.cube_run.specs.StatementEntries.{is_select};
 ghost use Rattle.known_cubes.specs.KnownCubes.{IsToldOfCube};
-ghost use Rattle.known_holds.specs.KnownHolds.{HoldsReady};
+ghost use Rattle.session_snapshots.specs.KnownHolds.{HoldsReady};
 ghost use Rattle.linked_shards.specs.CellShards.{CoreShardStands};
 ghost use Rattle.shard_events.specs.ShardsInRuns.{FitsShard, ShardAnswerSays};
 ghost use Rattle.query_plan.specs.Ties.{AreDistinct};

@@ -5,9 +5,9 @@ use Rattle.mail_cell.specs.declared.answer.Fetched.{Fetched}
 use Rattle.mail_cell.specs.declared.answer.Fetched.TheVariants.{Got, NotYet}
 use Rattle.aosi_desk.specs.declared.cube.CubeAnswer.TheVariants.{Created, Exists, TooMany}
 use Rattle.aosi_desk.specs.declared.cube.CubeFound.TheVariants.{Unknown}
-use Rattle.client_calls.specs.ClientCalls.{HasFetched, ask_entry, desk_entry, names_entry, post_entry}
-use Rattle.core_board.specs.Links.{AreEventsOf}
-use Rattle.core_board_cells.specs.BoardCells.{IsEntryEvent, job_asked}
+use Rattle.core_program.specs.ClientCalls.{HasFetched, ask_entry, desk_entry, names_entry, post_entry}
+use Rattle.cube_core.specs.Links.{AreEventsOf}
+use Rattle.cube_core.specs.BoardCells.{IsEntryEvent, job_asked}
 use Rattle.core_cells.specs.declared.desk.DeskAnswer.{DeskAnswer}
 use Rattle.core_cells.specs.declared.desk.DeskAnswer.TheVariants as answer
 use Rattle.core_cells.specs.declared.desk.DeskCall.{DeskCall}
@@ -24,8 +24,8 @@ use Rattle.core_events.specs.Events.{Opening, ClientCall, Fetch, NoChange, Post,
 use Rattle.core_events.specs.Jobs.{CoreJob, JobOutcome}
 use Rattle.core_events.specs.ShardView.{ShardView}
 use Rattle.core_serial.proofs.Entries.{journal_with}
-use Rattle.core_board_cells.specs.DeskEvents.{desk_event, own_epoch}
-use Rattle.core_board_cells.specs.NamesEvents.{names_event}
+use Rattle.cube_core.specs.DeskEvents.{desk_event, own_epoch}
+use Rattle.cube_core.specs.NamesEvents.{names_event}
 use Rattle.core_states.specs.CorePasts.{nothing_behind}
 use Rattle.core_states.specs.OwnCalls.{EndsAt, KnowsEnd, OwnCallsLeave, Tells, desk_leaves}
 use Rattle.core_program.specs.CoreFits.{CoreEntry, OpensCells}
@@ -40,7 +40,7 @@ use Rattle.cube_journal.specs.declared.journal_entry.AbortCause.{AbortCause}
 use Rattle.cube_journal.specs.declared.journal_entry.JournalEntry.{JournalEntry}
 use Rattle.cube_journal.specs.declared.journal_entry.JournalEntry.TheVariants as entry
 use Rattle.cube_values.specs.declared.snapshot.Snapshot.{Snapshot}
-use Rattle.known_holds.specs.KnownHolds.{HoldsRolledBack, HoldsWriter}
+use Rattle.session_snapshots.specs.KnownHolds.{HoldsRolledBack, HoldsWriter}
 
 -- What the event of a call adds to a journal is what the call leaves.
 event-leaves : (a epoch : ℕ) (o : Opening) (calls : List ClientCall) (c : DeskCall) (said : DeskAnswer)

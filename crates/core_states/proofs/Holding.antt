@@ -10,7 +10,7 @@ use Rattle.cube_core.specs.declared.shard.ShardAnswer.{ShardAnswer}
 use Rattle.cube_core.specs.declared.shard.ShardCall.{ShardCall}
 use Rattle.cube_run.specs.SessionStates.{Mode, Idle, Open, Aborted}
 use Rattle.cube_values.specs.declared.snapshot.Snapshot.{Snapshot}
-use Rattle.known_holds.specs.KnownHolds.{HoldsReady, HoldsTheSame}
+use Rattle.session_snapshots.specs.KnownHolds.{HoldsReady, HoldsTheSame}
 
 abbrev pub held_for : Mode → Option Snapshot
 held_for Idle = None

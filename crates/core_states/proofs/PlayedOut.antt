@@ -3,8 +3,8 @@ use Rattle.std.proofs.Common.{◌≡◌, ◌∙◌, ℕ, suc, ◌+◌, ◌-◌, 
 use Rattle.std.specs.List.{AllZip, enumerate_from}
 use Rattle.std.proofs.lemmas.List.Elements.{filter-append}
 use Rattle.turn_board.specs.History.{of_caller}
-use Rattle.core_board.specs.Links.{AreEventsOf, HasOwnEvents}
-use Rattle.core_board_cells.specs.BoardCells.{IsEntryEvent, client_of}
+use Rattle.cube_core.specs.Links.{AreEventsOf, HasOwnEvents}
+use Rattle.cube_core.specs.BoardCells.{IsEntryEvent, client_of}
 use Rattle.core_program.proofs.KnownCalls.{client-part}
 use Rattle.core_program.specs.Knowing.{IsLaterRun}
 use Rattle.core_events.specs.Clients.{calls_of}

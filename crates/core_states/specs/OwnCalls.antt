@@ -14,7 +14,7 @@ use Rattle.core_events.specs.Clients.{state_from_calls}
 use Rattle.core_events.specs.Events.{Opening, ClientCall}
 use Rattle.core_events.specs.Jobs.{CoreJob, JobOutcome}
 use Rattle.core_events.specs.ShardView.{ShardView}
-use Rattle.core_board_cells.specs.DeskEvents.{own_epoch}
+use Rattle.cube_core.specs.DeskEvents.{own_epoch}
 use Rattle.core_states.specs.CorePasts.{CorePast}
 use Rattle.core_program.specs.CoreFits.{CoreEntry}
 use Rattle.core_records.specs.OwnEntries.{entries_by_calls}

@@ -13,7 +13,7 @@ use Rattle.cube_core.specs.declared.cell.CoreCell.{CoreCell}
 use Rattle.cube_core.specs.declared.shard.ShardAnswer.{ShardAnswer}
 use Rattle.cube_core.specs.declared.shard.ShardCall.{ShardCall}
 use Rattle.cube_run.specs.SessionStates.{KeptWatch, Mode, Idle, Open, Aborted, SessionState}
-use Rattle.known_holds.specs.KnownHolds.{HoldsNothing, HoldsWriter}
+use Rattle.session_snapshots.specs.KnownHolds.{HoldsNothing, HoldsWriter}
 use Rattle.session_replies.specs.Modes.{mode_of}
 
 -- A session with its watch, if it has one.

@@ -10,7 +10,7 @@ ghost use Rattle.cube_journal.specs.declared.reply.Reply.{Reply};
 ghost use Rattle.played_scripts.specs.PlayedRuns.{HavePlayed};
 
 use crate::besides::Besides;
-use core_board_cells::LinkedShard;
+use cube_core::LinkedShard;
 
 /// Where each session has played its script and its end has left its entries, the run is played.
 pub fn the_end_completes_a_run<S: LinkedShard, B: Besides>()

@@ -13,8 +13,8 @@ ghost use Rattle.cube_run.specs.RunRecords.{Sentence};
 ghost use Rattle.cube_run.specs.SessionStates.{Idle};
 
 use crate::desk_calls_leave_entries;
-use core_board_cells::LinkedShard;
-use known_holds::sessions_begin_with_nothing;
+use cube_core::LinkedShard;
+use session_snapshots::sessions_begin_with_nothing;
 
 /// Before its first statement nothing is behind a session, and it holds nothing.
 pub fn sessions_stand_at_their_beginning<S: LinkedShard>()

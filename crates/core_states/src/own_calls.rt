@@ -1,7 +1,7 @@
 //! The laws of what a client's own calls leave in the journal.
 
 ghost use Rattle.std.specs.Prelude.{ℕ, List, [], ◌∷◌, ◌++◌};
-ghost use Rattle.client_calls.specs.ClientCalls.{HasFetched, ask_entry, desk_entry, names_entry, post_entry};
+ghost use Rattle.core_program.specs.ClientCalls.{HasFetched, ask_entry, desk_entry, names_entry, post_entry};
 ghost use Rattle.core_cells.specs.declared.desk.DeskAnswer.{DeskAnswer};
 ghost use Rattle.core_cells.specs.declared.desk.DeskCall.{DeskCall};
 ghost use Rattle.core_cells.specs.declared.desk.DeskCall.TheVariants as call;
@@ -17,10 +17,10 @@ ghost use Rattle.cube_core.specs.declared.jobs.JobAnswer.{JobAnswer};
 ghost use Rattle.cube_journal.specs.declared.journal_entry.AbortCause.{AbortCause};
 ghost use Rattle.cube_journal.specs.declared.journal_entry.JournalEntry.{JournalEntry};
 ghost use Rattle.cube_values.specs.declared.snapshot.Snapshot.{Snapshot};
-ghost use Rattle.known_holds.specs.KnownHolds.{HoldsRolledBack, HoldsWriter};
+ghost use Rattle.session_snapshots.specs.KnownHolds.{HoldsRolledBack, HoldsWriter};
 ghost use Rattle.mail_cell.specs.declared.answer.Fetched.{Fetched};
 
-use core_board_cells::LinkedShard;
+use cube_core::LinkedShard;
 
 /// Before its first call a session has left nothing. With one call more on the desk a client's own calls have left what
 /// that call leaves besides, and no more.

@@ -19,7 +19,7 @@ ghost use Rattle.cube_run.specs.SessionSteps.{entries_of, is_of_statement, step_
 ghost use Rattle.played_scripts.specs.Promises.{IsExecuted};
 
 use crate::besides::Besides;
-use core_board_cells::LinkedShard;
+use cube_core::LinkedShard;
 
 /// Each run in which the sessions follow their scripts goes on from nothing. A run that goes on with one statement more
 /// behind goes on from what was behind before it, and the entries stay in turn.

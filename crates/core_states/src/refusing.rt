@@ -14,8 +14,8 @@ ghost use Rattle.session_snapshots.specs.SessionCalls.{MayLeaveNote};
 
 use crate::session::CoreSession;
 use board_callers::CellCaller;
-use core_board_cells::LinkedShard;
 use core_program::CoreCells;
+use cube_core::LinkedShard;
 use cube_journal::{Note, Refusal, Reply};
 use session_desk::Answered;
 use session_snapshots::{leave_note, plain_notes_are_allowed};

@@ -14,8 +14,8 @@ ghost use Rattle.session_replies.specs.declared.mode.SessionMode.TheVariants as 
 use crate::refusing::refuse_plainly;
 use crate::session::CoreSession;
 use board_callers::CellCaller;
-use core_board_cells::LinkedShard;
 use core_program::CoreCells;
+use cube_core::LinkedShard;
 use cube_journal::{Note, Refusal, Reply};
 use cube_language::MOST_STATEMENTS;
 use session_desk::Answered;

@@ -1,7 +1,7 @@
 -- What a session of a core knows, before and after its calls.
 use Rattle.std.proofs.Common.{◌≡◌, ◌∙◌, ℕ, ◌<◌, ◌≤◌, List, [], ◌∷◌, ◌++◌, All, length, sym, subst, arith}
 use Rattle.aosi_desk.specs.declared.cube.CubeFound.TheVariants.{Found}
-use Rattle.client_calls.specs.ClientCalls.{desk_entry}
+use Rattle.core_program.specs.ClientCalls.{desk_entry}
 use Rattle.condition_spans.specs.Spans.{CutNoBrick}
 use Rattle.core_cells.specs.declared.desk.DeskAnswer.TheVariants as said
 use Rattle.core_cells.specs.declared.desk.DeskCall.TheVariants as asked
@@ -21,7 +21,7 @@ use Rattle.cube_values.specs.declared.span.Span.{Span}
 use Rattle.job_groups.specs.AskedEach.{HasMore}
 use Rattle.known_cubes.proofs.ToldCubes.{knows-cube, told-later, told-newest}
 use Rattle.known_cubes.specs.KnownCubes.{CallsTellCube, by_search}
-use Rattle.known_holds.specs.KnownHolds.{HoldsTheSame}
+use Rattle.session_snapshots.specs.KnownHolds.{HoldsTheSame}
 use Rattle.linked_shards.specs.CellShards.{CoreShardStands}
 use Rattle.linked_shards.specs.declared.cell.CoreShard.{CoreShard}
 use Rattle.names_dict.specs.Dictionaries.{IsTextDimension}

@@ -1,8 +1,8 @@
 -- A session puts the row of a name that it was told the number of, and makes calls on the names.
 use Rattle.std.proofs.Common.{◌≡◌, ◌∙◌, ℕ, zero, suc, ◌<◌, ◌≤◌, ℤ, List, [], ◌∷◌, ◌++◌, All, get_or, slice_get, Some, refl, sym, subst, arith}
-use Rattle.client_calls.specs.ClientCalls.{names_entry}
-use Rattle.core_board.specs.Links.{AreEventsOf}
-use Rattle.core_board_cells.specs.BoardCells.{IsEntryEvent}
+use Rattle.core_program.specs.ClientCalls.{names_entry}
+use Rattle.cube_core.specs.Links.{AreEventsOf}
+use Rattle.cube_core.specs.BoardCells.{IsEntryEvent}
 use Rattle.core_cells.specs.declared.names.NamesAnswer.{NamesAnswer}
 use Rattle.core_cells.specs.declared.names.NamesAnswer.TheVariants as told
 use Rattle.core_cells.specs.declared.names.NamesCall.{NamesCall}
@@ -12,7 +12,7 @@ use Rattle.core_program.specs.Knowing.{IsClientOf, IsLaterRun, Knows}
 use Rattle.core_events.specs.Clients.{ClientState, after_client_call, calls_of, state_from_calls}
 use Rattle.core_events.specs.Events.{ClientCall, Opening}
 use Rattle.core_events.specs.Fitting.{AreToldNames}
-use Rattle.core_board_cells.specs.NamesEvents.{names_event}
+use Rattle.cube_core.specs.NamesEvents.{names_event}
 use Rattle.core_program.specs.CoreFits.{CoreEntry}
 use Rattle.cube_core.specs.declared.cell.CoreCell.{CoreCell}
 use Rattle.cube_language.specs.declared.decl.Decl.{Decl}
@@ -22,7 +22,7 @@ use Rattle.cube_values.specs.declared.row.CodedRow.{CodedRow}
 use Rattle.cube_values.specs.declared.shape.CubeShape.{CubeShape}
 use Rattle.known_cubes.proofs.ToldNames.{knows-number, told-later, told-newest}
 use Rattle.known_cubes.specs.KnownNames.{by_encoding}
-use Rattle.known_holds.specs.KnownHolds.{HoldsTheSame, KnowsState}
+use Rattle.session_snapshots.specs.KnownHolds.{HoldsTheSame, KnowsState}
 use Rattle.linked_shards.specs.CellShards.{CoreShardStands}
 use Rattle.linked_shards.specs.declared.cell.CoreShard.{CoreShard}
 use Rattle.names_dict.specs.declared.code.Code.{Code}

@@ -3,7 +3,7 @@
 use Rattle.std.specs.Prelude.{ℕ, List}
 use Rattle.core_program.specs.CoreFits.{CoreEntry}
 use Rattle.cube_core.specs.declared.cell.CoreCell.{CoreCell}
-use Rattle.known_holds.specs.KnownHolds.{HoldsNothing, HoldsWriter}
+use Rattle.session_snapshots.specs.KnownHolds.{HoldsNothing, HoldsWriter}
 use Rattle.linked_shards.specs.CellShards.{CoreShardStands}
 use Rattle.linked_shards.specs.declared.cell.CoreShard.{CoreShard}
 use Rattle.shard_events.specs.ShardsInRuns.{FitsShard, ShardAnswerSays}

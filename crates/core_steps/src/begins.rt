@@ -5,9 +5,9 @@ ghost use Rattle.cube_core.specs.declared.cell.CoreCell.{CoreCell};
 ghost use Rattle.linked_shards.specs.declared.cell.CoreShard.{CoreShard};
 ghost use Rattle.small_core.specs.Openings.{AreCellsOfCore};
 
-use known_holds::sessions_begin_with_nothing;
 use linked_shards::CoreShard;
 use opened_callers::{an_opened_core_knows_its_callers, an_opened_core_knows_its_cubes};
+use session_snapshots::sessions_begin_with_nothing;
 
 /// Before its first call a session of a small core holds nothing, and the history without calls has its calls.
 pub(crate) fn sessions_begin_on_a_core()

@@ -1,12 +1,12 @@
 //! A session inserts a row by a name of a text dimension, and looks for names.
 ghost use Rattle.std.specs.Prelude.{◌≡◌, ◌+◌, ◌≤◌, ◌∷◌, ◌++◌, [], IsTrue, IfSome};
-ghost use Rattle.client_calls.specs.ClientCalls.{names_entry};
+ghost use Rattle.core_program.specs.ClientCalls.{names_entry};
 ghost use Rattle.core_cells.specs.declared.names.NamesAnswer.TheVariants as answer;
 ghost use Rattle.core_program.specs.Knowing.{Knows, MayCallNames};
 ghost use Rattle.core_steps.specs.OnCore.{IsOnCore, IsToldOfCode, IsToldOfNumber, KnowsCubeOnCore};
 ghost use Rattle.cube_schema.specs.Schemas.{cube_of};
 ghost use Rattle.cube_values.specs.Shapes.{IsSoundCube};
-ghost use Rattle.known_holds.specs.KnownHolds.{HoldsNothing, HoldsTheSame, HoldsWriter};
+ghost use Rattle.session_snapshots.specs.KnownHolds.{HoldsNothing, HoldsTheSame, HoldsWriter};
 ghost use Rattle.linked_shards.specs.CellShards.{CoreShardStands};
 ghost use Rattle.names_dict.specs.Dictionaries.{IsTextDimension};
 ghost use Rattle.shard_events.specs.ShardsInRuns.{FitsShard, ShardAnswerSays};
@@ -17,9 +17,8 @@ use crate::rows::one_row;
 use crate::transactions::{begin, commit_writer};
 use crate::writes::put_batch;
 use board_callers::CellCaller;
-use client_calls::call_names_cell;
 use core_cells::{NamesAnswer, NamesCall};
-use core_program::CoreSize;
+use core_program::{CoreSize, call_names_cell};
 use cube_values::{CubeShape, Snapshot, Text};
 use known_cubes::{clients_know_names_they_were_told_of, sessions_may_ask_names_of_told_cubes};
 use linked_shards::{CoreShard, ShardCells};

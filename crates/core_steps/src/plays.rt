@@ -6,7 +6,7 @@ ghost use Rattle.core_steps.specs.StepAnswers.{MayAnswer, held_after};
 ghost use Rattle.core_steps.specs.declared.plays.HeldSnapshot.TheVariants.{Nothing, Writer};
 ghost use Rattle.core_steps.specs.declared.plays.Step.TheVariants.{Begin};
 ghost use Rattle.core_steps.specs.declared.plays.StepAnswer.TheVariants.{Found};
-ghost use Rattle.known_holds.specs.KnownHolds.{HoldsNothing, HoldsWriter};
+ghost use Rattle.session_snapshots.specs.KnownHolds.{HoldsNothing, HoldsWriter};
 ghost use Rattle.linked_shards.specs.CellShards.{CoreShardStands};
 ghost use Rattle.shard_events.specs.ShardsInRuns.{FitsShard, ShardAnswerSays};
 ghost use Rattle.turn_board.specs.Passes.{callers_of};

@@ -1,7 +1,7 @@
 //! A session has all shards purge, and asks for a round.
 ghost use Rattle.std.specs.Prelude.{◌+◌, ◌≤◌, IfSome};
 ghost use Rattle.core_steps.specs.OnCore.{IsOnCore};
-ghost use Rattle.known_holds.specs.KnownHolds.{HoldsNothing};
+ghost use Rattle.session_snapshots.specs.KnownHolds.{HoldsNothing};
 ghost use Rattle.linked_shards.specs.CellShards.{CoreShardStands};
 ghost use Rattle.shard_events.specs.ShardsInRuns.{FitsShard, ShardAnswerSays};
 ghost use Rattle.turn_board.specs.Passes.{callers_of};

@@ -2,9 +2,9 @@
 use Rattle.std.proofs.Common.{◌≡◌, ℕ, ◌+◌, true, false, List, Some, None, refl}
 use Rattle.std.specs.Prelude.{IfErr, IfOk, Result, Ok, Err}
 use Rattle.std.proofs.lemmas.Bool.{false≢true}
-use Rattle.answered_watches.proofs.ShowsPerformed.{performed as show_performed}
-use Rattle.answered_watches.proofs.WatchesPerformed.{performed}
-use Rattle.answered_watches.specs.WatchEnds.{EndsShow, EndsWatch, HasFoundCube, WatchesCube}
+use Rattle.core_watches.proofs.ShowsPerformed.{performed as show_performed}
+use Rattle.core_watches.proofs.WatchesPerformed.{performed}
+use Rattle.core_watches.specs.WatchEnds.{EndsShow, EndsWatch, HasFoundCube, WatchesCube}
 use Rattle.core_cubes.specs.ExecutedWatched.{ExecutesWatched}
 use Rattle.core_cubes.specs.StatementCalls.{IsCallFor}
 use Rattle.core_program.specs.CoreFits.{CoreEntry}

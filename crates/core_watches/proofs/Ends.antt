@@ -2,9 +2,9 @@
 use Rattle.std.proofs.Common.{◌≡◌, ◌≢◌, ◌∙◌, ℕ, true, false, List, [], ◌∷◌, Some, None, refl, sym, subst, arith}
 use Rattle.aosi_desk.specs.Desks.{is_cube_code}
 use mathlib.Core.List.{IsPrefix}
-use Rattle.answered_watches.specs.WatchEnds.{EndsShow, EndsWatch, WatchesCube, begun, given_up, gave_up, no_memory_entry, reader_closed, reader_opened, show_given_up, show_unread, shown, unfit, without_memory}
-use Rattle.answered_watches.specs.BoundReaders.{IsShownWatch}
-use Rattle.answered_watches.specs.WatchingCalls.{LeavesByWatching}
+use Rattle.core_watches.specs.WatchEnds.{EndsShow, EndsWatch, WatchesCube, begun, given_up, gave_up, no_memory_entry, reader_closed, reader_opened, show_given_up, show_unread, shown, unfit, without_memory}
+use Rattle.core_watches.specs.BoundReaders.{IsShownWatch}
+use Rattle.core_watches.specs.WatchingCalls.{LeavesByWatching}
 use Rattle.core_program.specs.CoreFits.{CoreEntry}
 use Rattle.core_states.specs.declared.session.CoreSession.{CoreSession}
 use Rattle.core_watches.proofs.KeptOn.{still-told}

@@ -1,9 +1,9 @@
 -- What a session keeps of its watch it keeps by calls that leave the watch as it is.
 use Rattle.std.proofs.Common.{◌≡◌, ℕ, List, [], Option, Some, None, sym, subst}
 use mathlib.Core.List.{IsPrefix}
-use Rattle.answered_watches.proofs.BoundAtReaders.{still-bound}
-use Rattle.answered_watches.specs.BoundReaders.{IsBoundWatch, IsShownWatch}
-use Rattle.answered_watches.specs.WatchEnds.{WatchesCube}
+use Rattle.core_watches.proofs.BoundAtReaders.{still-bound}
+use Rattle.core_watches.specs.BoundReaders.{IsBoundWatch, IsShownWatch}
+use Rattle.core_watches.specs.WatchEnds.{WatchesCube}
 use Rattle.core_program.specs.CoreFits.{CoreEntry}
 use Rattle.core_watches.specs.KeptWatches.{HoldersHold, IsShownAt, KeepsWatch, KeepsWatchOrNone}
 use Rattle.core_watches.specs.declared.kept.CoreWatch.{CoreWatch}

@@ -13,3 +13,13 @@ pub mod Ends
 pub mod WatchRefusals
 pub mod RefusedByWatch
 pub mod AskedStatements
+pub mod WatchingKinds
+pub mod WatchingLeaves
+pub mod PassedMoments
+pub mod BoundAtReaders
+pub mod BoundAnew
+pub mod ShownTables
+pub mod ItsCube
+pub mod Performing
+pub mod WatchesPerformed
+pub mod ShowsPerformed

@@ -1,7 +1,7 @@
 -- A statement that its session's watch refuses is performed.
 use Rattle.std.proofs.Common.{◌≡◌, ℕ, ◌+◌, List, [], ◌∷◌, Option, Some, None, refl, sym, subst, arith}
-use Rattle.answered_watches.proofs.Performing.{performs}
-use Rattle.answered_watches.proofs.WatchesPerformed.{refused-keeps, step-is, step_of}
+use Rattle.core_watches.proofs.Performing.{performs}
+use Rattle.core_watches.proofs.WatchesPerformed.{refused-keeps, step-is, step_of}
 use Rattle.core_program.specs.CoreFits.{CoreEntry}
 use Rattle.core_records.specs.CoreRecords.{record_of}
 use Rattle.core_states.proofs.Refused.{counted}

@@ -1,8 +1,8 @@
 -- A refusal of a statement of a watch.
 use Rattle.std.proofs.Common.{◌≡◌, ℕ, List, [], ◌++◌}
 use mathlib.Core.List.{IsPrefix}
-use Rattle.answered_watches.proofs.WatchingLeaves.{left-both, left-plainly}
-use Rattle.answered_watches.specs.WatchingCalls.{LeavesByWatching}
+use Rattle.core_watches.proofs.WatchingLeaves.{left-both, left-plainly}
+use Rattle.core_watches.specs.WatchingCalls.{LeavesByWatching}
 use Rattle.core_program.specs.CoreFits.{CoreEntry}
 use Rattle.core_states.proofs.Refused.{either-plain}
 use Rattle.core_watches.specs.KeptWatches.{IsRefusedSo}

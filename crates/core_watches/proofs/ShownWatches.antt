@@ -2,8 +2,8 @@
 use Rattle.std.proofs.Common.{◌≡◌, ◌∙◌, ℕ, List, sym, ap, subst}
 use mathlib.Core.List.{IsPrefix}
 use Rattle.agg_fold.specs.Standing.{IsTable}
-use Rattle.answered_watches.proofs.BoundAtReaders.{still-bound}
-use Rattle.answered_watches.specs.BoundReaders.{IsBoundInRuns}
+use Rattle.core_watches.proofs.BoundAtReaders.{still-bound}
+use Rattle.core_watches.specs.BoundReaders.{IsBoundInRuns}
 use Rattle.condition_spans.specs.Codes.{lists_at}
 use Rattle.core_program.specs.CoreFits.{CoreEntry}
 use Rattle.core_watches.specs.BoundQueries.{IsBoundByNames, IsWithTable}

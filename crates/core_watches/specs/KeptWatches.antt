@@ -2,9 +2,9 @@
 -- Source: AOSI (ICDE 2018), readers; materialized views kept by their changes (Gupta, Mumick, Subrahmanian, SIGMOD 1993).
 use Rattle.std.specs.Prelude.{◌≡◌, ℕ, List, Option, Some, None}
 use Rattle.std.specs.Option.{option_map}
-use Rattle.answered_watches.specs.BoundReaders.{IsBoundWatch, IsShownWatch}
-use Rattle.answered_watches.specs.WatchEnds.{WatchesCube}
-use Rattle.answered_watches.specs.WatchingCalls.{LeavesByWatching}
+use Rattle.core_watches.specs.BoundReaders.{IsBoundWatch, IsShownWatch}
+use Rattle.core_watches.specs.WatchEnds.{WatchesCube}
+use Rattle.core_watches.specs.WatchingCalls.{LeavesByWatching}
 use Rattle.core_program.specs.CoreFits.{CoreEntry}
 use Rattle.core_watches.specs.declared.kept.CoreWatch.{CoreWatch}
 use Rattle.core_watches.specs.declared.kept.ShownWatch.{ShownWatch}

@@ -1,2 +1,5 @@
 pub mod BoundQueries
 pub mod KeptWatches
+pub mod WatchingCalls
+pub mod BoundReaders
+pub mod WatchEnds

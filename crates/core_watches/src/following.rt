@@ -1,7 +1,7 @@
 //! A watch follows its rows to a newer reader.
 ghost use Rattle.std.specs.Prelude.{◌≡◌, ◌+◌, ◌≤◌, [], ℕ, true, List, Option, IfOk};
-ghost use Rattle.answered_watches.specs.BoundReaders.{IsBoundInRuns, IsBoundWatch, OpenWithRowsOfCubes};
-ghost use Rattle.answered_watches.specs.WatchEnds.{WatchesCube};
+ghost use Rattle.core_watches.specs.BoundReaders.{IsBoundInRuns, IsBoundWatch, OpenWithRowsOfCubes};
+ghost use Rattle.core_watches.specs.WatchEnds.{WatchesCube};
 ghost use Rattle.condition_spans.specs.Codes.{lists_at};
 ghost use Rattle.core_watches.specs.KeptWatches.{HoldersHold, IsShownAt};
 ghost use Rattle.cube_language.specs.Misfits.{FitsCube};
@@ -9,7 +9,7 @@ ghost use Rattle.cube_run.specs.StatementEntries.{is_watch};
 ghost use Rattle.cube_values.specs.declared.query.BoundQuery.{BoundQuery};
 ghost use Rattle.cube_values.specs.declared.snapshot.Snapshot.{Snapshot};
 ghost use Rattle.known_cubes.specs.KnownCubes.{IsToldOfCube};
-ghost use Rattle.known_holds.specs.KnownHolds.{HoldsReady, HoldsTheSame};
+ghost use Rattle.session_snapshots.specs.KnownHolds.{HoldsReady, HoldsTheSame};
 ghost use Rattle.linked_shards.specs.CellShards.{CoreShardStands};
 ghost use Rattle.query_plan.specs.Bindings.{IsQueryOn};
 ghost use Rattle.query_plan.specs.Ties.{AreDistinct};

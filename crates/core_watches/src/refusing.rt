@@ -1,6 +1,6 @@
 //! A statement of a watch that is refused.
 ghost use Rattle.std.specs.Prelude.{◌≡◌, ◌≢◌, ◌+◌, ◌≤◌, [], ◌∷◌, false, ℕ};
-ghost use Rattle.answered_watches.specs.WatchEnds.{no_memory_entry, reader_closed};
+ghost use Rattle.core_watches.specs.WatchEnds.{no_memory_entry, reader_closed};
 ghost use Rattle.aosi_desk.specs.Desks.{is_cube_code};
 ghost use Rattle.core_states.specs.StandingInCore.{HoldsForMode};
 ghost use Rattle.core_watches.specs.KeptWatches.{HoldersHold, IsRefusedSo};

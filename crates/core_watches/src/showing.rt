@@ -1,7 +1,7 @@
 //! SHOW WATCH of a session that has a watch.
 ghost use Rattle.std.specs.Prelude.{◌≡◌, ◌+◌, ◌<◌, ◌≤◌, None, Some};
-ghost use Rattle.answered_watches.specs.BoundReaders.{OpenWithRowsOfCubes};
-ghost use Rattle.answered_watches.specs.WatchEnds.{EndsShow};
+ghost use Rattle.core_watches.specs.BoundReaders.{OpenWithRowsOfCubes};
+ghost use Rattle.core_watches.specs.WatchEnds.{EndsShow};
 ghost use Rattle.core_states.specs.ExecutedInCore.{HasOneMore};
 ghost use Rattle.core_states.specs.StandingInCore.{HoldsForMode};
 ghost use Rattle.core_watches.specs.KeptWatches.{KeepsWatch, kept_on_record};

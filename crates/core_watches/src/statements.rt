@@ -1,6 +1,6 @@
 //! WATCH and SHOW WATCH.
 ghost use Rattle.std.specs.Prelude.{◌≡◌, ◌≢◌, ◌+◌, ◌<◌, ◌≤◌, false, true, None, Option, Some};
-ghost use Rattle.answered_watches.specs.BoundReaders.{OpenWithRowsOfCubes};
+ghost use Rattle.core_watches.specs.BoundReaders.{OpenWithRowsOfCubes};
 ghost use Rattle.aosi_desk.specs.Desks.{is_cube_code};
 ghost use Rattle.core_states.specs.ExecutedInCore.{HasOneMore};
 ghost use Rattle.core_states.specs.StandingInCore.{HoldsForMode};

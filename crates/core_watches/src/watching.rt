@@ -1,6 +1,6 @@
 //! WATCH of a session that has no watch.
 ghost use Rattle.std.specs.Prelude.{◌≡◌, ◌+◌, ◌<◌, ◌≤◌, ℕ, true, List, IfErr, IfOk, None, OnErr, Some};
-ghost use Rattle.answered_watches.specs.WatchEnds.{EndsWatch};
+ghost use Rattle.core_watches.specs.WatchEnds.{EndsWatch};
 ghost use Rattle.core_states.specs.ExecutedInCore.{HasOneMore};
 ghost use Rattle.core_states.specs.StandingInCore.{HoldsForMode};
 ghost use Rattle.core_watches.specs.BoundQueries.{IsWhyUnfit};

@@ -8,7 +8,7 @@ ghost use Rattle.cube_schema.specs.Schemas.{cube_of};
 ghost use Rattle.dropped_regions.specs.DeleteBoxes.{IsToldOfPlace, IsWholeBox};
 ghost use Rattle.job_groups.specs.AskedEach.{AreShardMails};
 ghost use Rattle.known_cubes.specs.KnownCubes.{OpenWithStorableCubes};
-ghost use Rattle.known_holds.specs.KnownHolds.{HoldsWriter};
+ghost use Rattle.session_snapshots.specs.KnownHolds.{HoldsWriter};
 ghost use Rattle.linked_shards.specs.CellShards.{CoreShardStands};
 ghost use Rattle.posted_pasts.specs.PostsAdded.{AddsOperations, LearnsThat};
 ghost use Rattle.session_groups.specs.ShardGroups.{HasAskedAll, HoldsAfterWrite};

@@ -9,7 +9,7 @@ ghost use Rattle.cube_language.specs.declared.statement.Statement.{Statement};
 ghost use Rattle.cube_values.specs.declared.span.Span.{Span};
 ghost use Rattle.dropped_regions.specs.DeleteBoxes.{IsBoxOf};
 
-use core_board_cells::LinkedShard;
+use cube_core::LinkedShard;
 
 /// The box of a DELETE is that after more calls of the session.
 pub fn boxes_stay_after_calls<S: LinkedShard>()

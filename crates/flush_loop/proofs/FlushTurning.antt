@@ -2,8 +2,8 @@
 use Rattle.std.proofs.Common.{◌≡◌, ◌∙◌, ℕ, Bool, true, false, List, [], ◌∷◌, ◌++◌, append_assoc, map, Option, refl, sym, ap, subst}
 use Rattle.mail_cell.specs.declared.answer.Taken.{Taken}
 use Rattle.mail_cell.specs.declared.answer.Taken.TheVariants.{Job as SomeJob, Empty, Closed}
-use Rattle.core_board.specs.Links.{AreEventsOf}
-use Rattle.core_board_cells.specs.BoardCells.{IsEntryEvent}
+use Rattle.cube_core.specs.Links.{AreEventsOf}
+use Rattle.cube_core.specs.BoardCells.{IsEntryEvent}
 use Rattle.core_program.specs.Knowing.{IsLaterRun}
 use Rattle.core_events.specs.Clients.{calls_of}
 use Rattle.core_events.specs.Events.{Opening, NoJob, Take, CoreEvent, At, By}

@@ -3,7 +3,7 @@ use Rattle.std.proofs.Common.{◌≡◌, ◌≢◌, ◌∙◌, ℕ, Bool, List, 
 use Rattle.std.specs.List.{AllByRecursion}
 use Rattle.aosi_desk.specs.declared.answer.RoundAnswer.TheVariants.{Nothing, Target}
 use Rattle.aosi_desk.specs.declared.answer.RoundEnd.TheVariants as end
-use Rattle.core_board_cells.specs.BoardCells.{AnswerSays}
+use Rattle.cube_core.specs.BoardCells.{AnswerSays}
 use Rattle.core_events.specs.Cells.{worker_of}
 use Rattle.core_events.specs.Events.{Opening, RoundClose, RoundOpen, OnDesk, ClientCall, CoreEvent, By}
 use Rattle.core_events.specs.Fitting.{AllSaved, FlushSays, NoRound, RoundProgress, round_progress}

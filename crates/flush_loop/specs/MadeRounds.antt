@@ -2,8 +2,8 @@
 -- Source: Cubrick (VLDB 2016), rounds of a flush; what is known by own calls is this project's own.
 use Rattle.std.specs.Prelude.{◌≡◌, ℕ, Bool, List, ◌++◌, map}
 use Rattle.cube_rounds.specs.Stands.{Kept}
-use Rattle.core_board.specs.Links.{AreEventsOf}
-use Rattle.core_board_cells.specs.BoardCells.{IsEntryEvent}
+use Rattle.cube_core.specs.Links.{AreEventsOf}
+use Rattle.cube_core.specs.BoardCells.{IsEntryEvent}
 use Rattle.core_program.specs.Knowing.{IsLaterRun, Knows}
 use Rattle.core_events.specs.Clients.{calls_of, state_from_calls}
 use Rattle.core_events.specs.Events.{Opening, ClientCall, CoreEvent, By}

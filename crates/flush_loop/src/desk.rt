@@ -2,7 +2,7 @@
 ghost use Rattle.std.specs.Prelude.{◌≡◌, ◌+◌, ℕ, false, [], ◌∷◌, ◌++◌};
 ghost use Rattle.std.specs.Option.{option_map_or};
 ghost use Rattle.board_callers.specs.Callers.{HasHistoryOf};
-ghost use Rattle.client_calls.specs.ClientCalls.{desk_entry};
+ghost use Rattle.core_program.specs.ClientCalls.{desk_entry};
 ghost use Rattle.core_cells.specs.declared.desk.DeskAnswer.TheVariants as answer;
 ghost use Rattle.core_cells.specs.declared.desk.DeskCall.TheVariants as call;
 ghost use Rattle.core_events.specs.Clients.{is_lost_to_disk};
@@ -15,14 +15,12 @@ ghost use Rattle.flush_loop.specs.PlainRounds.{KnowsAfterOpening};
 use crate::answers::{expect_closed, round_in};
 use aosi_desk::{RoundAnswer, RoundEnd};
 use board_callers::CellCaller;
-use client_calls::call_desk_cell;
-use core_board_cells::LinkedShard;
 use core_cells::DeskCall;
 use core_program::{
-    CoreCells, CoreSize, answers_fit_their_calls, clients_fit_by_what_they_know,
+    CoreCells, CoreSize, answers_fit_their_calls, call_desk_cell, clients_fit_by_what_they_know,
     the_flusher_is_a_client,
 };
-use cube_core::CoreCall;
+use cube_core::{CoreCall, LinkedShard};
 use std::sync::Wait;
 use turn_board::Board;
 

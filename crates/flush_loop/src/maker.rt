@@ -11,8 +11,8 @@ ghost use Rattle.turn_board.specs.Passes.{callers_of};
 
 use crate::round_result::RoundResult;
 use board_callers::CellCaller;
-use core_board_cells::LinkedShard;
 use core_program::{CoreCells, CoreSize};
+use cube_core::LinkedShard;
 use std::sync::Wait;
 use turn_board::Board;
 

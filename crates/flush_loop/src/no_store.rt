@@ -9,8 +9,8 @@ use crate::maker::MakesRounds;
 use crate::round_result::RoundResult;
 use aosi_desk::{RoundAnswer, RoundEnd};
 use board_callers::CellCaller;
-use core_board_cells::LinkedShard;
 use core_program::{CoreCells, CoreSize};
+use cube_core::LinkedShard;
 use std::sync::Wait;
 use turn_board::Board;
 

@@ -4,10 +4,10 @@ use Rattle.std.specs.List.{zip}
 use Rattle.std.proofs.lemmas.List.{length-map}
 use Rattle.std.proofs.lemmas.List.Elements.{Contains-append_right}
 use Rattle.std.proofs.lemmas.Option.{slice_get_within}
-use Rattle.client_calls.specs.ClientCalls.{desk_entry, names_entry}
+use Rattle.core_program.specs.ClientCalls.{desk_entry, names_entry}
 use Rattle.copied_rounds.proofs.KeptPlaces.{counts-are}
 use Rattle.copied_rounds.specs.CopiedRounds.{HaveShapesAndCounts, names_of_dim}
-use Rattle.core_board.specs.Links.{AreEventsOf}
+use Rattle.cube_core.specs.Links.{AreEventsOf}
 use Rattle.core_cells.specs.declared.desk.DeskAnswer.TheVariants as said
 use Rattle.core_cells.specs.declared.desk.DeskCall.TheVariants as asked
 use Rattle.core_cells.specs.declared.names.NamesAnswer.TheVariants as told
@@ -17,7 +17,7 @@ use Rattle.core_events.specs.Clients.{ClientState, after_client_call, calls_of, 
 use Rattle.core_events.specs.Events.{Opening, CubesFrom, CopyFrom, ClientCall, OnDesk, OnNames, CoreEvent, By, At}
 use Rattle.core_program.proofs.FlusherCalls.{is-client}
 use Rattle.core_program.proofs.KnownCalls.{go-on-from, known-before}
-use Rattle.core_board_cells.specs.BoardCells.{IsEntryEvent, IsEventOf, client_of}
+use Rattle.cube_core.specs.BoardCells.{IsEntryEvent, IsEventOf, client_of}
 use Rattle.core_program.specs.CoreFits.{CoreEntry}
 use Rattle.core_program.specs.Flushing.{IsFlusherOf}
 use Rattle.core_program.specs.Knowing.{IsLaterRun}

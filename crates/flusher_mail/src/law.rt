@@ -5,7 +5,7 @@ ghost use Rattle.core_program.specs.Flushing.{KnowsPart};
 ghost use Rattle.cube_core.specs.declared.cell.CoreCell.{CoreCell};
 ghost use Rattle.flusher_mail.specs.FlusherMail.{HasNoFlush};
 
-use core_board_cells::LinkedShard;
+use cube_core::LinkedShard;
 
 /// Before its first call the flusher has no FLUSH in hand and no round, and has not lost the store.
 pub fn the_flusher_begins_free<S: LinkedShard>()

@@ -8,13 +8,12 @@ ghost use Rattle.turn_board.specs.Passes.{callers_of};
 
 use crate::answers::{expect_replied, taken_in};
 use board_callers::CellCaller;
-use core_board_cells::LinkedShard;
 use core_cells::MailCall;
 use core_program::{
     CoreCells, CoreSize, answers_fit_their_calls, the_flusher_fits_by_what_it_knows,
     the_flusher_learns_by_each_call,
 };
-use cube_core::{CoreCall, FlushAnswer, Job, JobAnswer};
+use cube_core::{CoreCall, FlushAnswer, Job, JobAnswer, LinkedShard};
 use mail_cell::Taken;
 use std::sync::Wait;
 use turn_board::Board;

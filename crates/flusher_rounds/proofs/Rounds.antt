@@ -18,8 +18,8 @@ use Rattle.core_events.specs.Events.{Opening, CopyFrom, flusher}
 use Rattle.core_events.specs.Fitting.{FitsCall, HasCopies, MayCopy}
 use Rattle.core_events.specs.Groups.{Copies, JobGroup, has_all_below, has_ended, has_refusal, is_complete, is_empty, is_ready, is_spoiled, mails_of, no_group}
 use Rattle.core_events.specs.Jobs.{CopyRound}
-use Rattle.core_board_cells.specs.DeskEvents.{FitsDeskCall, desk_event}
-use Rattle.core_board_cells.specs.NamesEvents.{FitsNamesCall, names_event}
+use Rattle.cube_core.specs.DeskEvents.{FitsDeskCall, desk_event}
+use Rattle.cube_core.specs.NamesEvents.{FitsNamesCall, names_event}
 use Rattle.session_holds.specs.GroupEnds.{HasAllAnswers, MayBeginBy}
 use Rattle.session_holds.specs.HoldStates.{ComesTo, after_desk_call}
 use Rattle.session_holds.proofs.Snapshots.{same-number}

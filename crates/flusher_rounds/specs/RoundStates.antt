@@ -22,7 +22,7 @@ use Rattle.core_serial.specs.Copies.{HasCopied}
 use Rattle.core_events.specs.Clients.{OwnRound, ClientState, after_client_call}
 use Rattle.core_events.specs.Events.{Opening, flusher}
 use Rattle.core_events.specs.Groups.{has_refusal, is_empty, is_ready}
-use Rattle.core_board_cells.specs.NamesEvents.{names_event}
+use Rattle.cube_core.specs.NamesEvents.{names_event}
 
 -- No round is open, a round was lost to the disk or none was, and the last group has ended with no write refused.
 pub record IsBetweenRounds (o : Opening) (lost : Bool) (k : ClientState) : Type 0 where

@@ -14,8 +14,8 @@ ghost use Rattle.core_events.specs.Clients.{ClientState, is_lost_to_disk, names_
 ghost use Rattle.core_events.specs.Events.{Opening, ClientCall, CopyFrom, flusher};
 ghost use Rattle.core_events.specs.Groups.{Copies, JobGroup, has_refusal, no_group};
 ghost use Rattle.core_events.specs.Jobs.{CopyRound};
-ghost use Rattle.core_board_cells.specs.DeskEvents.{FitsDeskCall};
-ghost use Rattle.core_board_cells.specs.NamesEvents.{FitsNamesCall};
+ghost use Rattle.cube_core.specs.DeskEvents.{FitsDeskCall};
+ghost use Rattle.cube_core.specs.NamesEvents.{FitsNamesCall};
 ghost use Rattle.session_holds.specs.GroupEnds.{HasAllAnswers, MayBeginBy};
 ghost use Rattle.session_holds.specs.HoldStates.{ComesTo, after_desk_call};
 ghost use Rattle.flusher_rounds.specs.RoundStates.{HasCopiedCubes, HasCopiedRows, HasLostStore, HasNoRound, HasRound, HasRoundCopies, IsBetweenRounds, IsInRound, LacksRows, after_names_call, round_up_to};

@@ -19,7 +19,7 @@ ghost use Rattle.cube_run.specs.RunRecords.{cube_needed};
 ghost use Rattle.cube_run.specs.SessionSteps.{SessionStep};
 ghost use Rattle.found_cubes.specs.CubesOnRecord.{HasCubeAt};
 
-use core_board_cells::LinkedShard;
+use cube_core::LinkedShard;
 
 /// Where a session found the cube of the name that its statement needs, each run with cubes named apart that goes on
 /// from there has it on record: before the statement's step and in the end.

@@ -7,7 +7,7 @@ ghost use Rattle.cube_schema.specs.Schemas.{cube_of};
 ghost use Rattle.inserted_rows.specs.RowsInTheEnd.{AreToldRows, IsToldOfCubeAt};
 ghost use Rattle.job_groups.specs.AskedEach.{AreShardMails};
 ghost use Rattle.known_cubes.specs.KnownCubes.{OpenWithStorableCubes};
-ghost use Rattle.known_holds.specs.KnownHolds.{HoldsWriter};
+ghost use Rattle.session_snapshots.specs.KnownHolds.{HoldsWriter};
 ghost use Rattle.linked_shards.specs.CellShards.{CoreShardStands};
 ghost use Rattle.session_batches.specs.PutRows.{HoldsAfterPut, LearnsOfRows};
 ghost use Rattle.shard_events.specs.ShardsInRuns.{FitsShard, ShardAnswerSays};

@@ -3,9 +3,9 @@ use Rattle.std.proofs.Common.{◌≡◌, ◌∙◌, ℕ, zero, suc, ◌+◌, ◌
 use Rattle.std.proofs.lemmas.Option.{same_Some, slice_get_within}
 use Rattle.std.specs.List.{IsDistinct}
 use Rattle.mail_cell.specs.declared.answer.Fetched.TheVariants.{Got, NotYet}
-use Rattle.client_calls.specs.ClientCalls.{HasFetched, LearnsByFetch, ask_entry, post_entry}
-use Rattle.core_board.specs.Links.{AreEventsOf}
-use Rattle.core_board_cells.specs.BoardCells.{IsEntryEvent, call_job, job_asked}
+use Rattle.core_program.specs.ClientCalls.{HasFetched, LearnsByFetch, ask_entry, post_entry}
+use Rattle.cube_core.specs.Links.{AreEventsOf}
+use Rattle.cube_core.specs.BoardCells.{IsEntryEvent, call_job, job_asked}
 use Rattle.core_program.specs.Knowing.{GoOnBy, IsLaterRun, Knows, MayFetchFrom, MayPostJob}
 use Rattle.core_program.proofs.KnownCalls.{earlier-run}
 use Rattle.core_events.specs.Clients.{calls_of, state_from_calls}

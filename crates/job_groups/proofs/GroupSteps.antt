@@ -2,9 +2,9 @@
 use Rattle.std.proofs.Common.{◌≡◌, ◌∙◌, ℕ, zero, suc, ◌+◌, ◌<◌, ◌≤◌, ◌==◌, nat_eq, ◌&&◌, Bool, true, false, List, [], ◌∷◌, ◌++◌, append_assoc, length, map, take, drop, replicate, slice_get, Option, Some, inl, inr, ◌⊎◌, refl, sym, ap, subst, arith, eq-eqb, if◌then◌else◌}
 use Rattle.std.proofs.lemmas.Option.{none-some, same_Some, slice_get_within}
 use Rattle.std.specs.List.{AllByRecursion, IsDistinct}
-use Rattle.core_board.specs.Links.{AreEventsOf}
+use Rattle.cube_core.specs.Links.{AreEventsOf}
 use Rattle.core_events.proofs.Counts.{in-order}
-use Rattle.core_board_cells.specs.BoardCells.{AnswerSays, IsEntryEvent, call_job}
+use Rattle.cube_core.specs.BoardCells.{AnswerSays, IsEntryEvent, call_job}
 use Rattle.core_program.specs.Knowing.{MayPostJob, last_posted}
 use Rattle.core_events.specs.Clients.{ClientState, after_client_call, calls_of, flush_after_fetch, state_from_calls}
 use Rattle.core_events.specs.Events.{Opening, Post, Fetch, NoChange, ClientCall, CoreEvent, By}

@@ -2,8 +2,8 @@
 -- Source: Cubrick (VLDB 2016), one request that goes to all shards; the rest is this project's own.
 use Rattle.std.specs.Prelude.{◌≡◌, ℕ, ◌+◌, ◌<◌, true, List, [], ◌∷◌, ◌++◌, length, map, slice_get, Some}
 use Rattle.std.specs.List.{AllByRecursion}
-use Rattle.core_board.specs.Links.{AreEventsOf}
-use Rattle.core_board_cells.specs.BoardCells.{AnswerSays, IsEntryEvent, call_job}
+use Rattle.cube_core.specs.Links.{AreEventsOf}
+use Rattle.cube_core.specs.BoardCells.{AnswerSays, IsEntryEvent, call_job}
 use Rattle.core_program.specs.Knowing.{IsMailAt, ServesClient}
 use Rattle.core_events.specs.Clients.{ClientState, calls_of, state_from_calls}
 use Rattle.core_events.specs.Events.{Opening, Post, Fetch, NoChange, ClientCall, CoreEvent, By}

@@ -3,8 +3,8 @@
 -- Source: Cubrick (VLDB 2016), where the rows of a batch go to the shards of their bricks; the rest is this project's
 -- own.
 use Rattle.std.specs.Prelude.{◌≡◌, ℕ, ◌<◌, true, List, [], ◌∷◌, ◌++◌, slice_get, Some}
-use Rattle.core_board.specs.Links.{AreEventsOf}
-use Rattle.core_board_cells.specs.BoardCells.{IsEntryEvent, call_job}
+use Rattle.cube_core.specs.Links.{AreEventsOf}
+use Rattle.cube_core.specs.BoardCells.{IsEntryEvent, call_job}
 use Rattle.core_program.specs.Knowing.{IsLaterRun}
 use Rattle.core_events.specs.Clients.{state_from_calls}
 use Rattle.core_events.specs.Events.{Opening, Post, ClientCall, CoreEvent}

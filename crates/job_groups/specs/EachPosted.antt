@@ -1,8 +1,8 @@
 -- A group of each shard, with what it has posted.
 -- Source: Cubrick (VLDB 2016), one request that goes to all shards; the rest is this project's own.
 use Rattle.std.specs.Prelude.{◌≡◌, ℕ, ◌+◌, List, [], ◌∷◌, ◌++◌}
-use Rattle.core_board.specs.Links.{AreEventsOf}
-use Rattle.core_board_cells.specs.BoardCells.{IsEntryEvent, call_job}
+use Rattle.cube_core.specs.Links.{AreEventsOf}
+use Rattle.cube_core.specs.BoardCells.{IsEntryEvent, call_job}
 use Rattle.core_program.specs.Knowing.{IsLaterRun}
 use Rattle.core_events.specs.Events.{Opening, Post, ClientCall, CoreEvent}
 use Rattle.core_events.specs.Jobs.{CoreJob, JobOutcome}

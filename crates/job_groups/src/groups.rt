@@ -9,10 +9,8 @@ ghost use Rattle.job_groups.specs.EachPosted.{LearnsOfEach};
 ghost use Rattle.turn_board.specs.Passes.{callers_of};
 
 use board_callers::CellCaller;
-use client_calls::{fetch_answer, post_job};
-use core_board_cells::LinkedShard;
-use core_program::{CoreCells, CoreSize, clients_learn_by_each_call};
-use cube_core::{Job, JobAnswer, ShardCall, Work};
+use core_program::{CoreCells, CoreSize, clients_learn_by_each_call, fetch_answer, post_job};
+use cube_core::{Job, JobAnswer, LinkedShard, ShardCall, Work};
 use std::sync::Wait;
 use turn_board::Board;
 

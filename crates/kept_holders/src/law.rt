@@ -10,7 +10,7 @@ ghost use Rattle.cube_language.specs.declared.statement.Statement.{Statement};
 ghost use Rattle.session_holds.specs.HoldStates.{IsUnderOwnNumber};
 ghost use Rattle.session_watches.specs.KnownReaders.{HoldersKeep};
 
-use core_board_cells::LinkedShard;
+use cube_core::LinkedShard;
 
 /// Plain calls, and the calls of a statement that changes no rows, are under their session's own number.
 /// Calls that are so, one after the other, leave its holders what they hold.

@@ -29,7 +29,7 @@ use Rattle.core_events.specs.Events.{Opening, IsSession}
 use Rattle.core_events.specs.Fitting.{CutsNoBrick, FitsCall, IsQueryOf, MayAskName, MayPutRow}
 use Rattle.core_events.specs.Jobs.{CoreJob, JobOutcome}
 use Rattle.core_events.specs.ShardView.{ShardView}
-use Rattle.core_board_cells.specs.NamesEvents.{FitsNamesCall, names_event}
+use Rattle.cube_core.specs.NamesEvents.{FitsNamesCall, names_event}
 use Rattle.core_program.specs.CoreFits.{CoreEntry}
 use Rattle.cube_core.specs.declared.cell.CoreCell.{CoreCell}
 use Rattle.cube_core.specs.declared.shard.ShardAnswer.{ShardAnswer}

@@ -8,9 +8,9 @@ use Rattle.aosi_desk.specs.declared.cube.CubeFound.TheVariants.{Found, Unknown}
 use Rattle.aosi_desk.specs.Desks.{DeskState, IsFound}
 use Rattle.cube_language.specs.declared.decl.Decl.{Decl}
 use Rattle.cube_schema.specs.Schemas.{cube_of}
-use Rattle.core_board.specs.Links.{AreEventsAfter, AreEventsOf}
-use Rattle.core_board_cells.specs.BoardCells.{AnswerSays, IsEntryEvent, IsEventOf, client_of, job_asked}
-use Rattle.core_board_cells.proofs.OffCells.{mail-off, names-off}
+use Rattle.cube_core.specs.Links.{AreEventsAfter, AreEventsOf}
+use Rattle.cube_core.specs.BoardCells.{AnswerSays, IsEntryEvent, IsEventOf, client_of, job_asked}
+use Rattle.cube_core.proofs.OffCells.{mail-off, names-off}
 use Rattle.core_cells.specs.declared.desk.DeskAnswer.{DeskAnswer}
 use Rattle.core_cells.specs.declared.desk.DeskAnswer.TheVariants as said
 use Rattle.core_cells.specs.declared.desk.DeskCall.{DeskCall}
@@ -21,8 +21,8 @@ use Rattle.core_events.specs.Events.{Opening, ClientCall, CoreEvent, By, At}
 use Rattle.core_events.specs.Jobs.{CoreJob, JobOutcome}
 use Rattle.core_events.specs.Runs.{IsCoreRun, CallSays}
 use Rattle.core_events.specs.ShardView.{ShardView}
-use Rattle.core_board_cells.proofs.DeskLinks as links
-use Rattle.core_board_cells.specs.DeskEvents.{desk_event, is_on_desk}
+use Rattle.cube_core.proofs.DeskLinks as links
+use Rattle.cube_core.specs.DeskEvents.{desk_event, is_on_desk}
 use Rattle.core_program.specs.CoreFits.{CoreEntry, OpensCells, decl_at, decl_made_by, decl_made_in, first_decl}
 use Rattle.cube_core.specs.declared.cell.CoreAnswer.{CoreAnswer}
 use Rattle.cube_core.specs.declared.cell.CoreAnswer.TheVariants as answer

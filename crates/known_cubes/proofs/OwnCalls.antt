@@ -4,7 +4,7 @@ use mathlib.Core.List.{IsPrefix}
 use Rattle.std.specs.List.{AllByRecursion}
 use Rattle.std.proofs.lemmas.List.Elements.{All-contains, All-filter, All-from_recursion, filter_passes, recursion_from_All}
 use Rattle.turn_board.specs.History.{is_by_caller, of_caller}
-use Rattle.core_board.specs.Links.{AreEventsAfter, AreEventsOf, EventOf}
+use Rattle.cube_core.specs.Links.{AreEventsAfter, AreEventsOf, EventOf}
 use Rattle.core_events.proofs.Knowledge.{known-by-calls}
 use Rattle.core_events.specs.Clients.{ClientState, after_client_call, calls_of, client_after_call, client_state, cubes_at_least, greater_of, greater_where, names_by_number, number_by_code, state_from_calls}
 use Rattle.core_events.specs.Events.{Opening, Encode, FindName, CopyFrom, ClientCall, OnNames, CoreEvent, By, At}

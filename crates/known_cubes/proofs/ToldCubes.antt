@@ -7,7 +7,7 @@ use Rattle.cube_language.specs.declared.decl.Decl.{Decl}
 use Rattle.aosi_desk.specs.declared.cube.CubeAnswer.TheVariants.{Created}
 use Rattle.aosi_desk.specs.declared.cube.CubeFound.TheVariants.{Found}
 use Rattle.aosi_desk.specs.Desks.{IsFound}
-use Rattle.core_board_cells.specs.BoardCells.{IsEntryEvent, IsEventOf, client_of}
+use Rattle.cube_core.specs.BoardCells.{IsEntryEvent, IsEventOf, client_of}
 use Rattle.core_program.specs.Knowing.{IsClientOf, IsLaterRun, Knows}
 use Rattle.core_events.specs.Cells.{desk_of}
 use Rattle.core_events.specs.Clients.{ClientState, client_state, cubes_at_least, greater_of, state_from_calls}

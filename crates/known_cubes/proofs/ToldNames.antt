@@ -3,8 +3,8 @@ use Rattle.std.proofs.Common.{◌≡◌, ◌∙◌, ℕ, zero, suc, ◌+◌, ◌
 use Rattle.std.specs.List.{AllByRecursion}
 use Rattle.std.proofs.lemmas.List.Elements.{All-contains, All-from_recursion, Contains-append_left, Contains-push}
 use Rattle.std.proofs.lemmas.Option.{none-some}
-use Rattle.core_board.specs.Links.{AreEventsAfter}
-use Rattle.core_board_cells.specs.BoardCells.{IsEntryEvent, IsEventOf, client_of}
+use Rattle.cube_core.specs.Links.{AreEventsAfter}
+use Rattle.cube_core.specs.BoardCells.{IsEntryEvent, IsEventOf, client_of}
 use Rattle.core_program.specs.Knowing.{IsClientOf, IsLaterRun, Knows}
 use Rattle.core_events.proofs.Names.{codes-stay, names-grow, number-is-place}
 use Rattle.core_events.specs.Cells.{dictionary_of}

@@ -4,8 +4,8 @@ ghost use Rattle.std.specs.Prelude.{◌≡◌, ℕ, ◌≤◌, List, [], ◌∷�
 ghost use Rattle.aosi_desk.specs.Desks.{AreCubes, IsFound};
 ghost use Rattle.aosi_desk.specs.declared.cube.CubeFound.TheVariants.{Found};
 ghost use Rattle.condition_spans.specs.Spans.{CutNoBrick};
-ghost use Rattle.core_board.specs.Links.{AreEventsOf};
-ghost use Rattle.core_board_cells.specs.BoardCells.{IsEntryEvent};
+ghost use Rattle.cube_core.specs.Links.{AreEventsOf};
+ghost use Rattle.cube_core.specs.BoardCells.{IsEntryEvent};
 ghost use Rattle.core_cells.specs.declared.names.NamesCall.TheVariants as names;
 ghost use Rattle.core_program.specs.Knowing.{IsClientOf, IsLaterRun, IsSessionOf, Knows, MayCallNames};
 ghost use Rattle.core_events.specs.Cells.{desk_of, dictionary_of, sizes_of_cube};
@@ -13,7 +13,7 @@ ghost use Rattle.core_events.specs.Clients.{ClientState, state_from_calls};
 ghost use Rattle.core_events.specs.Events.{ClientCall, CoreEvent, IsSession, Opening};
 ghost use Rattle.core_events.specs.Fitting.{CutsNoBrick, IsQueryOf, MayPutRow};
 ghost use Rattle.core_events.specs.Runs.{IsCoreRun};
-ghost use Rattle.core_board_cells.specs.NamesEvents.{FitsNamesCall};
+ghost use Rattle.cube_core.specs.NamesEvents.{FitsNamesCall};
 ghost use Rattle.core_program.specs.CoreFits.{CoreEntry, OpensCells, decl_at};
 ghost use Rattle.cube_core.specs.declared.cell.CoreCell.{CoreCell};
 ghost use Rattle.cube_language.specs.Cubes.{IsStorable, sizes_of};
@@ -30,7 +30,7 @@ ghost use Rattle.known_cubes.specs.KnownCubes.{AreMadeAfter, CallsTellCube, IsRo
 ghost use Rattle.known_cubes.specs.KnownNames.{CallsTellNumber, IsToldOfName, TellsOfName};
 ghost use Rattle.names_dict.specs.Dictionaries.{IsTextDimension};
 
-use core_board_cells::LinkedShard;
+use cube_core::LinkedShard;
 
 /// The desk's cubes in a run are those of the opening and then those that its history makes, and
 /// each has the shape of its declaration. They are few, and each of its history's could be made.

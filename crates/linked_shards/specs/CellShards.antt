@@ -1,6 +1,6 @@
 -- A shard of a core is linked to it as the shard in it is.
 use Rattle.std.specs.Prelude.{ℕ}
-use Rattle.core_board_cells.specs.BoardCells.{IsShardLinked}
+use Rattle.cube_core.specs.BoardCells.{IsShardLinked}
 use Rattle.core_events.specs.Events.{Opening}
 use Rattle.core_events.specs.ShardView.{ShardView}
 use Rattle.cube_core.specs.declared.shard.ShardAnswer.{ShardAnswer}

@@ -4,9 +4,8 @@ ghost use Rattle.shard_events.specs.ShardCalls.{CanCallShard, ShardStep};
 ghost use Rattle.shard_events.specs.ShardsInRuns.{FitsShard, ShardAnswerSays};
 ghost use Rattle.linked_shards.specs.CellShards.{CanCallCoreShard, CoreShardStep, CoreShardStands, linked-shards};
 
-use core_board_cells::LinkedShard;
 use core_program::CoreCells;
-use cube_core::{ShardAnswer, ShardCall, ShardCell};
+use cube_core::{LinkedShard, ShardAnswer, ShardCall, ShardCell};
 use cube_values::CallError;
 use shard_cell::Shard;
 use std::alloc::AllocError;

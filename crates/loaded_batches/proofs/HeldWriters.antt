@@ -1,13 +1,13 @@
 -- A writer is held by a session, spoiled or not, while its calls go on by calls on the names.
 use Rattle.std.proofs.Common.{◌≡◌, ℕ, List, [], ◌∷◌, ◌++◌, inl, inr, refl, sym, subst}
-use Rattle.client_calls.specs.ClientCalls.{names_entry}
+use Rattle.core_program.specs.ClientCalls.{names_entry}
 use Rattle.core_cells.specs.declared.names.NamesAnswer.{NamesAnswer}
 use Rattle.core_cells.specs.declared.names.NamesAnswer.TheVariants as told
 use Rattle.core_cells.specs.declared.names.NamesCall.{NamesCall}
 use Rattle.core_cells.specs.declared.names.NamesCall.TheVariants as names
 use Rattle.core_events.specs.Clients.{ClientState, after_client_call, calls_of, state_from_calls}
 use Rattle.core_events.specs.Events.{Opening, ClientCall}
-use Rattle.core_board_cells.specs.NamesEvents.{names_event}
+use Rattle.cube_core.specs.NamesEvents.{names_event}
 use Rattle.core_names.proofs.HeldOn.{by-names, holds-on}
 use Rattle.core_names.specs.AskedNames.{GoOnByNames}
 use Rattle.core_program.proofs.KnownCalls.{earlier-run, names-learn}
@@ -15,7 +15,7 @@ use Rattle.core_program.specs.CoreFits.{CoreEntry}
 use Rattle.core_program.specs.Knowing.{IsClientOf}
 use Rattle.cube_core.specs.declared.cell.CoreCell.{CoreCell}
 use Rattle.cube_values.specs.declared.snapshot.Snapshot.{Snapshot}
-use Rattle.known_holds.specs.KnownHolds.{HoldsSpoiledWriter, HoldsWriter}
+use Rattle.session_snapshots.specs.KnownHolds.{HoldsSpoiledWriter, HoldsWriter}
 use Rattle.linked_shards.specs.CellShards.{CoreShardStands}
 use Rattle.shard_events.specs.ShardsInRuns.{FitsShard, ShardAnswerSays}
 use Rattle.linked_shards.specs.declared.cell.CoreShard.{CoreShard}

@@ -4,7 +4,7 @@ ghost use Rattle.std.specs.Prelude.{◌≡◌, ◌+◌, ◌≤◌, length, All, 
 ghost use Rattle.core_names.specs.KnownNumbers.{HasToldNumber};
 ghost use Rattle.cube_values.specs.Batches.{HasWidths};
 ghost use Rattle.job_groups.specs.AskedEach.{AreShardMails};
-ghost use Rattle.known_holds.specs.KnownHolds.{HoldsWriter};
+ghost use Rattle.session_snapshots.specs.KnownHolds.{HoldsWriter};
 ghost use Rattle.linked_shards.specs.CellShards.{CoreShardStands};
 ghost use Rattle.shard_events.specs.ShardsInRuns.{FitsShard, ShardAnswerSays};
 ghost use Rattle.row_encoding.specs.CodedInserts.{HasCoords, HasNumbers};

@@ -10,10 +10,10 @@ ghost use Rattle.core_names.specs.NamesInTheEnd.{MayLeaveNames};
 ghost use Rattle.core_names.specs.CoreEncoders.{MayAskForCodes};
 
 use board_callers::CellCaller;
-use core_board_cells::LinkedShard;
 use core_names::{CoreNames, CubeTexts};
 use core_program::CoreCells;
 use csv_load::Loader;
+use cube_core::LinkedShard;
 use cube_schema::Schema;
 use cube_values::CodedRows;
 use row_encoding::{BadRecords, BatchEnd, load_rows};

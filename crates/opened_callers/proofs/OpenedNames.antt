@@ -15,10 +15,10 @@ use Rattle.cube_schema.specs.Schemas.{cube_of}
 use Rattle.names_dict.specs.Dictionaries.{Dictionary, dictionaries_of, dictionary_at, dictionary_for, dictionary_in, empty_dictionaries, made_dictionaries}
 use Rattle.kept_data.specs.KeptDicts.{dictionaries_with_names, with_names}
 use Rattle.kept_data.specs.KeptNames.{AreKeptNames, FitKeptNames, HaveKeptNames}
-use Rattle.core_board_cells.specs.BoardCells.{StandsInCell}
+use Rattle.cube_core.specs.BoardCells.{StandsInCell}
 use Rattle.core_events.specs.Cells.{desk_of}
 use Rattle.core_events.specs.Events.{Opening, CoreEvent}
-use Rattle.core_board_cells.specs.NamesEvents.{AreNamesOf}
+use Rattle.cube_core.specs.NamesEvents.{AreNamesOf}
 use Rattle.core_program.specs.CoreFits.{CoreEntry, OpensCells}
 use Rattle.core_records.specs.OpeningNames.{OpensWithNames, SuitsDimension}
 use Rattle.cube_core.specs.declared.cell.CoreCell.{CoreCell}

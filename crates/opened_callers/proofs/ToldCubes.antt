@@ -1,7 +1,7 @@
 -- The cells of an opened core tell with which cubes it opened.
 use Rattle.std.proofs.Common.{◌≡◌, ◌∙◌, ℕ, List, [], All, sym, ap, subst, arith}
 use Rattle.aosi_desk.specs.Desks.{DeskState}
-use Rattle.core_board_cells.specs.BoardCells.{StandsInCell}
+use Rattle.cube_core.specs.BoardCells.{StandsInCell}
 use Rattle.core_events.specs.Events.{Opening}
 use Rattle.cube_core.specs.declared.cell.CoreCell.{CoreCell}
 use Rattle.cube_core.specs.declared.cell.CoreCell.TheVariants as cell

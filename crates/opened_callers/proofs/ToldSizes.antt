@@ -1,8 +1,8 @@
 -- The cells of an opened core tell how many shards and sessions it has.
 use Rattle.std.proofs.Common.{◌≡◌, ◌∙◌, ℕ, ◌+◌, ◌<◌, ◌≤◌, ◌==◌, Bool, true, false, true≢false, List, [], inl, sym, ap, arith, ne_eqb, if◌then◌else◌}
 use Rattle.aosi_desk.specs.Desks.{DeskState}
-use Rattle.core_board_cells.specs.BoardCells.{StandsInCell}
-use Rattle.core_board_cells.proofs.OwnEntries.{client-low}
+use Rattle.cube_core.specs.BoardCells.{StandsInCell}
+use Rattle.cube_core.proofs.OwnEntries.{client-low}
 use Rattle.core_program.specs.Knowing.{IsClientOf, IsSessionOf, IsMailAt, ServesClient}
 use Rattle.core_events.specs.Events.{Opening, flush_mail}
 use Rattle.core_program.proofs.FlusherCalls.{is-client}

@@ -1,8 +1,8 @@
 //! The laws of an opened core's cubes and dictionaries.
 
 ghost use Rattle.std.specs.Prelude.{ℕ, List};
-ghost use Rattle.core_board.specs.Links.{AreEventsOf};
-ghost use Rattle.core_board_cells.specs.BoardCells.{IsEntryEvent};
+ghost use Rattle.cube_core.specs.Links.{AreEventsOf};
+ghost use Rattle.cube_core.specs.BoardCells.{IsEntryEvent};
 ghost use Rattle.core_events.specs.Cells.{desk_of};
 ghost use Rattle.core_events.specs.Events.{CoreEvent, Opening};
 ghost use Rattle.core_events.specs.Runs.{IsCoreRun};

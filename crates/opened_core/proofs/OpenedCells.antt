@@ -18,10 +18,10 @@ use Rattle.mail_cell.specs.declared.place.Place.TheVariants.{Idle}
 use Rattle.names_dict.specs.Dictionaries.{Dictionary, dictionary_for}
 use Rattle.turn_board.proofs.Places.{at_end}
 use Rattle.core_events.proofs.Counts.{in-order}
-use Rattle.core_board_cells.specs.BoardCells.{AnswerSays, JobsSuit, StandsInCell, job_asked}
+use Rattle.cube_core.specs.BoardCells.{AnswerSays, JobsSuit, StandsInCell, job_asked}
 use Rattle.core_events.specs.Events.{Opening, IsOpening}
-use Rattle.core_board_cells.specs.MailEvents.{IsMailCellOf, clients_of}
-use Rattle.core_board_cells.specs.MailCells.{IsPlaceIn}
+use Rattle.cube_core.specs.MailEvents.{IsMailCellOf, clients_of}
+use Rattle.cube_core.specs.MailCells.{IsPlaceIn}
 use Rattle.core_program.specs.CoreFits.{CoreEntry}
 use Rattle.cube_core.specs.declared.cell.CoreCell.{CoreCell}
 use Rattle.cube_core.specs.declared.cell.CoreCell.TheVariants as cell

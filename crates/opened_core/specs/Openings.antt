@@ -12,7 +12,7 @@ use Rattle.aosi_desk.specs.Desks.{opening_desk}
 use Rattle.mail_cell.specs.State.{new_mail}
 use Rattle.names_dict.specs.Dictionaries.{dictionary_for}
 use Rattle.kept_data.specs.KeptDicts.{dictionaries_with_names}
-use Rattle.core_board_cells.specs.BoardCells.{cell_of_shard}
+use Rattle.cube_core.specs.BoardCells.{cell_of_shard}
 use Rattle.core_events.specs.Events.{Opening}
 use Rattle.core_program.specs.CoreFits.{CoreEntry, OpensCells, cells_for, decl_at}
 use Rattle.cube_core.specs.declared.cell.CoreCell.{CoreCell}

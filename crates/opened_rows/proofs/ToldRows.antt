@@ -6,8 +6,8 @@ use Rattle.cube_values.specs.declared.row.CodedRow.{CodedRow}
 use Rattle.cube_rounds.specs.Stands.{Kept}
 use Rattle.brick_map.specs.Births.{BrickContent, content_with_rows}
 use Rattle.kept_data.specs.KeptDicts.{dictionaries_with_names}
-use Rattle.core_board_cells.specs.BoardCells.{StandsInCell, cell_of_shard}
-use Rattle.core_board_cells.specs.NamesEvents.{AreNamesOf}
+use Rattle.cube_core.specs.BoardCells.{StandsInCell, cell_of_shard}
+use Rattle.cube_core.specs.NamesEvents.{AreNamesOf}
 use Rattle.core_events.specs.Cells.{counters_of_run, rows_of_brick, shard_view_of}
 use Rattle.core_events.specs.Events.{Opening}
 use Rattle.core_events.specs.ShardView.{every_epoch, rows_shown_to, rows_where}

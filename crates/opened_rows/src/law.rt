@@ -2,8 +2,8 @@
 
 ghost use Rattle.std.specs.Prelude.{◌≡◌, ◌≤◌, ℕ, List, [], length, All};
 ghost use Rattle.core_agreements.specs.ScriptedRuns.{OpensWithCubes};
-ghost use Rattle.core_board.specs.Links.{AreEventsOf};
-ghost use Rattle.core_board_cells.specs.BoardCells.{IsEntryEvent};
+ghost use Rattle.cube_core.specs.Links.{AreEventsOf};
+ghost use Rattle.cube_core.specs.BoardCells.{IsEntryEvent};
 ghost use Rattle.core_events.specs.Cells.{desk_of, rows_of_brick};
 ghost use Rattle.core_events.specs.Events.{CoreEvent, Opening};
 ghost use Rattle.core_events.specs.Runs.{IsCoreRun};

@@ -6,8 +6,8 @@ use Rattle.turn_board.specs.History.{of_caller}
 use Rattle.condition_spans.specs.Codes.{lists_at}
 use Rattle.core_agreements.specs.PostsForOperations.{PostsStandFor}
 use Rattle.core_agreements.specs.ScriptedRuns.{CommitsStand, IsAtStatement}
-use Rattle.core_board.specs.Links.{AreEventsOf, HasOwnEvents}
-use Rattle.core_board_cells.specs.BoardCells.{IsEntryEvent, client_of}
+use Rattle.cube_core.specs.Links.{AreEventsOf, HasOwnEvents}
+use Rattle.cube_core.specs.BoardCells.{IsEntryEvent, client_of}
 use Rattle.core_program.proofs.KnownCalls.{client-part}
 use Rattle.core_program.specs.Knowing.{IsLaterRun}
 use Rattle.core_events.specs.Cells.{counters_of_run}

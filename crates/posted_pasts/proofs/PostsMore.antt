@@ -8,8 +8,8 @@ use Rattle.std.proofs.lemmas.Option.{same_Some}
 use mathlib.Core.List.{IsPrefix}
 use Rattle.condition_spans.specs.Codes.{lists_at}
 use Rattle.core_agreements.specs.PostsForOperations.{PostsStandFor, no_posts}
-use Rattle.core_board.specs.Links.{AreEventsOf}
-use Rattle.core_board_cells.specs.BoardCells.{IsEntryEvent}
+use Rattle.cube_core.specs.Links.{AreEventsOf}
+use Rattle.cube_core.specs.BoardCells.{IsEntryEvent}
 use Rattle.core_program.proofs.KnownCalls.{earlier-run}
 use Rattle.core_program.specs.Knowing.{IsLaterRun}
 use Rattle.core_events.specs.Clients.{calls_of}

@@ -37,8 +37,8 @@ ghost use Rattle.posted_pasts.specs.PostsAdded.{
 };
 ghost use Rattle.posted_pasts.specs.PostsBehind.{InEachRun, PostsStandBehind};
 
-use core_board_cells::LinkedShard;
 use core_states::Besides;
+use cube_core::LinkedShard;
 
 /// A statement has done nothing to rows where it says no change of them, where it ended refused, and
 /// where a refusal is its reply.

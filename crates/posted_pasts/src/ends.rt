@@ -19,8 +19,8 @@ ghost use Rattle.cube_run.specs.SessionStates.{SessionState};
 ghost use Rattle.cube_values.specs.declared.snapshot.Snapshot.{Snapshot};
 ghost use Rattle.posted_pasts.specs.PostsBehind.{IsRunWithCalls, PostsStandBehind};
 
-use core_board_cells::LinkedShard;
 use core_states::Besides;
+use cube_core::LinkedShard;
 
 /// Where a session has played its script, whatever its replies are promised for, and its posts stand for
 /// what is behind it, so do those of each transaction that it committed.

@@ -14,8 +14,8 @@ ghost use Rattle.posted_pasts.specs.DoneChanges.{HasNoOperation};
 ghost use Rattle.posted_pasts.specs.PostsAdded.{AddsAtEpoch, AddsNoOperation, LearnsThat};
 ghost use Rattle.posted_pasts.specs.PostsBehind.{InEachRun, PostsStandBehind, is_abort_of};
 
-use core_board_cells::LinkedShard;
 use core_states::Besides;
+use cube_core::LinkedShard;
 
 /// Before its first call a session has posted nothing, and nothing is behind it.
 pub fn posts_stand_at_the_beginning<S: LinkedShard, B: Besides>()

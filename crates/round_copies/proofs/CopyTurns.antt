@@ -3,7 +3,7 @@ use Rattle.std.proofs.Common.{◌≡◌, ◌∙◌, ℕ, zero, suc, ◌+◌, ◌
 use Rattle.std.specs.List.{list_any}
 use Rattle.std.proofs.lemmas.Nat.{mod_below}
 use Rattle.std.proofs.lemmas.Option.{none-some, same_Some, slice_get_within}
-use Rattle.core_board_cells.specs.BoardCells.{AnswerSays, call_job}
+use Rattle.cube_core.specs.BoardCells.{AnswerSays, call_job}
 use Rattle.core_serial.specs.Copies.{copies_by, copy_in}
 use Rattle.core_events.specs.Events.{Opening}
 use Rattle.core_events.specs.Groups.{Received, kind_of}

@@ -1,9 +1,9 @@
 -- The flusher makes a call on the desk or on the names within its round: what it knows before and after.
 use Rattle.std.proofs.Common.{◌≡◌, ◌∙◌, ℕ, List, [], ◌∷◌, ◌++◌, append_assoc, append-nil, map, refl, sym, ap, subst}
 use Rattle.std.specs.List.{AllByRecursion}
-use Rattle.client_calls.specs.ClientCalls.{desk_entry, names_entry}
-use Rattle.core_board.specs.Links.{AreEventsOf}
-use Rattle.core_board_cells.specs.BoardCells.{IsEntryEvent}
+use Rattle.core_program.specs.ClientCalls.{desk_entry, names_entry}
+use Rattle.cube_core.specs.Links.{AreEventsOf}
+use Rattle.cube_core.specs.BoardCells.{IsEntryEvent}
 use Rattle.core_cells.specs.declared.desk.DeskAnswer.{DeskAnswer}
 use Rattle.core_cells.specs.declared.desk.DeskAnswer.TheVariants as answer
 use Rattle.core_cells.specs.declared.desk.DeskCall.{DeskCall}
@@ -18,8 +18,8 @@ use Rattle.core_events.specs.Clients.{ClientState, after_client_call, calls_of, 
 use Rattle.core_events.specs.Events.{Opening, ClientCall, CoreEvent, By, flusher}
 use Rattle.core_program.specs.Flushing.{IsFlusherOf}
 use Rattle.core_program.proofs.FlusherCalls.{is-client}
-use Rattle.core_board_cells.specs.DeskEvents.{FitsDeskCall, desk_event}
-use Rattle.core_board_cells.specs.NamesEvents.{FitsNamesCall, names_event}
+use Rattle.cube_core.specs.DeskEvents.{FitsDeskCall, desk_event}
+use Rattle.cube_core.specs.NamesEvents.{FitsNamesCall, names_event}
 use Rattle.core_program.specs.CoreFits.{CoreEntry}
 use Rattle.cube_core.specs.declared.cell.CoreCell.{CoreCell}
 use Rattle.flusher_rounds.specs.FlushReplies.{IsWithinRound}

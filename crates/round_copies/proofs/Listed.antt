@@ -2,7 +2,7 @@
 use Rattle.std.proofs.Common.{◌≡◌, ℕ, ◌+◌, List, [], ◌∷◌, ◌++◌, length, Option, Some, None, sym, subst}
 use Rattle.std.specs.Prelude.{IfOk, Result}
 use Rattle.std.specs.Option.{ok_or, option_map_or}
-use Rattle.client_calls.specs.ClientCalls.{desk_entry, names_entry}
+use Rattle.core_program.specs.ClientCalls.{desk_entry, names_entry}
 use Rattle.core_cells.specs.declared.desk.DeskAnswer.{DeskAnswer}
 use Rattle.core_cells.specs.declared.desk.DeskAnswer.TheVariants as answer
 use Rattle.core_cells.specs.declared.desk.DeskCall.TheVariants as call

@@ -4,7 +4,7 @@ use Rattle.std.specs.Option.{option_map_or}
 use Rattle.std.proofs.lemmas.List.{length-append, length-map}
 use Rattle.std.proofs.lemmas.List.Elements.{Contains-append_left, Contains-append_right}
 use Rattle.std.proofs.lemmas.Option.{none-some, same_Some}
-use Rattle.client_calls.specs.ClientCalls.{names_entry}
+use Rattle.core_program.specs.ClientCalls.{names_entry}
 use Rattle.core_cells.specs.declared.names.NamesAnswer.{NamesAnswer}
 use Rattle.core_cells.specs.declared.names.NamesAnswer.TheVariants as told
 use Rattle.core_cells.specs.declared.names.NamesCall.TheVariants as names

@@ -9,8 +9,8 @@ use Rattle.core_cells.specs.declared.names.NamesCall.TheVariants as names
 use Rattle.core_events.specs.Clients.{ClientState, greater_where}
 use Rattle.core_events.specs.Events.{Opening, flusher}
 use Rattle.core_events.specs.Groups.{Copies, JobGroup, has_refusal}
-use Rattle.core_board_cells.specs.DeskEvents.{FitsDeskCall}
-use Rattle.core_board_cells.specs.NamesEvents.{FitsNamesCall}
+use Rattle.cube_core.specs.DeskEvents.{FitsDeskCall}
+use Rattle.cube_core.specs.NamesEvents.{FitsNamesCall}
 use Rattle.flusher_rounds.proofs.Rounds.{copied, listed, may-list, may-name, named, no-names, refused}
 use Rattle.flusher_rounds.specs.RoundStates.{after_names_call}
 use Rattle.joined_copies.specs.JoinedCopies.{ShardCopy}

@@ -10,7 +10,7 @@ use Rattle.cube_rounds.specs.Bricks.{BrickPart}
 use Rattle.cube_rounds.specs.Demands.{AreRising, DimNames}
 use Rattle.cube_rounds.specs.declared.round.Round.{Round}
 use Rattle.cube_rounds.specs.declared.round.RoundCube.{RoundCube}
-use Rattle.client_calls.specs.ClientCalls.{desk_entry, names_entry}
+use Rattle.core_program.specs.ClientCalls.{desk_entry, names_entry}
 use Rattle.core_cells.specs.declared.desk.DeskAnswer.TheVariants as answer
 use Rattle.core_cells.specs.declared.desk.DeskCall.TheVariants as call
 use Rattle.core_cells.specs.declared.names.NamesAnswer.TheVariants as told

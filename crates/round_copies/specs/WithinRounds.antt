@@ -3,8 +3,8 @@
 use Rattle.std.specs.Prelude.{◌≡◌, ℕ, List, ◌++◌, map}
 use Rattle.std.specs.List.{AllByRecursion}
 use Rattle.board_callers.specs.Callers.{HasHistoryOf}
-use Rattle.core_board.specs.Links.{AreEventsOf}
-use Rattle.core_board_cells.specs.BoardCells.{IsEntryEvent}
+use Rattle.cube_core.specs.Links.{AreEventsOf}
+use Rattle.cube_core.specs.BoardCells.{IsEntryEvent}
 use Rattle.core_program.specs.Knowing.{IsLaterRun}
 use Rattle.core_events.specs.Clients.{ClientState}
 use Rattle.core_events.specs.Events.{Opening, ClientCall, CoreEvent, By}
@@ -12,7 +12,7 @@ use Rattle.core_program.specs.CoreFits.{CoreEntry, FitsOwnCalls}
 use Rattle.cube_core.specs.CoreSteps.{CoreStep}
 use Rattle.cube_core.specs.declared.cell.CoreCell.{CoreCell}
 use Rattle.flusher_rounds.specs.FlushReplies.{IsWithinRound}
-use Rattle.known_holds.specs.KnownHolds.{KnowsState}
+use Rattle.session_snapshots.specs.KnownHolds.{KnowsState}
 use Rattle.linked_shards.specs.CellShards.{CoreShardStands, CoreShardStep}
 use Rattle.linked_shards.specs.declared.cell.CoreShard.{CoreShard}
 use Rattle.shard_events.specs.ShardsInRuns.{FitsShard, ShardAnswerSays}

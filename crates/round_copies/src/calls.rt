@@ -1,6 +1,6 @@
 //! A call on the desk, and one on the names, with the history that they leave.
 ghost use Rattle.std.specs.Prelude.{◌≡◌, ℕ, [], ◌∷◌, ◌++◌};
-ghost use Rattle.client_calls.specs.ClientCalls.{desk_entry, names_entry};
+ghost use Rattle.core_program.specs.ClientCalls.{desk_entry, names_entry};
 ghost use Rattle.core_program.specs.AnswersOfCalls.{CoreAnswers, DeskAnswers, NamesAnswers};
 ghost use Rattle.core_cells.specs.declared.desk.DeskCall.{DeskCall as DeskAsked};
 ghost use Rattle.core_cells.specs.declared.names.NamesCall.{NamesCall as NamesAsked};

@@ -1,6 +1,6 @@
 //! The cubes that a store has not yet.
 ghost use Rattle.std.specs.Prelude.{◌≡◌, ◌+◌, ◌<◌, ◌≤◌, ◌^◌, ℕ, List, [], ◌∷◌, ◌++◌, length, IfOk};
-ghost use Rattle.client_calls.specs.ClientCalls.{desk_entry};
+ghost use Rattle.core_program.specs.ClientCalls.{desk_entry};
 ghost use Rattle.core_cells.specs.declared.desk.DeskAnswer.TheVariants as answer;
 ghost use Rattle.core_cells.specs.declared.desk.DeskCall.TheVariants as call;
 ghost use Rattle.core_program.specs.Flushing.{IsFlusherOf};

@@ -1,6 +1,6 @@
 //! The names of each text dimension that a store has not yet.
 ghost use Rattle.std.specs.Prelude.{◌≡◌, ◌+◌, ◌<◌, ℕ, List, [], ◌∷◌, ◌++◌, length, get_or, IfOk};
-ghost use Rattle.client_calls.specs.ClientCalls.{names_entry};
+ghost use Rattle.core_program.specs.ClientCalls.{names_entry};
 ghost use Rattle.core_cells.specs.declared.names.NamesAnswer.TheVariants as told;
 ghost use Rattle.core_cells.specs.declared.names.NamesCall.TheVariants as names;
 ghost use Rattle.core_program.specs.Flushing.{IsFlusherOf};

@@ -1,7 +1,7 @@
 -- The works of a run of the core besides those of the sessions: a shard's worker, the flusher, and main.
 -- Source: Cubrick (VLDB 2016), one thread a shard and rounds of a flush; what main does at the end is own.
 use Rattle.std.specs.Prelude.{◌≡◌, ℕ, ◌+◌, ◌<◌, ◌≤◌, Bool, true, false, List, [], ◌∷◌, ◌++◌, Option, Some, None}
-use Rattle.client_calls.specs.ClientCalls.{close_entry, desk_entry}
+use Rattle.core_program.specs.ClientCalls.{close_entry, desk_entry}
 use Rattle.closing_calls.specs.ClosingCalls.{HasPurgedAll, MainIsReady, MainKnows, close_entries}
 use Rattle.core_cells.specs.declared.desk.DeskAnswer.TheVariants as answer
 use Rattle.core_cells.specs.declared.desk.DeskCall.TheVariants as desk

@@ -13,7 +13,7 @@ ghost use Rattle.run_threads.specs.CoreWorks.{KeepsRounds, MayClose, MayFlush, M
 ghost use Rattle.shard_events.specs.ShardsInRuns.{FitsShard, ShardAnswerSays};
 ghost use Rattle.threaded_callers.specs.Ends.{IsHistoryTo};
 
-use core_board::histories_are_core_runs;
+use cube_core::histories_are_core_runs;
 use flush_loop::MakesRounds;
 use linked_shards::{CoreShard, ShardCells};
 use opened_callers::an_opened_core_knows_its_callers;

@@ -3,7 +3,7 @@ use Rattle.std.proofs.Common.{◌≡◌, ◌∙◌, ◌⊎◌, ℕ, List, [], �
 use Rattle.std.specs.List.{AllByRecursion}
 use Rattle.std.proofs.lemmas.Bool.Decides.{leb_tells}
 use Rattle.core_agreements.specs.ScriptedRuns.{CommitsStand, IsScriptedRun}
-use Rattle.core_board.specs.Links.{AreEventsOf, HasOwnEvents}
+use Rattle.cube_core.specs.Links.{AreEventsOf, HasOwnEvents}
 use Rattle.core_events.specs.Clients.{calls_of}
 use Rattle.core_events.specs.Events.{Opening, IsSession, CoreEvent}
 use Rattle.core_events.specs.Jobs.{CoreJob, JobOutcome}
@@ -11,7 +11,7 @@ use Rattle.core_events.specs.ShardView.{ShardView}
 use Rattle.core_states.proofs.PlayedOut.{run-played}
 use Rattle.core_states.specs.Endings.{HasEnded, IsScriptedHistory}
 use Rattle.core_program.proofs.KnownCalls.{client-part}
-use Rattle.core_board_cells.specs.BoardCells.{IsEntryEvent, client_of}
+use Rattle.cube_core.specs.BoardCells.{IsEntryEvent, client_of}
 use Rattle.core_program.specs.CoreFits.{CoreEntry}
 use Rattle.core_program.specs.Knowing.{IsLaterRun}
 use Rattle.core_records.proofs.NamesOnRecord.{names-end}

@@ -2,13 +2,13 @@
 -- Source: this project's own; linearizability (Herlihy and Wing, 1990) makes one list of the calls of all threads.
 use Rattle.std.specs.Prelude.{◌≡◌, ℕ, ◌-◌, List, [], length, slice_get, unwrap_or}
 use Rattle.core_agreements.specs.ScriptedRuns.{IsScriptedRun, OpensWithCubes}
-use Rattle.core_board.specs.Links.{AreEventsOf}
+use Rattle.cube_core.specs.Links.{AreEventsOf}
 use Rattle.core_events.specs.Cells.{desk_of}
 use Rattle.core_events.specs.Events.{Opening, IsSession, CoreEvent}
 use Rattle.core_events.specs.Jobs.{CoreJob, JobOutcome}
 use Rattle.core_events.specs.Runs.{IsCoreRun}
 use Rattle.core_events.specs.ShardView.{ShardView}
-use Rattle.core_board_cells.specs.BoardCells.{IsEntryEvent}
+use Rattle.cube_core.specs.BoardCells.{IsEntryEvent}
 use Rattle.core_program.specs.CoreFits.{CoreEntry, OpensCells}
 use Rattle.core_records.specs.CoreRecords.{RunScripts, record_of}
 use Rattle.core_serial.specs.Journals.{journal_of}

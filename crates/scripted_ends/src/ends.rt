@@ -8,7 +8,7 @@ ghost use Rattle.cube_journal.specs.declared.reply.Reply.{Reply};
 ghost use Rattle.cube_run.specs.RunRecords.{Sentence};
 ghost use Rattle.scripted_ends.specs.PlayedHistories.{HaveAllPlayed, IsPlayedRun, IsRunOfHistory};
 
-use core_board_cells::LinkedShard;
+use cube_core::LinkedShard;
 use scripted_pasts::KnowsFiles;
 
 /// Where a history is a run of the core, and each session has played its script to the end by its own calls, the run is

@@ -1,7 +1,7 @@
 //! The laws of the beginning, and of statements that do nothing to rows.
 
 ghost use Rattle.std.specs.Prelude.{ℕ, ◌+◌, List, [], ◌∷◌, ◌++◌, Option};
-ghost use Rattle.client_calls.specs.ClientCalls.{desk_entry};
+ghost use Rattle.core_program.specs.ClientCalls.{desk_entry};
 ghost use Rattle.core_cells.specs.declared.desk.DeskAnswer.TheVariants as answer;
 ghost use Rattle.core_cells.specs.declared.desk.DeskCall.TheVariants as desk;
 ghost use Rattle.core_cubes.specs.ExecutedWatched.{ExecutesWatched};
@@ -27,7 +27,7 @@ ghost use Rattle.scripted_pasts.specs.QuietCalls.{IsQuietCall, LeavesQuietly};
 ghost use Rattle.scripted_pasts.specs.ScriptClaims.{IsRunOfScripts, OpensForScripts};
 ghost use Rattle.scripted_pasts.specs.UnchangedRows.{ChangesNoRows};
 
-use core_board_cells::LinkedShard;
+use cube_core::LinkedShard;
 
 /// A run of scripts opens with the cubes that it has. So what a session's posts stand for in runs that open so, they
 /// stand for in runs of scripts.

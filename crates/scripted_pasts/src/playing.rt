@@ -14,7 +14,7 @@ ghost use Rattle.scripted_pasts.specs.PlayedScripts.{HasPlayedScript};
 ghost use Rattle.scripted_pasts.specs.QuietCalls.{LeavesQuietly};
 
 use crate::files::KnowsFiles;
-use core_board_cells::LinkedShard;
+use cube_core::LinkedShard;
 
 /// A session that is fresh and has made no call has played nothing. With a statement that it performs it has played one
 /// more. Quiet calls that leave no entry change nothing of what it has played. A statement that is performed with

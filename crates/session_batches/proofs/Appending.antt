@@ -4,7 +4,7 @@ use Rattle.std.proofs.lemmas.Option.{none-some, same_Some}
 use Rattle.std.specs.List.{AllByRecursion, IsDistinct}
 use Rattle.cube_values.specs.Batches.{Batch}
 use Rattle.cube_values.specs.declared.shape.CubeShape.{CubeShape}
-use Rattle.core_board_cells.specs.BoardCells.{call_job}
+use Rattle.cube_core.specs.BoardCells.{call_job}
 use Rattle.core_events.specs.Groups.{Puts, kind_of}
 use Rattle.cube_core.specs.declared.shard.ShardCall.{ShardCall}
 use Rattle.cube_core.specs.declared.shard.ShardCall.TheVariants as shard

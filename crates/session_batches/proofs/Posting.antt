@@ -6,7 +6,7 @@ use Rattle.cube_values.specs.Batches.{Batch}
 use Rattle.cube_values.specs.declared.row.CodedRow.{CodedRow}
 use Rattle.cube_values.specs.declared.shape.CubeShape.{CubeShape}
 use Rattle.cube_values.specs.declared.shape.Size.{Size}
-use Rattle.core_board_cells.specs.BoardCells.{call_job}
+use Rattle.cube_core.specs.BoardCells.{call_job}
 use Rattle.core_events.specs.Events.{Post, ClientCall}
 use Rattle.core_events.specs.Jobs.{Append}
 use Rattle.cube_core.specs.declared.shard.ShardCall.{ShardCall}

@@ -8,8 +8,8 @@ use Rattle.cube_values.specs.declared.shape.CubeShape.{CubeShape}
 use Rattle.cube_values.specs.declared.snapshot.Snapshot.{Snapshot}
 use Rattle.brick_address.specs.Addresses.{AreCoords, brick_of}
 use Rattle.brick_map.specs.Batches.{IsRowOfCube}
-use Rattle.core_board.specs.Links.{AreEventsOf}
-use Rattle.core_board_cells.specs.BoardCells.{IsEntryEvent}
+use Rattle.cube_core.specs.Links.{AreEventsOf}
+use Rattle.cube_core.specs.BoardCells.{IsEntryEvent}
 use Rattle.core_events.specs.Clients.{ClientState, calls_of, state_from_calls}
 use Rattle.core_events.specs.Events.{Opening, ClientCall, CoreEvent, IsSession}
 use Rattle.core_events.specs.Fitting.{AreToldNames, MayPutRow}
@@ -21,7 +21,7 @@ use Rattle.cube_core.specs.declared.shard.ShardCall.{ShardCall}
 use Rattle.cube_core.specs.declared.shard.ShardCall.TheVariants as shard
 use Rattle.job_groups.specs.AskedEach.{with_group}
 use Rattle.job_groups.specs.AskedSome.{HasAskedSome, MayAskNumbered, MayAskSome, group_of_some, posts_to, received_from}
-use Rattle.known_holds.specs.KnownHolds.{KnowsState}
+use Rattle.session_snapshots.specs.KnownHolds.{KnowsState}
 use Rattle.cube_core.specs.declared.cell.CoreCell.{CoreCell}
 use Rattle.linked_shards.specs.declared.cell.CoreShard.{CoreShard}
 use Rattle.linked_shards.specs.CellShards.{CoreShardStands}

@@ -1,7 +1,7 @@
 -- The first refusal, by answers and by the outcomes that they stand for.
 use Rattle.std.proofs.Common.{◌≡◌, ◌∙◌, ℕ, suc, ◌||◌, List, [], ◌∷◌, length, refl, sym, ap, arith}
 use Rattle.std.specs.List.{list_any}
-use Rattle.core_board_cells.specs.BoardCells.{AnswerSays, call_job}
+use Rattle.cube_core.specs.BoardCells.{AnswerSays, call_job}
 use Rattle.core_events.specs.Jobs.{JobOutcome, Done, ShardFull, Found, Compared, Copied, StoreLost, OutOfMemory, is_refusal}
 use Rattle.cube_core.specs.declared.jobs.FlushAnswer.TheVariants as flush
 use Rattle.cube_core.specs.declared.jobs.JobAnswer.{JobAnswer}

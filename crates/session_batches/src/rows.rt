@@ -6,7 +6,7 @@ ghost use Rattle.brick_map.specs.Batches.{IsRowOfCube};
 ghost use Rattle.core_program.specs.Knowing.{IsClientOf, IsSessionOf, Knows};
 ghost use Rattle.job_groups.specs.AskedEach.{AreShardMails, HasMore};
 ghost use Rattle.job_groups.specs.AskedSome.{MayAskSome, posts_to};
-ghost use Rattle.known_holds.specs.KnownHolds.{HoldsWriter};
+ghost use Rattle.session_snapshots.specs.KnownHolds.{HoldsWriter};
 ghost use Rattle.linked_shards.specs.CellShards.{CoreShardStands};
 ghost use Rattle.shard_events.specs.ShardsInRuns.{FitsShard, ShardAnswerSays};
 ghost use Rattle.session_batches.specs.BatchCalls.{AreAppends};

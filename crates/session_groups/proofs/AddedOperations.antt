@@ -1,7 +1,7 @@
 -- What the posts of a group add to a session's operations.
 use Rattle.std.proofs.Common.{◌≡◌, ◌∙◌, ℕ, zero, suc, ◌+◌, ◌≤◌, Bool, true, false, not, List, [], ◌∷◌, ◌++◌, append_assoc, length, replicate, refl, sym, ap, subst, arith, if◌then◌else◌}
 use Rattle.std.proofs.lemmas.Bool.{and_parts}
-use Rattle.core_board_cells.specs.BoardCells.{call_job}
+use Rattle.cube_core.specs.BoardCells.{call_job}
 use Rattle.core_program.proofs.KnownCalls.{earlier-run}
 use Rattle.core_program.specs.Knowing.{IsLaterRun}
 use Rattle.core_events.specs.Clients.{calls_of, state_from_calls}
@@ -21,7 +21,7 @@ use Rattle.cube_values.specs.declared.snapshot.Snapshot.{Snapshot}
 use Rattle.cube_values.specs.declared.span.Span.{Span}
 use Rattle.job_groups.specs.AskedSome.{posts_among}
 use Rattle.job_groups.specs.EachPosted.{HasPostedEach, posts_from}
-use Rattle.known_holds.specs.KnownHolds.{HoldsWriter}
+use Rattle.session_snapshots.specs.KnownHolds.{HoldsWriter}
 use Rattle.linked_shards.specs.CellShards.{CoreShardStands}
 use Rattle.linked_shards.specs.declared.cell.CoreShard.{CoreShard}
 use Rattle.session_groups.specs.GroupOperations.{LearnsOfOperations}

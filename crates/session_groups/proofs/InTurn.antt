@@ -6,7 +6,7 @@ use Rattle.std.proofs.lemmas.Option.{none-some, same_Some, slice_get_within}
 use Rattle.cube_values.specs.declared.query.BoundQuery.{BoundQuery}
 use Rattle.cube_values.specs.declared.snapshot.Snapshot.{Snapshot}
 use Rattle.cube_values.specs.declared.span.Span.{Span}
-use Rattle.core_board_cells.specs.BoardCells.{AnswerSays, call_job}
+use Rattle.cube_core.specs.BoardCells.{AnswerSays, call_job}
 use Rattle.core_events.specs.Groups.{Received}
 use Rattle.core_events.specs.Jobs.{JobOutcome, DropBox, Scan, Rollback, Found, is_refusal}
 use Rattle.core_serial.specs.Queries.{rows_fetched, rows_of_answer}

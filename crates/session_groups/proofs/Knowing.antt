@@ -6,8 +6,8 @@ use Rattle.std.proofs.lemmas.List.{length-replicate}
 use Rattle.agg_fold.specs.Standing.{StandsFor}
 use Rattle.agg_fold.specs.declared.groups.Groups.{Groups}
 use Rattle.board_callers.specs.Callers.{HasHistoryOf}
-use Rattle.core_board.specs.Links.{AreEventsOf}
-use Rattle.core_board_cells.specs.BoardCells.{IsEntryEvent, call_job}
+use Rattle.cube_core.specs.Links.{AreEventsOf}
+use Rattle.cube_core.specs.BoardCells.{IsEntryEvent, call_job}
 use Rattle.core_program.proofs.ClientRuns.{client-run}
 use Rattle.core_program.proofs.KnownCalls.{earlier-run}
 use Rattle.core_program.specs.Knowing.{Claim, HasRunOfClient, IsClientOf, IsLaterRun, IsSessionOf}
@@ -40,7 +40,7 @@ use Rattle.session_groups.proofs.CubesInRuns.{cuts-none, parts-of, query-of}
 use Rattle.session_groups.proofs.InTurn.{any-undone, found-as, get-same, kind-same, rows-in-turn, stand-in-turn, undone-drop, undone-rollback}
 use Rattle.session_groups.proofs.DoneRollbacks.{rollbacks-are-done}
 use Rattle.session_groups.specs.AnswersInTurn.{HaveFound, HoldInTurn, MergeAll, StandsForFound, is_undone}
-use Rattle.known_holds.specs.KnownHolds.{HoldsReady, HoldsRolledBack, HoldsTheSame, HoldsWriter}
+use Rattle.session_snapshots.specs.KnownHolds.{HoldsReady, HoldsRolledBack, HoldsTheSame, HoldsWriter}
 use Rattle.session_groups.specs.ShardGroups.{HasAskedAll, HasFoundRows, HoldsAfterWrite, HoldsOpenWriter, KnowsOfShards, MayDelete, MayHaveAsked, MayQuery, end_by_refusals}
 use Rattle.shard_events.specs.ShardsInRuns.{FitsShard, ShardAnswerSays}
 

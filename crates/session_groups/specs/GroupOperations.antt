@@ -1,8 +1,8 @@
 -- What a group of each shard adds to the operations of the session's transactions.
 -- Source: AOSI (ICDE 2018), the operations of a transaction; groups of jobs are this project's own.
 use Rattle.std.specs.Prelude.{◌≡◌, ℕ, true, List}
-use Rattle.core_board.specs.Links.{AreEventsOf}
-use Rattle.core_board_cells.specs.BoardCells.{IsEntryEvent}
+use Rattle.cube_core.specs.Links.{AreEventsOf}
+use Rattle.cube_core.specs.BoardCells.{IsEntryEvent}
 use Rattle.core_program.specs.Knowing.{IsLaterRun}
 use Rattle.core_events.specs.Clients.{calls_of}
 use Rattle.core_events.specs.Events.{Opening, CoreEvent}

@@ -21,7 +21,7 @@ use Rattle.job_groups.specs.AskedEach.{HasMore}
 use Rattle.job_groups.specs.EachPosted.{LearnsOfEach}
 use Rattle.linked_shards.specs.CellShards.{CoreShardStands}
 use Rattle.linked_shards.specs.declared.cell.CoreShard.{CoreShard}
-use Rattle.known_holds.specs.KnownHolds.{HoldsSpoiledWriter, HoldsWriter}
+use Rattle.session_snapshots.specs.KnownHolds.{HoldsSpoiledWriter, HoldsWriter}
 use Rattle.session_groups.specs.declared.deletions.WriteEnd.{WriteEnd}
 use Rattle.session_groups.specs.declared.deletions.WriteEnd.TheVariants as end
 use Rattle.shard_events.specs.ShardsInRuns.{FitsQuery, FitsShard, IsShapeInRun, ShardAnswerSays}

@@ -6,7 +6,7 @@ ghost use Rattle.job_groups.specs.AskedEach.{AreShardMails};
 ghost use Rattle.linked_shards.specs.CellShards.{CoreShardStands};
 ghost use Rattle.std.specs.List.{list_any};
 ghost use Rattle.session_groups.specs.AnswersInTurn.{is_undone};
-ghost use Rattle.known_holds.specs.KnownHolds.{HoldsWriter};
+ghost use Rattle.session_snapshots.specs.KnownHolds.{HoldsWriter};
 ghost use Rattle.session_groups.specs.ShardGroups.{HasAskedAll, HoldsAfterWrite, KnowsOfShards, MayDelete, end_by_refusals};
 ghost use Rattle.shard_events.specs.ShardsInRuns.{FitsShard, ShardAnswerSays};
 ghost use Rattle.turn_board.specs.Passes.{callers_of};

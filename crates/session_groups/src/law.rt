@@ -17,7 +17,7 @@ ghost use Rattle.cube_values.specs.declared.shape.CubeShape.{CubeShape};
 ghost use Rattle.cube_values.specs.declared.snapshot.Snapshot.{Snapshot};
 ghost use Rattle.cube_values.specs.declared.span.Span.{Span};
 ghost use Rattle.cube_values.specs.declared.table.Field.{Field};
-ghost use Rattle.known_holds.specs.KnownHolds.{HoldsWriter};
+ghost use Rattle.session_snapshots.specs.KnownHolds.{HoldsWriter};
 ghost use Rattle.linked_shards.specs.CellShards.{CoreShardStands};
 ghost use Rattle.linked_shards.specs.declared.cell.CoreShard.{CoreShard};
 ghost use Rattle.session_groups.specs.GroupOperations.{LearnsOfOperations};

@@ -4,7 +4,7 @@ ghost use Rattle.core_program.specs.Knowing.{IsClientOf, IsSessionOf};
 ghost use Rattle.cube_core.specs.declared.shard.ShardCall.TheVariants as call;
 ghost use Rattle.job_groups.specs.AskedEach.{AreShardMails};
 ghost use Rattle.linked_shards.specs.CellShards.{CoreShardStands};
-ghost use Rattle.known_holds.specs.KnownHolds.{HoldsRolledBack};
+ghost use Rattle.session_snapshots.specs.KnownHolds.{HoldsRolledBack};
 ghost use Rattle.session_groups.specs.ShardGroups.{HasAskedAll, HoldsOpenWriter};
 ghost use Rattle.shard_events.specs.ShardsInRuns.{FitsShard, ShardAnswerSays};
 ghost use Rattle.turn_board.specs.Passes.{callers_of};

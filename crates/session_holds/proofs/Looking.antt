@@ -16,8 +16,8 @@ use Rattle.core_cells.specs.declared.names.NamesCall.TheVariants as names
 use Rattle.core_events.specs.Clients.{ClientState, after_client_call, cubes_by_answer, greater_of}
 use Rattle.core_events.specs.Events.{Opening, IsSession, ClientCall, OnNames, NoChange}
 use Rattle.core_events.specs.Fitting.{CanBeMade, FitsCall, MayNote}
-use Rattle.core_board_cells.specs.DeskEvents.{FitsDeskCall, desk_event}
-use Rattle.core_board_cells.specs.NamesEvents.{names_event}
+use Rattle.cube_core.specs.DeskEvents.{FitsDeskCall, desk_event}
+use Rattle.cube_core.specs.NamesEvents.{names_event}
 use Rattle.session_holds.specs.HoldStates.{ComesTo, IsIdle, IsReadyWith, with_own_entry}
 use Rattle.session_holds.proofs.Snapshots.{entered}
 

@@ -12,7 +12,7 @@ use Rattle.core_events.proofs.Lookups.{held-under-append, held-under-without, wi
 use Rattle.core_events.specs.Clients.{Holding, ClientState, held_under, holds_with, holds_without, opening_client, others_hold, reader_up_to, writer_at}
 use Rattle.core_events.specs.Events.{Opening, IsSession}
 use Rattle.core_events.specs.Fitting.{FitsCall, OwnsWriter}
-use Rattle.core_board_cells.specs.DeskEvents.{FitsDeskCall, desk_event, own_epoch}
+use Rattle.cube_core.specs.DeskEvents.{FitsDeskCall, desk_event, own_epoch}
 use Rattle.session_holds.specs.HoldStates.{ComesTo, EndsOwn, HasRolledBack, IsIdle, IsReading, IsReadyWith, IsWriting, after_desk_call, with_own_entry}
 
 pub same-number : (a : ℕ) → (a == a) ≡ true

@@ -24,7 +24,7 @@ use Rattle.core_events.specs.Clients.{Holding, ClientState, after_client_call, h
 use Rattle.core_events.specs.Events.{Opening, OpenRead, CloseRead, ClientCall, OnDesk}
 use Rattle.core_events.specs.Fitting.{HasAllDone}
 use Rattle.core_events.specs.Groups.{RollsBack, has_ended, has_refusal, is_ready, is_spoiled, no_group}
-use Rattle.core_board_cells.specs.DeskEvents.{FitsDeskCall, desk_event}
+use Rattle.cube_core.specs.DeskEvents.{FitsDeskCall, desk_event}
 
 -- The snapshot that a session holds under its own number, if any. That number is never its leading holder.
 pub record HoldsOwn (a : ℕ) (own : Option Snapshot) (k : ClientState) : Type 0 where

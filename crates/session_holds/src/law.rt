@@ -19,8 +19,8 @@ ghost use Rattle.core_cells.specs.declared.names.NamesCall.{NamesCall};
 ghost use Rattle.core_events.specs.Clients.{ClientState, after_client_call, cubes_by_answer, greater_of, holds_with, holds_without, number_by_code, opening_client, reader_up_to, state_from_calls, writer_at};
 ghost use Rattle.core_events.specs.Events.{Opening, ClientCall, Encode, IsSession, OnNames};
 ghost use Rattle.core_events.specs.Fitting.{CanBeMade, IsQueryOf, MayNote, MayPutRow};
-ghost use Rattle.core_board_cells.specs.DeskEvents.{FitsDeskCall};
-ghost use Rattle.core_board_cells.specs.NamesEvents.{names_event};
+ghost use Rattle.cube_core.specs.DeskEvents.{FitsDeskCall};
+ghost use Rattle.cube_core.specs.NamesEvents.{names_event};
 ghost use Rattle.session_holds.specs.HoldStates.{ComesTo, EndsOwn, HasRolledBack, IsIdle, IsReading, IsReadyWith, IsUnderOwnNumber, IsWriting, after_desk_call, with_own_entry};
 
 /// A session begins idle. An idle one opens a writer, or a reader under its own number, and then holds

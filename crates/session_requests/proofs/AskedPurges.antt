@@ -2,8 +2,8 @@
 use Rattle.std.proofs.Common.{◌≡◌, ◌∙◌, ℕ, ◌≤◌, ◌+◌, true, false, List, [], length, replicate, Option, Some, refl, sym, ap, subst}
 use Rattle.std.specs.List.{list_any}
 use Rattle.board_callers.specs.Callers.{HasHistoryOf}
-use Rattle.core_board.specs.Links.{AreEventsOf}
-use Rattle.core_board_cells.specs.BoardCells.{AnswerSays, IsEntryEvent}
+use Rattle.cube_core.specs.Links.{AreEventsOf}
+use Rattle.cube_core.specs.BoardCells.{AnswerSays, IsEntryEvent}
 use Rattle.core_program.specs.Knowing.{Claim, IsClientOf, IsLaterRun, IsSessionOf}
 use Rattle.core_events.proofs.Knowledge.{known-by-calls}
 use Rattle.core_events.specs.Clients.{ClientState, calls_of, client_state, state_from_calls}
@@ -25,7 +25,7 @@ use Rattle.cube_values.specs.declared.snapshot.Snapshot.{Snapshot}
 use Rattle.job_groups.proofs.Ended.{refused-each}
 use Rattle.job_groups.specs.AskedEach.{AreShardMails, HasAskedEach, HasMore, MayAskEach, received, whole_group}
 use Rattle.job_groups.specs.EachPosted.{LearnsOfEach}
-use Rattle.known_holds.specs.KnownHolds.{HoldsReady, HoldsTheSame}
+use Rattle.session_snapshots.specs.KnownHolds.{HoldsReady, HoldsTheSame}
 use Rattle.linked_shards.specs.CellShards.{CoreShardStands, CoreShardStep}
 use Rattle.linked_shards.specs.declared.cell.CoreShard.{CoreShard}
 use Rattle.session_groups.proofs.InTurn.{any-undone, kind-same, stand-in-turn}

@@ -5,9 +5,9 @@ use Rattle.cube_values.specs.declared.snapshot.Snapshot.{Snapshot}
 use Rattle.cube_journal.specs.declared.note.Note.TheVariants as note
 use Rattle.core_events.specs.Fitting.{MayNote}
 use Rattle.board_callers.specs.Callers.{HasHistoryOf}
-use Rattle.client_calls.specs.ClientCalls.{HasFetched, LearnsByFetch, ask_entry, post_entry}
-use Rattle.core_board.specs.Links.{AreEventsOf}
-use Rattle.core_board_cells.specs.BoardCells.{AnswerSays, IsEntryEvent}
+use Rattle.core_program.specs.ClientCalls.{HasFetched, LearnsByFetch, ask_entry, post_entry}
+use Rattle.cube_core.specs.Links.{AreEventsOf}
+use Rattle.cube_core.specs.BoardCells.{AnswerSays, IsEntryEvent}
 use Rattle.core_program.proofs.KnownCalls.{earlier-run, post-learns}
 use Rattle.core_program.specs.Knowing.{IsClientOf, IsLaterRun, IsMailAt, IsSessionOf, Knows, MayFetchFrom, MayPostJob, last_posted}
 use Rattle.core_events.proofs.Knowledge.{known-by-calls}
@@ -27,7 +27,7 @@ use Rattle.cube_core.specs.declared.jobs.Work.TheVariants as work
 use Rattle.cube_core.specs.declared.shard.ShardAnswer.TheVariants as answer
 use Rattle.job_groups.proofs.GroupSteps.{after-waits}
 use Rattle.job_groups.specs.AskedEach.{HasMore}
-use Rattle.known_holds.specs.KnownHolds.{HoldsReady, HoldsTheSame}
+use Rattle.session_snapshots.specs.KnownHolds.{HoldsReady, HoldsTheSame}
 use Rattle.linked_shards.specs.CellShards.{CanCallCoreShard, CoreShardStands, CoreShardStep, linked-shards}
 use Rattle.linked_shards.specs.declared.cell.CoreShard.{CoreShard}
 use Rattle.mail_cell.specs.declared.answer.Fetched.TheVariants.{Got, NotYet}

@@ -4,8 +4,8 @@
 use Rattle.std.specs.Prelude.{◌≡◌, ℕ, ◌≤◌, true, List, ◌∷◌, ◌++◌, replicate}
 use Rattle.cube_journal.specs.declared.note.Note.{Note}
 use Rattle.cube_journal.specs.declared.note.Note.TheVariants as note
-use Rattle.core_board.specs.Links.{AreEventsOf}
-use Rattle.core_board_cells.specs.BoardCells.{IsEntryEvent}
+use Rattle.cube_core.specs.Links.{AreEventsOf}
+use Rattle.cube_core.specs.BoardCells.{IsEntryEvent}
 use Rattle.core_program.specs.Knowing.{IsLaterRun}
 use Rattle.core_events.specs.Events.{Opening, Fetch, NoChange, Post, CoreEvent, By, flush_mail}
 use Rattle.core_events.specs.Groups.{has_number}
@@ -17,7 +17,7 @@ use Rattle.cube_core.specs.declared.jobs.FlushAnswer.TheVariants as flush
 use Rattle.cube_core.specs.declared.jobs.JobAnswer.{JobAnswer}
 use Rattle.cube_core.specs.declared.jobs.JobAnswer.TheVariants as reply
 use Rattle.cube_core.specs.declared.shard.ShardAnswer.TheVariants as answer
-use Rattle.known_holds.specs.KnownHolds.{KnowsState}
+use Rattle.session_snapshots.specs.KnownHolds.{KnowsState}
 use Rattle.linked_shards.specs.CellShards.{CoreShardStands}
 use Rattle.linked_shards.specs.declared.cell.CoreShard.{CoreShard}
 use Rattle.session_snapshots.specs.SessionCalls.{MayLeaveNote}

@@ -3,7 +3,7 @@ ghost use Rattle.std.specs.Prelude.{◌≡◌, ◌+◌, ◌≤◌, Option};
 ghost use Rattle.core_program.specs.Knowing.{IsClientOf, IsMailAt, IsSessionOf, ServesClient};
 ghost use Rattle.cube_values.specs.declared.snapshot.Snapshot.{Snapshot};
 ghost use Rattle.job_groups.specs.AskedEach.{HasMore};
-ghost use Rattle.known_holds.specs.KnownHolds.{HoldsReady, HoldsTheSame};
+ghost use Rattle.session_snapshots.specs.KnownHolds.{HoldsReady, HoldsTheSame};
 ghost use Rattle.linked_shards.specs.CellShards.{CoreShardStands};
 ghost use Rattle.session_requests.specs.SessionRequests.{LearnsOfRound, MayNoteRound};
 ghost use Rattle.shard_events.specs.ShardsInRuns.{FitsShard, ShardAnswerSays};
@@ -11,8 +11,7 @@ ghost use Rattle.turn_board.specs.Passes.{callers_of};
 
 use crate::answers::round_answer_in;
 use board_callers::CellCaller;
-use client_calls::{fetch_answer, post_job};
-use core_program::CoreSize;
+use core_program::{CoreSize, fetch_answer, post_job};
 use cube_core::{FlushAnswer, Job, Work};
 use linked_shards::{CoreShard, ShardCells};
 use std::sync::Wait;

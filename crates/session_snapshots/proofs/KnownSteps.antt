@@ -6,9 +6,9 @@ use Rattle.cube_journal.specs.declared.counters.Counters.{Counters}
 use Rattle.cube_journal.specs.declared.note.Note.{Note}
 use Rattle.aosi_desk.specs.declared.cube.CubeFound.{CubeFound}
 use Rattle.aosi_desk.specs.declared.cube.CubeFound.TheVariants.{Found, Unknown}
-use Rattle.client_calls.specs.ClientCalls.{desk_entry}
-use Rattle.core_board.specs.Links.{AreEventsOf}
-use Rattle.core_board_cells.specs.BoardCells.{IsEntryEvent}
+use Rattle.core_program.specs.ClientCalls.{desk_entry}
+use Rattle.cube_core.specs.Links.{AreEventsOf}
+use Rattle.cube_core.specs.BoardCells.{IsEntryEvent}
 use Rattle.core_cells.specs.declared.desk.DeskAnswer.{DeskAnswer}
 use Rattle.core_cells.specs.declared.desk.DeskAnswer.TheVariants as answer
 use Rattle.core_cells.specs.declared.desk.DeskCall.{DeskCall}
@@ -19,7 +19,7 @@ use Rattle.core_events.specs.Clients.{ClientState, calls_of, state_from_calls}
 use Rattle.core_events.specs.Events.{Opening, IsSession, ClientCall}
 use Rattle.core_events.specs.Jobs.{CoreJob, JobOutcome}
 use Rattle.core_events.specs.ShardView.{ShardView}
-use Rattle.core_board_cells.specs.DeskEvents.{FitsDeskCall}
+use Rattle.cube_core.specs.DeskEvents.{FitsDeskCall}
 use Rattle.core_program.specs.CoreFits.{CoreEntry}
 use Rattle.cube_core.specs.declared.cell.CoreCell.{CoreCell}
 use Rattle.cube_core.specs.declared.shard.ShardAnswer.{ShardAnswer}
@@ -27,7 +27,7 @@ use Rattle.cube_core.specs.declared.shard.ShardCall.{ShardCall}
 use Rattle.session_holds.specs.HoldStates.{IsReadyWith, IsReading, IsWriting, after_desk_call}
 use Rattle.session_holds.proofs.Looking.{finds, misses, notes}
 use Rattle.session_holds.proofs.Snapshots.{no-memory}
-use Rattle.known_holds.specs.KnownHolds.{HoldsTheSame, KnowsState}
+use Rattle.session_snapshots.specs.KnownHolds.{HoldsTheSame, KnowsState}
 
 module _ {S : Type 0} (fits : Opening → ℕ → ShardCall → Type 0) (stands : Opening → ℕ → ℕ → S → ShardView → Type 0)
     (says : CoreJob → ShardAnswer → JobOutcome → Type 0) (cells : List (CoreCell S)) (caller session : ℕ) where

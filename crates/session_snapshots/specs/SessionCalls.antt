@@ -14,7 +14,7 @@ use Rattle.core_program.specs.CoreFits.{CoreEntry}
 use Rattle.cube_core.specs.declared.cell.CoreCell.{CoreCell}
 use Rattle.cube_core.specs.declared.shard.ShardAnswer.{ShardAnswer}
 use Rattle.cube_core.specs.declared.shard.ShardCall.{ShardCall}
-use Rattle.known_holds.specs.KnownHolds.{KnowsState}
+use Rattle.session_snapshots.specs.KnownHolds.{KnowsState}
 
 -- A call that ends a snapshot.
 abbrev pub IsEndingCall : DeskCall → Type 0

@@ -1,18 +1,17 @@
 //! A session ends the snapshot that it holds.
 ghost use Rattle.std.specs.Prelude.{◌≡◌, [], ◌∷◌, ◌++◌};
-ghost use Rattle.client_calls.specs.ClientCalls.{desk_entry};
+ghost use Rattle.core_program.specs.ClientCalls.{desk_entry};
 ghost use Rattle.core_cells.specs.declared.desk.DeskAnswer.TheVariants as answer;
 ghost use Rattle.core_cells.specs.declared.desk.DeskCall.TheVariants as call;
 ghost use Rattle.core_program.specs.Knowing.{IsClientOf, IsSessionOf};
 ghost use Rattle.cube_values.specs.declared.snapshot.Snapshot.{Snapshot};
-ghost use Rattle.known_holds.specs.KnownHolds.{HoldsNothing, HoldsReader, HoldsRolledBack, HoldsWriter};
+ghost use Rattle.session_snapshots.specs.KnownHolds.{HoldsNothing, HoldsReader, HoldsRolledBack, HoldsWriter};
 
 use crate::answers::expect_done;
 use board_callers::CellCaller;
-use client_calls::call_desk_cell;
-use core_board_cells::LinkedShard;
 use core_cells::DeskCall;
-use core_program::CoreCells;
+use core_program::{CoreCells, call_desk_cell};
+use cube_core::LinkedShard;
 use cube_journal::AbortCause;
 use std::sync::Wait;
 use turn_board::Board;

@@ -6,7 +6,7 @@ ghost use Rattle.core_program.specs.CoreFits.{CoreEntry};
 ghost use Rattle.cube_core.specs.declared.cell.CoreCell.{CoreCell};
 ghost use Rattle.session_snapshots.specs.SessionCalls.{IsPlainNote, MayLeaveNote};
 
-use core_board_cells::LinkedShard;
+use cube_core::LinkedShard;
 
 /// A session may leave a plain note whatever it knows.
 pub fn plain_notes_are_allowed<S: LinkedShard>()

@@ -1,22 +1,21 @@
 //! A session looks for a cube, makes one, leaves a note and reads the counters.
 ghost use Rattle.std.specs.Prelude.{◌≡◌, [], ◌∷◌, ◌++◌, Option};
 ghost use Rattle.std.specs.Option.{option_map_or};
-ghost use Rattle.client_calls.specs.ClientCalls.{desk_entry};
+ghost use Rattle.core_program.specs.ClientCalls.{desk_entry};
 ghost use Rattle.core_cells.specs.declared.desk.DeskAnswer.TheVariants as answer;
 ghost use Rattle.core_cells.specs.declared.desk.DeskCall.TheVariants as call;
 ghost use Rattle.core_program.specs.Knowing.{IsClientOf, IsSessionOf};
 ghost use Rattle.core_events.specs.Fitting.{CanBeMade};
 ghost use Rattle.cube_values.specs.declared.snapshot.Snapshot.{Snapshot};
-ghost use Rattle.known_holds.specs.KnownHolds.{HoldsNothing, HoldsReady, HoldsTheSame};
+ghost use Rattle.session_snapshots.specs.KnownHolds.{HoldsNothing, HoldsReady, HoldsTheSame};
 ghost use Rattle.session_snapshots.specs.SessionCalls.{MayLeaveNote};
 
 use crate::answers::{counters_in, created_in, found_in, noted_in};
 use aosi_desk::{CubeAnswer, CubeFound};
 use board_callers::CellCaller;
-use client_calls::call_desk_cell;
-use core_board_cells::LinkedShard;
 use core_cells::DeskCall;
-use core_program::CoreCells;
+use core_program::{CoreCells, call_desk_cell};
+use cube_core::LinkedShard;
 use cube_journal::{Counters, Note};
 use cube_language::Decl;
 use cube_values::Text;

@@ -1,19 +1,18 @@
 //! A session opens a snapshot.
 ghost use Rattle.std.specs.Prelude.{◌≡◌, [], ◌∷◌, ◌++◌, IfNone, IfSome};
 ghost use Rattle.std.specs.Option.{option_map_or};
-ghost use Rattle.client_calls.specs.ClientCalls.{desk_entry};
+ghost use Rattle.core_program.specs.ClientCalls.{desk_entry};
 ghost use Rattle.core_cells.specs.declared.desk.DeskAnswer.TheVariants as answer;
 ghost use Rattle.core_cells.specs.declared.desk.DeskCall.TheVariants as call;
 ghost use Rattle.core_program.specs.Knowing.{IsClientOf, IsSessionOf};
 ghost use Rattle.core_events.specs.Clients.{reader_up_to, writer_at};
-ghost use Rattle.known_holds.specs.KnownHolds.{HoldsNothing, HoldsReader, HoldsWriter};
+ghost use Rattle.session_snapshots.specs.KnownHolds.{HoldsNothing, HoldsReader, HoldsWriter};
 
 use crate::answers::{reader_in, writer_in};
 use board_callers::CellCaller;
-use client_calls::call_desk_cell;
-use core_board_cells::LinkedShard;
 use core_cells::DeskCall;
-use core_program::CoreCells;
+use core_program::{CoreCells, call_desk_cell};
+use cube_core::LinkedShard;
 use cube_values::Snapshot;
 use std::sync::Wait;
 use turn_board::Board;

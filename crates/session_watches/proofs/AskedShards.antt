@@ -2,8 +2,8 @@
 use Rattle.std.proofs.Common.{◌≡◌, ◌∙◌, ℕ, ◌+◌, ◌≤◌, List, [], ◌∷◌, ◌++◌, append_assoc, append-nil, length, replicate, Option, Some, inl, inr, refl, sym, ap, subst, arith}
 use Rattle.std.proofs.lemmas.List.{length-replicate}
 use Rattle.board_callers.specs.Callers.{HasHistoryOf}
-use Rattle.core_board.specs.Links.{AreEventsOf}
-use Rattle.core_board_cells.specs.BoardCells.{AnswerSays, IsEntryEvent}
+use Rattle.cube_core.specs.Links.{AreEventsOf}
+use Rattle.cube_core.specs.BoardCells.{AnswerSays, IsEntryEvent}
 use Rattle.core_program.specs.Knowing.{IsClientOf, IsLaterRun, IsSessionOf}
 use Rattle.core_serial.specs.Deltas.{HasCompared, came_by, rows_that_came, rows_that_went, went_by}
 use Rattle.core_events.specs.Clients.{ClientState, calls_of, reader_up_to, state_from_calls}
@@ -24,7 +24,7 @@ use Rattle.cube_values.specs.declared.snapshot.Snapshot.{Snapshot}
 use Rattle.job_groups.proofs.Ended.{refused-each}
 use Rattle.job_groups.specs.AskedEach.{AreShardMails, HasAskedEach, MayAskEach, received, whole_group}
 use Rattle.job_groups.specs.EachPosted.{LearnsOfEach}
-use Rattle.known_holds.specs.KnownHolds.{HoldsReady, HoldsTheSame}
+use Rattle.session_snapshots.specs.KnownHolds.{HoldsReady, HoldsTheSame}
 use Rattle.linked_shards.specs.CellShards.{CoreShardStands, CoreShardStep}
 use Rattle.linked_shards.specs.declared.cell.CoreShard.{CoreShard}
 use Rattle.session_groups.proofs.CubesInRuns.{query-of}

@@ -2,7 +2,7 @@
 use Rattle.std.proofs.Common.{◌≡◌, ℕ, List, [], ◌∷◌, ◌++◌, Option, Some, None, IfSome, IfNone, sym, subst}
 use Rattle.std.specs.Option.{option_map_or}
 use Rattle.cube_values.specs.declared.snapshot.Snapshot.{Snapshot}
-use Rattle.client_calls.specs.ClientCalls.{desk_entry}
+use Rattle.core_program.specs.ClientCalls.{desk_entry}
 use Rattle.core_cells.specs.declared.desk.DeskAnswer.{DeskAnswer}
 use Rattle.core_cells.specs.declared.desk.DeskAnswer.TheVariants as answer
 use Rattle.core_cells.specs.declared.desk.DeskCall.TheVariants as call
@@ -15,7 +15,7 @@ use Rattle.core_program.specs.CoreFits.{CoreEntry}
 use Rattle.cube_core.specs.declared.cell.CoreCell.{CoreCell}
 use Rattle.cube_core.specs.declared.shard.ShardAnswer.{ShardAnswer}
 use Rattle.cube_core.specs.declared.shard.ShardCall.{ShardCall}
-use Rattle.known_holds.specs.KnownHolds.{HoldsReady, HoldsTheSame}
+use Rattle.session_snapshots.specs.KnownHolds.{HoldsReady, HoldsTheSame}
 use Rattle.session_holds.specs.HoldStates.{IsReadyWith, after_desk_call}
 use Rattle.session_holds.proofs.Snapshots.{no-memory}
 use Rattle.session_snapshots.proofs.KnownSteps.{after-call, holds-on, if-not-answered, may-call}

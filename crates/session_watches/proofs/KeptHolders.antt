@@ -1,8 +1,8 @@
 -- By a session's other calls its holders keep what they hold.
 use Rattle.std.proofs.Common.{◌≡◌, ℕ, List, [], ◌∷◌, ◌++◌, sym, subst}
-use Rattle.client_calls.specs.ClientCalls.{desk_entry, names_entry}
-use Rattle.core_board.specs.Links.{AreEventsOf}
-use Rattle.core_board_cells.specs.BoardCells.{IsEntryEvent}
+use Rattle.core_program.specs.ClientCalls.{desk_entry, names_entry}
+use Rattle.cube_core.specs.Links.{AreEventsOf}
+use Rattle.cube_core.specs.BoardCells.{IsEntryEvent}
 use Rattle.core_cells.specs.declared.desk.DeskAnswer.{DeskAnswer}
 use Rattle.core_cells.specs.declared.desk.DeskAnswer.TheVariants as answer
 use Rattle.core_cells.specs.declared.desk.DeskCall.{DeskCall}
@@ -18,8 +18,8 @@ use Rattle.core_events.specs.Events.{Opening, ClientCall, CoreEvent}
 use Rattle.core_events.specs.Groups.{JobGroup}
 use Rattle.core_events.specs.Jobs.{CoreJob, JobOutcome}
 use Rattle.core_events.specs.ShardView.{ShardView}
-use Rattle.core_board_cells.specs.DeskEvents.{desk_event}
-use Rattle.core_board_cells.specs.NamesEvents.{names_event}
+use Rattle.cube_core.specs.DeskEvents.{desk_event}
+use Rattle.cube_core.specs.NamesEvents.{names_event}
 use Rattle.core_program.specs.CoreFits.{CoreEntry}
 use Rattle.cube_core.specs.declared.cell.CoreCell.{CoreCell}
 use Rattle.cube_core.specs.declared.jobs.JobAnswer.{JobAnswer}

@@ -7,7 +7,7 @@ ghost use Rattle.cube_core.specs.CoreSteps.{CoreStep};
 ghost use Rattle.cube_core.specs.declared.shard.ShardCall.TheVariants as call;
 ghost use Rattle.cube_values.specs.declared.snapshot.Snapshot.{Snapshot};
 ghost use Rattle.job_groups.specs.AskedEach.{AreShardMails};
-ghost use Rattle.known_holds.specs.KnownHolds.{HoldsReady, HoldsTheSame};
+ghost use Rattle.session_snapshots.specs.KnownHolds.{HoldsReady, HoldsTheSame};
 ghost use Rattle.linked_shards.specs.CellShards.{CoreShardStands, CoreShardStep};
 ghost use Rattle.session_groups.specs.ShardGroups.{HasAskedAll, KnowsOfShards, MayHaveAsked, MayQuery};
 ghost use Rattle.session_watches.specs.ComparedShards.{HasFoundChange};

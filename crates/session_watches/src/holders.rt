@@ -1,21 +1,20 @@
 //! A session opens and closes readers under the numbers of its holders.
 ghost use Rattle.std.specs.Prelude.{◌≡◌, ℕ, [], ◌∷◌, ◌++◌, IfNone, IfSome, Option};
 ghost use Rattle.std.specs.Option.{option_map_or};
-ghost use Rattle.client_calls.specs.ClientCalls.{desk_entry};
+ghost use Rattle.core_program.specs.ClientCalls.{desk_entry};
 ghost use Rattle.core_cells.specs.declared.desk.DeskAnswer.TheVariants as answer;
 ghost use Rattle.core_cells.specs.declared.desk.DeskCall.TheVariants as call;
 ghost use Rattle.core_program.specs.Knowing.{IsClientOf, IsSessionOf};
 ghost use Rattle.cube_values.specs.declared.snapshot.Snapshot.{Snapshot};
-ghost use Rattle.known_holds.specs.KnownHolds.{HoldsReady, HoldsTheSame};
+ghost use Rattle.session_snapshots.specs.KnownHolds.{HoldsReady, HoldsTheSame};
 ghost use Rattle.session_watches.specs.KnownReaders.{HoldersGain, HoldersHave, HoldersKeep, opened_reader};
 ghost use Rattle.watch_holds.specs.HolderStates.{HasReaderUnder, HeldReaders, IsFreeBeside, IsHolderOf, NoReader, OneReader, TwoReaders};
 
 use crate::answers::{expect_closed, reader_in};
 use board_callers::CellCaller;
-use client_calls::call_desk_cell;
-use core_board_cells::LinkedShard;
 use core_cells::DeskCall;
-use core_program::CoreCells;
+use core_program::{CoreCells, call_desk_cell};
+use cube_core::LinkedShard;
 use std::sync::Wait;
 use turn_board::Board;
 

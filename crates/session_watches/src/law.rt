@@ -1,7 +1,7 @@
 //! Laws of what a session knows of its holders.
 
 ghost use Rattle.std.specs.Prelude.{◌≡◌, ℕ, List, [], ◌∷◌, ◌++◌};
-ghost use Rattle.client_calls.specs.ClientCalls.{desk_entry, names_entry};
+ghost use Rattle.core_program.specs.ClientCalls.{desk_entry, names_entry};
 ghost use Rattle.core_cells.specs.declared.desk.DeskAnswer.{DeskAnswer};
 ghost use Rattle.core_cells.specs.declared.desk.DeskCall.{DeskCall};
 ghost use Rattle.core_cells.specs.declared.names.NamesAnswer.{NamesAnswer};
@@ -17,7 +17,7 @@ ghost use Rattle.job_groups.specs.EachPosted.{LearnsOfEach};
 ghost use Rattle.session_watches.specs.KnownReaders.{HoldersHave, HoldersKeep, IsOfOwnNumber};
 ghost use Rattle.watch_holds.specs.HolderStates.{LeadingReader, NoReader, OneReader};
 
-use core_board_cells::LinkedShard;
+use cube_core::LinkedShard;
 
 /// Before a session's first call its holders hold no reader. A leading reader is one reader.
 pub fn holders_begin_with_no_reader<S: LinkedShard>()

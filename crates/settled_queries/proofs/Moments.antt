@@ -1,8 +1,8 @@
 -- A later run of a client passes the moment right after its own calls.
 use Rattle.std.proofs.Common.{◌≡◌, ◌∙◌, ℕ, eqb, Bool, true, false, cond, List, [], ◌∷◌, ◌++◌, refl, sym, ap, subst}
 use Rattle.turn_board.specs.History.{of_caller}
-use Rattle.core_board.specs.Links.{AreEventsOf}
-use Rattle.core_board_cells.specs.BoardCells.{IsEntryEvent, IsShardLinked}
+use Rattle.cube_core.specs.Links.{AreEventsOf}
+use Rattle.cube_core.specs.BoardCells.{IsEntryEvent, IsShardLinked}
 use Rattle.core_program.proofs.KnownCalls.{client-part, go-on-from, run-now}
 use Rattle.core_program.specs.Knowing.{HasRunOfClient, IsClientOf, IsLaterRun}
 use Rattle.core_events.specs.Clients.{calls_of}

@@ -16,7 +16,7 @@ use Rattle.core_serial.specs.CubeRows.{rows_to_find}
 use Rattle.core_serial.specs.HeldSnapshots.{HoldsAtRest}
 use Rattle.core_serial.specs.OwnOperations.{operations_by_calls}
 use Rattle.cube_core.specs.declared.cell.CoreCell.{CoreCell}
-use Rattle.known_holds.specs.KnownHolds.{HoldsReader, HoldsWriter}
+use Rattle.session_snapshots.specs.KnownHolds.{HoldsReader, HoldsWriter}
 use Rattle.linked_shards.specs.CellShards.{CoreShardStands}
 use Rattle.linked_shards.specs.declared.cell.CoreShard.{CoreShard}
 use Rattle.session_groups.proofs.FoundFolds.{scan-stands}

@@ -3,8 +3,8 @@
 use Rattle.std.specs.Prelude.{ℕ, List}
 use Rattle.agg_fold.specs.Standing.{StandsFor}
 use Rattle.agg_fold.specs.declared.groups.Groups.{Groups}
-use Rattle.core_board.specs.Links.{AreEventsOf}
-use Rattle.core_board_cells.specs.BoardCells.{IsEntryEvent}
+use Rattle.cube_core.specs.Links.{AreEventsOf}
+use Rattle.cube_core.specs.BoardCells.{IsEntryEvent}
 use Rattle.core_events.specs.Clients.{calls_of}
 use Rattle.core_events.specs.Events.{Opening, CoreEvent}
 use Rattle.core_program.specs.CoreFits.{CoreEntry}

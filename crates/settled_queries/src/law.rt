@@ -14,7 +14,7 @@ ghost use Rattle.cube_values.specs.declared.snapshot.Snapshot.{Snapshot};
 ghost use Rattle.settled_queries.specs.Moments.{PassesMoment};
 ghost use Rattle.settled_queries.specs.OwnSoFar.{rows_with_own};
 
-use core_board_cells::LinkedShard;
+use cube_core::LinkedShard;
 
 /// What a writer that is held finds in the whole of a cube is settled: whatever comes later, it finds the
 /// same with the operations that its session had posted. (Of a reader `open_snapshots_are_settled` of

@@ -10,7 +10,7 @@ ghost use Rattle.core_serial.specs.CubeRows.{rows_to_find};
 ghost use Rattle.cube_core.specs.declared.cell.CoreCell.{CoreCell};
 ghost use Rattle.cube_values.specs.declared.query.BoundQuery.{BoundQuery};
 ghost use Rattle.cube_values.specs.declared.snapshot.Snapshot.{Snapshot};
-ghost use Rattle.known_holds.specs.KnownHolds.{HoldsReader, HoldsWriter};
+ghost use Rattle.session_snapshots.specs.KnownHolds.{HoldsReader, HoldsWriter};
 ghost use Rattle.linked_shards.specs.CellShards.{CoreShardStands};
 ghost use Rattle.session_groups.specs.ShardGroups.{HasFoundRows, KnowsOfShards};
 ghost use Rattle.settled_queries.specs.FoundSoFar.{HasFoundSoFar};

@@ -12,7 +12,7 @@ use Rattle.core_events.specs.Events.{Opening}
 use Rattle.core_events.specs.Jobs.{Append, DropBox, Rollback, Purge, Done}
 use Rattle.core_events.specs.Runs.{AreByBrick}
 use Rattle.core_events.specs.ShardView.{BrickEntry, RowRun, RowMark, ShardView, entries_after_purge, entries_without_epoch, every_epoch, rows_where}
-use Rattle.core_board_cells.specs.BoardCells.{SeesAllUpTo, view_after_work}
+use Rattle.cube_core.specs.BoardCells.{SeesAllUpTo, view_after_work}
 use Rattle.shard_cell.specs.Answers.{brick_after_append, brick_after_drop}
 use Rattle.shard_cell.specs.Shards.{ShardState, shard_brick}
 use Rattle.shard_views.specs.Views.{IsUniform}

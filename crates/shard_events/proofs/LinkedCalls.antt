@@ -15,7 +15,7 @@ use Rattle.core_events.specs.Events.{Opening}
 use Rattle.core_events.specs.Jobs.{CoreJob, JobOutcome, Done, ShardFull, Found, Compared, Copied, OutOfMemory}
 use Rattle.core_events.specs.Runs.{rows_in_span, rows_shown_besides, sight_of_reader}
 use Rattle.core_events.specs.ShardView.{ShardView, brick_rows_seen}
-use Rattle.core_board_cells.specs.BoardCells.{call_job, IsCallInRun, IsShardStep, view_after_work}
+use Rattle.cube_core.specs.BoardCells.{call_job, IsCallInRun, IsShardStep, view_after_work}
 use Rattle.shard_cell.specs.Answers.{brick_rows_apart, brick_rows_shown, reader_at}
 use Rattle.shard_cell.specs.Shards.{ShardState, HasShapeAt, cube_at, shard_brick}
 use Rattle.shard_cell.specs.Slots.{HasShape}

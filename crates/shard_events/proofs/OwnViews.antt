@@ -6,7 +6,7 @@ use Rattle.core_events.specs.Cells.{brick_after_job, brick_after_move}
 use Rattle.core_events.specs.Events.{Opening, Work}
 use Rattle.core_events.specs.Jobs.{CoreJob, Done, ShardFull, Found, Compared, Copied, OutOfMemory}
 use Rattle.core_events.specs.ShardView.{BrickEntry, ShardView}
-use Rattle.core_board_cells.specs.BoardCells.{view_after_work}
+use Rattle.cube_core.specs.BoardCells.{view_after_work}
 use Rattle.shard_cell.specs.Shards.{ShardState, HasShapes, shard_brick}
 use Rattle.shard_views.specs.Views.{IsWholeContent, ShowAlikeAbove, brick_view}
 use Rattle.shard_views.proofs.Above.{rise_above}

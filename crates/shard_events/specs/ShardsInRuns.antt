@@ -27,7 +27,7 @@ use Rattle.cube_rounds.specs.Demands.{AreRising}
 use Rattle.core_events.specs.Events.{Opening}
 use Rattle.core_events.specs.Jobs.{CoreJob, Scan, Delta, CopyRound, JobOutcome, Done, ShardFull, Found, Compared, Copied, OutOfMemory}
 use Rattle.core_events.specs.ShardView.{ShardView}
-use Rattle.core_board_cells.specs.BoardCells.{IsShardLinked}
+use Rattle.cube_core.specs.BoardCells.{IsShardLinked}
 use Rattle.shard_cell.specs.Shards.{ShardState, HasShapes, shard_brick}
 use Rattle.shard_views.specs.Views.{IsWholeContent, ShowAlikeAbove, part_view}
 use Rattle.viewed_shards.specs.ViewedShards.{shard_view}

@@ -1,6 +1,6 @@
 -- A COMMIT ends the writer of the transaction that is open, and what its calls then leave.
 use Rattle.std.proofs.Common.{◌≡◌, ℕ, List, [], ◌∷◌, ◌++◌, sym, subst}
-use Rattle.client_calls.specs.ClientCalls.{desk_entry}
+use Rattle.core_program.specs.ClientCalls.{desk_entry}
 use Rattle.core_program.specs.Knowing.{IsClientOf}
 use Rattle.core_cells.specs.declared.desk.DeskAnswer.TheVariants as answer
 use Rattle.core_cells.specs.declared.desk.DeskCall.TheVariants as call
@@ -12,7 +12,7 @@ use Rattle.cube_core.specs.declared.cell.CoreCell.{CoreCell}
 use Rattle.cube_journal.specs.declared.journal_entry.JournalEntry.{JournalEntry}
 use Rattle.cube_journal.specs.declared.journal_entry.JournalEntry.TheVariants as entry
 use Rattle.cube_values.specs.declared.snapshot.Snapshot.{Snapshot}
-use Rattle.known_holds.specs.KnownHolds.{HoldsWriter}
+use Rattle.session_snapshots.specs.KnownHolds.{HoldsWriter}
 use Rattle.linked_shards.specs.CellShards.{CoreShardStands}
 use Rattle.linked_shards.specs.declared.cell.CoreShard.{CoreShard}
 use Rattle.session_desk.specs.AtDesk.{IsOpenAt}

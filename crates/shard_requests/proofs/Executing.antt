@@ -1,7 +1,7 @@
 -- FLUSH, PURGE and COMMIT are answered by what their calls leave.
 use Rattle.std.proofs.Common.{◌≡◌, ◌∙◌, ℕ, ◌+◌, Bool, true, false, List, [], ◌∷◌, ◌++◌, Option, Some, None, unwrap_or, refl, sym, ap, subst, arith, append-nil, count_by}
 use Rattle.std.proofs.lemmas.Option.{none-some}
-use Rattle.client_calls.specs.ClientCalls.{desk_entry}
+use Rattle.core_program.specs.ClientCalls.{desk_entry}
 use Rattle.core_cells.specs.declared.desk.DeskAnswer.TheVariants as answer
 use Rattle.core_cells.specs.declared.desk.DeskCall.TheVariants as call
 use Rattle.core_program.specs.Knowing.{IsClientOf, IsSessionOf}

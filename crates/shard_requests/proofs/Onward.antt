@@ -7,7 +7,7 @@ use Rattle.cube_core.specs.declared.cell.CoreCell.{CoreCell}
 use Rattle.cube_journal.specs.declared.journal_entry.JournalEntry.{JournalEntry}
 use Rattle.cube_journal.specs.declared.journal_entry.JournalEntry.TheVariants as entry
 use Rattle.cube_run.specs.StatementEntries.{LeavesRound, round_done}
-use Rattle.known_holds.specs.KnownHolds.{HoldsTheSame}
+use Rattle.session_snapshots.specs.KnownHolds.{HoldsTheSame}
 use Rattle.linked_shards.specs.CellShards.{CoreShardStands}
 use Rattle.linked_shards.specs.declared.cell.CoreShard.{CoreShard}
 use Rattle.shard_events.specs.ShardsInRuns.{FitsShard, ShardAnswerSays}

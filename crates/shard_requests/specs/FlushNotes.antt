@@ -1,7 +1,7 @@
 -- What the note of a FLUSH leaves and tells.
 -- Source: AOSI (ICDE 2018), flush rounds; that a FLUSH tells LSE is this project's own.
 use Rattle.std.specs.Prelude.{◌≡◌, ℕ, List, [], ◌∷◌, ◌++◌}
-use Rattle.client_calls.specs.ClientCalls.{desk_entry}
+use Rattle.core_program.specs.ClientCalls.{desk_entry}
 use Rattle.core_cells.specs.declared.desk.DeskAnswer.TheVariants as answer
 use Rattle.core_cells.specs.declared.desk.DeskCall.TheVariants as call
 use Rattle.core_program.specs.CoreFits.{CoreEntry}

@@ -7,7 +7,7 @@ ghost use Rattle.cube_journal.specs.Refusals.{code};
 ghost use Rattle.cube_journal.specs.declared.journal_entry.JournalEntry.TheVariants as entry;
 ghost use Rattle.cube_journal.specs.declared.note.Note.TheVariants as note;
 ghost use Rattle.cube_values.specs.declared.snapshot.Snapshot.{Snapshot};
-ghost use Rattle.known_holds.specs.KnownHolds.{HoldsReady, HoldsTheSame};
+ghost use Rattle.session_snapshots.specs.KnownHolds.{HoldsReady, HoldsTheSame};
 ghost use Rattle.linked_shards.specs.CellShards.{CoreShardStands};
 ghost use Rattle.session_requests.specs.SessionRequests.{MayNoteOfShards};
 ghost use Rattle.shard_events.specs.ShardsInRuns.{FitsShard, ShardAnswerSays};

@@ -1,7 +1,7 @@
 -- A group of jobs that are neither rows nor deletions leaves no entry, by plain calls.
 use Rattle.std.proofs.Common.{◌≡◌, ◌∙◌, ℕ, zero, suc, ◌+◌, List, [], ◌∷◌, ◌++◌, length, replicate, refl, sym, ap, subst, arith, append-nil}
 use Rattle.std.specs.List.{AllByRecursion}
-use Rattle.core_board_cells.specs.BoardCells.{call_job}
+use Rattle.cube_core.specs.BoardCells.{call_job}
 use Rattle.core_program.proofs.KnownCalls.{earlier-run}
 use Rattle.core_program.specs.Knowing.{IsLaterRun}
 use Rattle.core_events.specs.Clients.{calls_of}

@@ -1,6 +1,6 @@
 -- A writer that every shard has taken back is ended, and its session's calls leave just that.
 use Rattle.std.proofs.Common.{◌≡◌, ℕ, List, [], ◌∷◌, ◌++◌}
-use Rattle.client_calls.specs.ClientCalls.{desk_entry}
+use Rattle.core_program.specs.ClientCalls.{desk_entry}
 use Rattle.core_cells.specs.declared.desk.DeskAnswer.TheVariants as answer
 use Rattle.core_cells.specs.declared.desk.DeskCall.TheVariants as call
 use Rattle.core_program.specs.Knowing.{IsClientOf}
@@ -12,7 +12,7 @@ use Rattle.cube_core.specs.declared.shard.ShardCall.TheVariants as shard
 use Rattle.cube_journal.specs.declared.journal_entry.AbortCause.{AbortCause}
 use Rattle.cube_journal.specs.declared.journal_entry.JournalEntry.TheVariants as entry
 use Rattle.cube_values.specs.declared.snapshot.Snapshot.{Snapshot}
-use Rattle.known_holds.specs.KnownHolds.{HoldsRolledBack}
+use Rattle.session_snapshots.specs.KnownHolds.{HoldsRolledBack}
 use Rattle.linked_shards.specs.CellShards.{CoreShardStands}
 use Rattle.linked_shards.specs.declared.cell.CoreShard.{CoreShard}
 use Rattle.session_groups.specs.ShardGroups.{HasAskedAll}

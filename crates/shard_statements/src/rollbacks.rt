@@ -10,7 +10,7 @@ ghost use Rattle.cube_language.specs.declared.statement.Statement.TheVariants as
 ghost use Rattle.cube_run.specs.RunRecords.{Says};
 ghost use Rattle.cube_run.specs.StepOutcomes.{refused_by_mode};
 ghost use Rattle.job_groups.specs.AskedEach.{AreShardMails};
-ghost use Rattle.known_holds.specs.KnownHolds.{HoldsNothing};
+ghost use Rattle.session_snapshots.specs.KnownHolds.{HoldsNothing};
 ghost use Rattle.linked_shards.specs.CellShards.{CoreShardStands};
 ghost use Rattle.session_desk.specs.AtDesk.{IsOpen, IsOpenAt};
 ghost use Rattle.session_desk.specs.Executed.{IfReplied, OnStopped};

@@ -4,7 +4,7 @@ use Rattle.std.specs.Prelude.{◌≡◌, ℕ, List, [], ◌∷◌, ◌++◌, fla
 use Rattle.mail_cell.specs.declared.answer.Taken.{Taken}
 use Rattle.mail_cell.specs.declared.answer.Taken.TheVariants.{Job as SomeJob, Empty, Closed}
 use Rattle.turn_board.specs.History.{event}
-use Rattle.core_board_cells.specs.BoardCells.{cell_of_shard}
+use Rattle.cube_core.specs.BoardCells.{cell_of_shard}
 use Rattle.core_cells.specs.declared.mail.MailAnswer.TheVariants as got
 use Rattle.core_cells.specs.declared.mail.MailCall.TheVariants as mail
 use Rattle.core_program.specs.CoreFits.{CoreEntry}

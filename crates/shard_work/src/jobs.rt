@@ -8,10 +8,9 @@ ghost use Rattle.turn_board.specs.Passes.{callers_of};
 
 use crate::answers::{expect_done, shard_answer_in, shard_call_in, taken_in};
 use board_callers::CellCaller;
-use core_board_cells::LinkedShard;
 use core_cells::MailCall;
 use core_program::{CoreCells, CoreSize, answers_fit_their_calls, workers_serve_their_shards};
-use cube_core::{CoreCall, Job, JobAnswer, ShardAnswer, ShardCall};
+use cube_core::{CoreCall, Job, JobAnswer, LinkedShard, ShardAnswer, ShardCall};
 use mail_cell::Taken;
 use outside_disk::Gate;
 use std::sync::Wait;

@@ -6,8 +6,8 @@ ghost use Rattle.turn_board.specs.Passes.{callers_of};
 
 use crate::jobs::{do_job, take_job};
 use board_callers::CellCaller;
-use core_board_cells::LinkedShard;
 use core_program::{CoreCells, CoreSize};
+use cube_core::LinkedShard;
 use mail_cell::Taken;
 use outside_disk::Gate;
 use std::sync::Wait;

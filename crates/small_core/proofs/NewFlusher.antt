@@ -1,7 +1,7 @@
 -- A flusher that has made no call has no FLUSH in hand and no round.
 use Rattle.std.proofs.Common.{◌≡◌, ℕ, false, List, [], refl, subst}
-use Rattle.core_board.specs.Links.{AreEventsOf}
-use Rattle.core_board_cells.specs.BoardCells.{IsEntryEvent, flusher_part}
+use Rattle.cube_core.specs.Links.{AreEventsOf}
+use Rattle.cube_core.specs.BoardCells.{IsEntryEvent, flusher_part}
 use Rattle.core_program.specs.Knowing.{IsLaterRun}
 use Rattle.core_events.specs.Events.{CoreEvent, Opening}
 use Rattle.core_program.specs.Flushing.{KnowsPart}

@@ -1,6 +1,6 @@
 //! The workers of the shards, the flusher, and main, which closes the mails.
 ghost use Rattle.std.specs.Prelude.{◌≡◌, ◌+◌, ◌<◌, ◌≤◌, ◌∷◌, ◌++◌, []};
-ghost use Rattle.client_calls.specs.ClientCalls.{close_entry};
+ghost use Rattle.core_program.specs.ClientCalls.{close_entry};
 ghost use Rattle.flush_loop.specs.FlushTurns.{LearnsOfFlushes};
 ghost use Rattle.linked_shards.specs.CellShards.{CoreShardStands};
 ghost use Rattle.shard_events.specs.ShardsInRuns.{FitsShard, ShardAnswerSays};
@@ -10,8 +10,7 @@ ghost use Rattle.turn_board.specs.Passes.{callers_of};
 
 use crate::cores::{SESSIONS, SHARDS};
 use board_callers::CellCaller;
-use client_calls::close_mail;
-use core_program::CoreSize;
+use core_program::{CoreSize, close_mail};
 use flush_loop::{NoStore, RoundResult, flush_loop};
 use linked_shards::ShardCells;
 use opened_callers::an_opened_core_knows_its_callers;

@@ -4,15 +4,15 @@ use Rattle.std.specs.List.{AllByRecursion}
 use Rattle.aosi_desk.specs.declared.answer.RoundAnswer.TheVariants.{Target}
 use Rattle.aosi_desk.specs.declared.answer.RoundEnd.{RoundEnd}
 use Rattle.aosi_desk.specs.declared.answer.RoundEnd.TheVariants as end
-use Rattle.client_calls.specs.ClientCalls.{desk_entry}
+use Rattle.core_program.specs.ClientCalls.{desk_entry}
 use Rattle.core_cells.specs.declared.desk.DeskAnswer.TheVariants as answer
 use Rattle.core_cells.specs.declared.desk.DeskCall.TheVariants as call
 use Rattle.core_events.specs.Clients.{calls_of, is_lost_to_disk, state_from_calls}
 use Rattle.core_events.specs.Events.{Opening, RoundOpen, RoundClose, ClientCall, OnDesk, CoreEvent, By}
 use Rattle.core_program.specs.CoreFits.{CoreEntry}
 use Rattle.core_program.specs.Flushing.{IsFlusherOf}
-use Rattle.core_board.specs.Links.{AreEventsOf}
-use Rattle.core_board_cells.specs.BoardCells.{IsEntryEvent}
+use Rattle.cube_core.specs.Links.{AreEventsOf}
+use Rattle.cube_core.specs.BoardCells.{IsEntryEvent}
 use Rattle.core_program.specs.Knowing.{GoOnBy, IsLaterRun}
 use Rattle.cube_core.specs.declared.cell.CoreCell.{CoreCell}
 use Rattle.cube_journal.specs.declared.journal_entry.LostCause.{LostCause}

@@ -3,16 +3,16 @@ use Rattle.std.proofs.Common.{◌≡◌, ◌∙◌, ℕ, Bool, true, false, List
 use Rattle.std.specs.Option.{option_map_or}
 use Rattle.aosi_desk.specs.declared.answer.RoundAnswer.{RoundAnswer}
 use Rattle.aosi_desk.specs.declared.answer.RoundAnswer.TheVariants.{Target}
-use Rattle.core_board.specs.Links.{AreEventsOf}
+use Rattle.cube_core.specs.Links.{AreEventsOf}
 use Rattle.core_cells.specs.declared.desk.DeskAnswer.TheVariants as answer
 use Rattle.core_cells.specs.declared.desk.DeskCall.TheVariants as call
 use Rattle.core_events.specs.Clients.{ClientState, calls_of, state_from_calls}
 use Rattle.core_events.specs.Events.{Opening, RoundOpen, OnDesk, ClientCall, CoreEvent, By}
-use Rattle.core_board_cells.specs.DeskEvents.{desk_event}
+use Rattle.cube_core.specs.DeskEvents.{desk_event}
 use Rattle.core_program.proofs.ClientRuns.{client-run}
 use Rattle.core_program.proofs.FlusherCalls.{is-client}
 use Rattle.core_program.proofs.KnownCalls.{client-part, go-on-from}
-use Rattle.core_board_cells.specs.BoardCells.{IsEntryEvent}
+use Rattle.cube_core.specs.BoardCells.{IsEntryEvent}
 use Rattle.core_program.specs.CoreFits.{CoreEntry}
 use Rattle.core_program.specs.Flushing.{IsFlusherOf}
 use Rattle.core_program.specs.Knowing.{GoOnBy, HasRunOfClient, IsLaterRun}

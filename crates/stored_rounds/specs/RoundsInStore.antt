@@ -13,12 +13,12 @@ use Rattle.aosi_desk.specs.declared.answer.RoundEnd.TheVariants as end
 use Rattle.cube_journal.specs.declared.journal_entry.LostCause.TheVariants.{Disk}
 use Rattle.cube_rounds.specs.Stands.{Kept}
 use Rattle.cube_rounds.specs.declared.round.Round.{Round}
-use Rattle.core_board.specs.Links.{AreEventsOf}
+use Rattle.cube_core.specs.Links.{AreEventsOf}
 use Rattle.core_events.specs.Cells.{desk_of}
 use Rattle.core_events.specs.Clients.{state_from_calls}
 use Rattle.core_events.specs.Events.{Opening, flusher, ClientCall, CoreEvent}
 use Rattle.core_events.specs.Runs.{IsCoreRun}
-use Rattle.core_board_cells.specs.BoardCells.{IsEntryEvent}
+use Rattle.cube_core.specs.BoardCells.{IsEntryEvent}
 use Rattle.core_program.specs.CoreFits.{CoreEntry, OpensCells}
 use Rattle.cube_core.specs.declared.cell.CoreCell.{CoreCell}
 use Rattle.flush_loop.specs.declared.round_result.RoundResult.{RoundResult}

@@ -8,7 +8,7 @@ use Rattle.core_cells.specs.declared.desk.DeskCall.TheVariants as call
 use Rattle.core_events.specs.Clients.{Holding, ClientState, held_under, holds_with, opening_client, others_hold, reader_up_to}
 use Rattle.core_events.specs.Events.{Opening, IsSession}
 use Rattle.core_events.specs.Fitting.{FitsCall}
-use Rattle.core_board_cells.specs.DeskEvents.{FitsDeskCall, desk_event}
+use Rattle.cube_core.specs.DeskEvents.{FitsDeskCall, desk_event}
 use Rattle.session_holds.specs.HoldStates.{IsReadyWith, after_desk_call}
 use Rattle.session_holds.proofs.Snapshots.{same-number}
 use Rattle.watch_holds.specs.HolderStates.{HasReaderUnder, HasReaders, HeldReaders, HoldReaders, HoldsOneReader, HoldsTwoReaders, IsFreeBeside, IsHolderOf, LeadingReader, LeadsAtMost, NoReader, OneReader, TwoReaders, reader_under, readers_with}

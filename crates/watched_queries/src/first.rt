@@ -6,7 +6,7 @@ ghost use Rattle.core_events.specs.Clients.{reader_up_to};
 ghost use Rattle.cube_core.specs.declared.shard.ShardCall.TheVariants as call;
 ghost use Rattle.cube_values.specs.declared.snapshot.Snapshot.{Snapshot};
 ghost use Rattle.job_groups.specs.AskedEach.{AreShardMails};
-ghost use Rattle.known_holds.specs.KnownHolds.{HoldsReady, HoldsTheSame};
+ghost use Rattle.session_snapshots.specs.KnownHolds.{HoldsReady, HoldsTheSame};
 ghost use Rattle.linked_shards.specs.CellShards.{CoreShardStands};
 ghost use Rattle.session_groups.specs.ShardGroups.{HasAskedAll, KnowsOfShards, MayHaveAsked, MayQuery};
 ghost use Rattle.session_watches.specs.KnownReaders.{HoldersHave, HoldersKeep};

@@ -1,5 +1,5 @@
 use Rattle.std.proofs.Common.{◌∙◌, ◌++◌, [], ◌∷◌}
-use Rattle.client_calls.specs.ClientCalls.{desk_entry}
+use Rattle.core_program.specs.ClientCalls.{desk_entry}
 use Rattle.closing_calls.proofs.MainSteps.{stays-by-counters}
 use Rattle.closing_calls.specs.ClosingCalls.{MainStays}
 use Rattle.core_cells.specs.declared.desk.DeskCall.TheVariants as call

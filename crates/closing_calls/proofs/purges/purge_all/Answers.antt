@@ -1,6 +1,6 @@
 use Rattle.std.proofs.Common.{◌≡◌, ◌≤◌, ◌∙◌, ◌+◌, ◌++◌, List, [], ◌∷◌, refl, sym, subst, arith}
 use Rattle.board_callers.specs.Callers.{HasHistoryOf}
-use Rattle.client_calls.specs.ClientCalls.{HasFetched, LearnsByFetch, post_entry}
+use Rattle.core_program.specs.ClientCalls.{HasFetched, LearnsByFetch, post_entry}
 use Rattle.closing_calls.specs.ClosingCalls.{HasPurgedAll, MainKnows, MainStays}
 use Rattle.closing_calls.proofs.MainPurges.{has-purged, may-purge-each, stays-after}
 use Rattle.closing_calls.proofs.PurgeLoops.{all-learnt, may-fetch-next, may-post-next, none-fetched, none-posted, one-fetched, one-posted}

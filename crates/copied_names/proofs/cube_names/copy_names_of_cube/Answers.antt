@@ -1,5 +1,5 @@
 use Rattle.core_names.proofs.GivenCodes.{moved}
-use Rattle.known_holds.specs.KnownHolds.{HoldsTheSame}
+use Rattle.session_snapshots.specs.KnownHolds.{HoldsTheSame}
 use Rattle.copied_names.proofs.CopiedLists.{between-result, distinct-result}
 use Rattle.copied_names.proofs.cube_names.copy_names_of_cube.Goals as goal
 

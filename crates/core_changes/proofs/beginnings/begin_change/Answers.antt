@@ -3,7 +3,7 @@ use Rattle.std.specs.Prelude.{IfOk, OnErr}
 use Rattle.core_changes.proofs.OpenedWriters.{held-is-for, holds-held, none-begun, writer-any}
 use Rattle.core_states.specs.StandingInCore.{HoldsForMode}
 use Rattle.cube_values.specs.declared.snapshot.Snapshot.{Snapshot}
-use Rattle.known_holds.specs.KnownHolds.{HoldsWriter}
+use Rattle.session_snapshots.specs.KnownHolds.{HoldsWriter}
 use Rattle.linked_shards.specs.CellShards.{CoreShardStands}
 use Rattle.core_changes.specs.ChangeEnds.{IsWriterFor, begun_entries}
 use Rattle.session_replies.specs.Modes.{mode_of}

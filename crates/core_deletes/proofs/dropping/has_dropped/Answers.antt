@@ -5,7 +5,7 @@ use Rattle.core_deletes.proofs.BegunDeletes.{on-true, open-if-not, ready-if-done
 use Rattle.core_events.specs.Serial.{DropRows}
 use Rattle.cube_core.specs.declared.shard.ShardCall.TheVariants as call
 use Rattle.cube_schema.specs.Schemas.{cube_of}
-use Rattle.known_holds.specs.KnownHolds.{HoldsWriter}
+use Rattle.session_snapshots.specs.KnownHolds.{HoldsWriter}
 use Rattle.linked_shards.specs.CellShards.{CoreShardStands}
 use Rattle.core_changes.proofs.GroupCalls.{by-asking}
 use Rattle.core_changes.proofs.OperationsAdded.{some-at-epoch}

@@ -3,7 +3,7 @@ use Rattle.core_changes.proofs.BegunChanges.{nothing-at, nothing-left}
 use Rattle.core_inserts.proofs.BegunInserts.{if-none, open-if-not, ready-if-put}
 use Rattle.cube_journal.specs.declared.journal_entry.AbortCause.{AbortCause}
 use Rattle.cube_schema.specs.Schemas.{cube_of}
-use Rattle.known_holds.specs.KnownHolds.{HoldsWriter}
+use Rattle.session_snapshots.specs.KnownHolds.{HoldsWriter}
 use Rattle.linked_shards.specs.CellShards.{CoreShardStands}
 use Rattle.core_changes.proofs.GroupCalls.{by-putting}
 use Rattle.posted_changes.proofs.LearnedPosts.{nothing-elsewhere, rows-learned}

@@ -4,7 +4,7 @@ use Rattle.core_loads.specs.LoadEnds.{unread}
 use Rattle.core_states.specs.StandingInCore.{HoldsForMode}
 use Rattle.cube_run.specs.SessionStates.{Open}
 use Rattle.cube_values.specs.declared.snapshot.Snapshot.{Snapshot}
-use Rattle.known_holds.specs.KnownHolds.{HoldsWriter}
+use Rattle.session_snapshots.specs.KnownHolds.{HoldsWriter}
 use Rattle.linked_shards.specs.CellShards.{CoreShardStands}
 use Rattle.session_replies.specs.Modes.{mode_of}
 use Rattle.session_replies.specs.declared.mode.SessionMode.{SessionMode}

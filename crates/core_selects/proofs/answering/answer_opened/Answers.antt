@@ -5,7 +5,7 @@ use Rattle.core_selects.proofs.EndedSelects.{gave-up, holding-reads}
 use Rattle.core_selects.proofs.Refusing.{reading-closed, reading-then}
 use Rattle.core_selects.specs.ScanSteps.{HasGivenUp}
 use Rattle.core_states.specs.StandingInCore.{HoldsForMode}
-use Rattle.known_holds.specs.KnownHolds.{HoldsReader}
+use Rattle.session_snapshots.specs.KnownHolds.{HoldsReader}
 use Rattle.scripted_pasts.specs.Served.{IsServed}
 use Rattle.session_desk.specs.Executed.{IfReplied}
 use Rattle.core_program.specs.Knowing.{IsClientOf, IsSessionOf}

@@ -1,7 +1,7 @@
 use Rattle.std.proofs.Common.{◌≡◌, ◌∷◌, [], ◌++◌, subst}
 use Rattle.std.proofs.lemmas.Option.{IfSome_then}
 use Rattle.aosi_desk.specs.declared.cube.CubeFound.{CubeFound}
-use Rattle.client_calls.specs.ClientCalls.{desk_entry}
+use Rattle.core_program.specs.ClientCalls.{desk_entry}
 use Rattle.core_cells.specs.declared.desk.DeskAnswer.TheVariants as said
 use Rattle.core_cells.specs.declared.desk.DeskCall.TheVariants as asked
 use Rattle.core_steps.proofs.OnCore.{knows-found}

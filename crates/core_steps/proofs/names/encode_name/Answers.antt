@@ -1,5 +1,5 @@
 use Rattle.std.proofs.Common.{◌∙◌, ◌++◌, ◌≤◌, [], ◌∷◌, None, List, length, sym, ap, subst, arith}
-use Rattle.client_calls.specs.ClientCalls.{names_entry}
+use Rattle.core_program.specs.ClientCalls.{names_entry}
 use Rattle.core_cells.specs.declared.names.NamesAnswer.{NamesAnswer}
 use Rattle.core_cells.specs.declared.names.NamesCall.TheVariants as names
 use Rattle.core_program.specs.CoreFits.{CoreEntry}

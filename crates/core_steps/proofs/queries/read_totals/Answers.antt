@@ -1,5 +1,5 @@
 use Rattle.std.proofs.Common.{[], ◌∷◌, refl}
-use Rattle.client_calls.specs.ClientCalls.{desk_entry}
+use Rattle.core_program.specs.ClientCalls.{desk_entry}
 use Rattle.core_cells.specs.declared.desk.DeskAnswer.TheVariants as said
 use Rattle.core_cells.specs.declared.desk.DeskCall.TheVariants as asked
 use Rattle.core_steps.specs.Totals.{HasReadTotals}

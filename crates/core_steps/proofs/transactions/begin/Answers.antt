@@ -1,6 +1,6 @@
 use Rattle.std.proofs.Common.{[], ◌∷◌}
 use Rattle.std.specs.Option.{option_map_or}
-use Rattle.client_calls.specs.ClientCalls.{desk_entry}
+use Rattle.core_program.specs.ClientCalls.{desk_entry}
 use Rattle.core_cells.specs.declared.desk.DeskAnswer.TheVariants as said
 use Rattle.core_cells.specs.declared.desk.DeskCall.TheVariants as asked
 use Rattle.core_steps.proofs.transactions.begin.Goals as goal

@@ -1,6 +1,6 @@
 use Rattle.std.proofs.Common.{[], refl, sym}
-use Rattle.answered_watches.proofs.BoundAtReaders.{bound-at-reader}
-use Rattle.answered_watches.specs.BoundReaders.{IsBoundInRuns}
+use Rattle.core_watches.proofs.BoundAtReaders.{bound-at-reader}
+use Rattle.core_watches.specs.BoundReaders.{IsBoundInRuns}
 use Rattle.core_watches.proofs.CopiedOn.{names-left, plain-holders}
 use Rattle.core_watches.proofs.KeptOn.{still-told}
 use Rattle.scripted_pasts.specs.Served.{IsServed}

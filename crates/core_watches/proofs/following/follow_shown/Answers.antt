@@ -1,7 +1,7 @@
 use Rattle.std.proofs.Common.{[], inr, refl, sym}
-use Rattle.answered_watches.proofs.BoundAnew.{bound-anew}
-use Rattle.answered_watches.proofs.BoundAtReaders.{bound-at-reader}
-use Rattle.answered_watches.specs.BoundReaders.{IsBoundInRuns}
+use Rattle.core_watches.proofs.BoundAnew.{bound-anew}
+use Rattle.core_watches.proofs.BoundAtReaders.{bound-at-reader}
+use Rattle.core_watches.specs.BoundReaders.{IsBoundInRuns}
 use Rattle.core_watches.proofs.CopiedOn.{names-left, plain-holders}
 use Rattle.core_watches.proofs.KeptOn.{still-told}
 use Rattle.scripted_pasts.specs.Served.{IsServed}

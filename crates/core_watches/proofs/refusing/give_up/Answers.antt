@@ -1,6 +1,6 @@
 use Rattle.std.proofs.Common.{[], ◌∷◌}
-use Rattle.answered_watches.proofs.WatchingLeaves.{left-closing}
-use Rattle.answered_watches.specs.WatchEnds.{no_memory_entry, reader_closed}
+use Rattle.core_watches.proofs.WatchingLeaves.{left-closing}
+use Rattle.core_watches.specs.WatchEnds.{no_memory_entry, reader_closed}
 use Rattle.core_states.proofs.Holding.{held_for, holds-on, ready-for-mode}
 use Rattle.core_states.proofs.LeftCalls.{longer-front}
 use Rattle.core_watches.proofs.RefusedSo.{then-refused-so}

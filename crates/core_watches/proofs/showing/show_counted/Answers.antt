@@ -1,8 +1,8 @@
 use Rattle.std.proofs.Common.{ℕ, [], ◌∷◌, ◌∙◌, inl, inr, refl, sym, subst}
-use Rattle.answered_watches.proofs.WatchingLeaves.{left-both, left-closing, left-opening, left-plainly, left-unopened}
-use Rattle.answered_watches.specs.BoundReaders.{OpenWithRowsOfCubes}
-use Rattle.answered_watches.specs.WatchingCalls.{LeavesByWatching}
-use Rattle.answered_watches.specs.WatchEnds.{given_up, no_memory_entry, reader_closed, reader_opened}
+use Rattle.core_watches.proofs.WatchingLeaves.{left-both, left-closing, left-opening, left-plainly, left-unopened}
+use Rattle.core_watches.specs.BoundReaders.{OpenWithRowsOfCubes}
+use Rattle.core_watches.specs.WatchingCalls.{LeavesByWatching}
+use Rattle.core_watches.specs.WatchEnds.{given_up, no_memory_entry, reader_closed, reader_opened}
 use Rattle.core_program.specs.Knowing.{IsClientOf, IsSessionOf}
 use Rattle.core_states.proofs.Holding.{held_for, holds-on, ready-for-mode}
 use Rattle.core_states.proofs.LeftCalls.{longer-front}

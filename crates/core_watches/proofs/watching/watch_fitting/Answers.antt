@@ -1,6 +1,6 @@
 use Rattle.std.proofs.Common.{ℕ, [], ◌∷◌, ◌∙◌, inl, refl, sym, subst}
-use Rattle.answered_watches.proofs.WatchingLeaves.{left-both, left-opening, left-plainly, left-unopened}
-use Rattle.answered_watches.specs.WatchEnds.{given_up, no_memory_entry, reader_closed, reader_opened}
+use Rattle.core_watches.proofs.WatchingLeaves.{left-both, left-opening, left-plainly, left-unopened}
+use Rattle.core_watches.specs.WatchEnds.{given_up, no_memory_entry, reader_closed, reader_opened}
 use Rattle.core_states.proofs.Holding.{held_for, holds-on, ready-for-mode}
 use Rattle.core_states.proofs.LeftCalls.{longer-front}
 use Rattle.core_watches.proofs.Ends.{keeps-shown, watch-begun, watch-given-up, watch-unread, watches-told}

@@ -1,6 +1,6 @@
 use Rattle.std.proofs.Common.{◌≡◌, ℕ, List, Some, None, sym, subst}
 use Rattle.std.specs.Prelude.{IfErr, IfOk}
-use Rattle.answered_watches.specs.WatchEnds.{EndsWatch}
+use Rattle.core_watches.specs.WatchEnds.{EndsWatch}
 use Rattle.core_watches.proofs.Unfit.{why-unfit}
 use Rattle.core_watches.specs.KeptWatches.{kept_on_record}
 use Rattle.cube_language.specs.Misfits.{FitsCube}

@@ -1,6 +1,6 @@
 use Rattle.std.proofs.Common.{◌≡◌, ◌∙◌, ◌+◌, List, [], ◌∷◌, ◌++◌, subst}
 use Rattle.turn_board.specs.History.{event}
-use Rattle.client_calls.specs.ClientCalls.{desk_entry}
+use Rattle.core_program.specs.ClientCalls.{desk_entry}
 use Rattle.core_cells.specs.declared.desk.DeskCall.TheVariants as asked
 use Rattle.core_program.specs.AnswersOfCalls.{HaveAnswers}
 use Rattle.core_program.specs.CoreFits.{CoreEntry, FitsOwnCalls}

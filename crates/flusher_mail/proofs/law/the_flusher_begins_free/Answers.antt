@@ -1,5 +1,5 @@
 use Rattle.std.proofs.Common.{false, List, refl, subst}
-use Rattle.core_board_cells.specs.BoardCells.{flusher_part}
+use Rattle.cube_core.specs.BoardCells.{flusher_part}
 use Rattle.core_events.specs.Events.{CoreEvent}
 use Rattle.flusher_mail.specs.FlusherMail.{HasNoFlush}
 use Rattle.flusher_rounds.proofs.Rounds.{begins}

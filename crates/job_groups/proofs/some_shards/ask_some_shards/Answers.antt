@@ -1,6 +1,6 @@
 use Rattle.std.proofs.Common.{◌∙◌, ◌+◌, ℕ, List, [], ◌∷◌, ◌++◌, slice_index_or, refl, sym, subst, arith}
 use Rattle.std.proofs.lemmas.Option.{slice_get-get_or}
-use Rattle.client_calls.specs.ClientCalls.{HasFetched, LearnsByFetch, post_entry}
+use Rattle.core_program.specs.ClientCalls.{HasFetched, LearnsByFetch, post_entry}
 use Rattle.core_program.specs.Knowing.{Knows, MayFetchFrom, MayPostJob, ServesClient}
 use Rattle.cube_core.specs.declared.jobs.JobAnswer.{JobAnswer}
 use Rattle.cube_core.specs.declared.jobs.Work.TheVariants as work

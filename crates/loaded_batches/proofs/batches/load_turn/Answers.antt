@@ -5,7 +5,7 @@ use Rattle.cube_language.specs.declared.decl.Decl.{Decl}
 use Rattle.cube_values.specs.Batches.{Batch}
 use Rattle.linked_shards.specs.CellShards.{CoreShardStands}
 use Rattle.linked_shards.specs.declared.cell.CoreShard.{CoreShard}
-use Rattle.known_holds.specs.KnownHolds.{HoldsWriter}
+use Rattle.session_snapshots.specs.KnownHolds.{HoldsWriter}
 use Rattle.core_names.specs.CoreEncoders.{MayAskForCodes}
 use Rattle.job_groups.specs.AskedEach.{AreShardMails}
 use Rattle.row_encoding.specs.CodedLoads.{BatchHasEnded}

@@ -1,6 +1,6 @@
 use Rattle.std.proofs.Common.{◌∙◌, inl}
 use Rattle.linked_shards.specs.CellShards.{CoreShardStands}
-use Rattle.known_holds.specs.KnownHolds.{HoldsWriter}
+use Rattle.session_snapshots.specs.KnownHolds.{HoldsWriter}
 use Rattle.session_batches.specs.PutRows.{HoldsAfterPut}
 use Rattle.shard_events.specs.ShardsInRuns.{FitsShard, ShardAnswerSays}
 use Rattle.loaded_batches.proofs.HeldWriters.{ends-put, open-after-put}

@@ -1,5 +1,5 @@
 use Rattle.std.proofs.Common.{◌<◌, length, subst, arith}
-use Rattle.core_board_cells.specs.BoardCells.{StandsInCell}
+use Rattle.cube_core.specs.BoardCells.{StandsInCell}
 use Rattle.core_program.specs.CoreFits.{FitsOwnCalls}
 use Rattle.cube_core.specs.CoreSteps.{CoreStep}
 use Rattle.linked_shards.specs.CellShards.{CoreShardStands, CoreShardStep}

@@ -6,7 +6,7 @@ use Rattle.cube_core.specs.declared.shard.ShardCall.{ShardCall}
 use Rattle.job_groups.specs.AskedEach.{MayAskEach}
 use Rattle.job_groups.specs.EachPosted.{LearnsOfEach}
 use Rattle.linked_shards.specs.CellShards.{CoreShardStands, CoreShardStep}
-use Rattle.known_holds.specs.KnownHolds.{HoldsRolledBack}
+use Rattle.session_snapshots.specs.KnownHolds.{HoldsRolledBack}
 use Rattle.session_groups.proofs.Knowing.{may-roll-each, roll-ends}
 use Rattle.session_groups.specs.ShardGroups.{KnowsOfShards}
 use Rattle.shard_events.specs.ShardsInRuns.{FitsShard, ShardAnswerSays}

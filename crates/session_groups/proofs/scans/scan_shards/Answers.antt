@@ -8,7 +8,7 @@ use Rattle.cube_core.specs.declared.shard.ShardCall.{ShardCall}
 use Rattle.job_groups.specs.AskedEach.{MayAskEach}
 use Rattle.job_groups.specs.EachPosted.{LearnsOfEach}
 use Rattle.linked_shards.specs.CellShards.{CoreShardStands, CoreShardStep}
-use Rattle.known_holds.specs.KnownHolds.{HoldsTheSame}
+use Rattle.session_snapshots.specs.KnownHolds.{HoldsTheSame}
 use Rattle.session_groups.proofs.Knowing.{may-scan-each, on-ok, scan-found, scan-keeps, scan-outcomes}
 use Rattle.session_groups.specs.AnswersInTurn.{HaveFound, MergeAll}
 use Rattle.session_groups.specs.ShardGroups.{HasFoundRows, KnowsOfShards}

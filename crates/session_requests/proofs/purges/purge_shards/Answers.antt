@@ -5,7 +5,7 @@ use Rattle.cube_core.specs.CoreSteps.{CoreStep}
 use Rattle.cube_core.specs.declared.shard.ShardCall.{ShardCall}
 use Rattle.job_groups.specs.AskedEach.{MayAskEach}
 use Rattle.job_groups.specs.EachPosted.{LearnsOfEach}
-use Rattle.known_holds.specs.KnownHolds.{HoldsTheSame}
+use Rattle.session_snapshots.specs.KnownHolds.{HoldsTheSame}
 use Rattle.linked_shards.specs.CellShards.{CoreShardStands, CoreShardStep}
 use Rattle.session_groups.specs.ShardGroups.{KnowsOfShards}
 use Rattle.session_requests.proofs.AskedPurges.{may-purge-each, purge-holds, purge-notes}

@@ -5,7 +5,7 @@ use Rattle.session_holds.proofs.Snapshots.{may-read, reads}
 use Rattle.session_holds.specs.HoldStates.{IsIdle, IsReading}
 use Rattle.session_snapshots.proofs.KnownSteps.{held-itself, if-answered, if-not-answered, may-call}
 use Rattle.session_snapshots.proofs.openings.open_reader.Goals as goal
-use Rattle.known_holds.specs.KnownHolds.{HoldsReader}
+use Rattle.session_snapshots.specs.KnownHolds.{HoldsReader}
 
 pub call_desk_cell-requires-clause-may : goal.call_desk_cell-requires-clause-may
 call_desk_cell-requires-clause-may g c =

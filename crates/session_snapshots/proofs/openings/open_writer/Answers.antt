@@ -5,7 +5,7 @@ use Rattle.session_holds.proofs.Snapshots.{may-write, writes}
 use Rattle.session_holds.specs.HoldStates.{IsIdle, IsWriting}
 use Rattle.session_snapshots.proofs.KnownSteps.{held-itself, if-answered, if-not-answered, may-call}
 use Rattle.session_snapshots.proofs.openings.open_writer.Goals as goal
-use Rattle.known_holds.specs.KnownHolds.{HoldsWriter}
+use Rattle.session_snapshots.specs.KnownHolds.{HoldsWriter}
 
 pub call_desk_cell-requires-clause-may : goal.call_desk_cell-requires-clause-may
 call_desk_cell-requires-clause-may g c =

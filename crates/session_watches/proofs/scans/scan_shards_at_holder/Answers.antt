@@ -10,7 +10,7 @@ use Rattle.cube_core.specs.declared.shard.ShardCall.TheVariants as call
 use Rattle.job_groups.specs.AskedEach.{MayAskEach}
 use Rattle.job_groups.specs.EachPosted.{LearnsOfEach}
 use Rattle.linked_shards.specs.CellShards.{CoreShardStands, CoreShardStep}
-use Rattle.known_holds.specs.KnownHolds.{HoldsTheSame}
+use Rattle.session_snapshots.specs.KnownHolds.{HoldsTheSame}
 use Rattle.session_groups.proofs.Knowing.{on-ok, scan-found, scan-keeps, scan-outcomes}
 use Rattle.session_watches.proofs.AskedShards.{asked-keeps, may-scan-each}
 use Rattle.session_watches.specs.KnownReaders.{HoldersKeep}

@@ -1,9 +1,9 @@
 use Rattle.std.proofs.Common.{◌≡◌, [], ◌∷◌, ◌++◌}
-use Rattle.client_calls.specs.ClientCalls.{desk_entry}
+use Rattle.core_program.specs.ClientCalls.{desk_entry}
 use Rattle.core_cells.specs.declared.desk.DeskAnswer.TheVariants as answer
 use Rattle.core_cells.specs.declared.desk.DeskCall.TheVariants as call
 use Rattle.core_program.specs.Knowing.{IsSessionOf}
-use Rattle.known_holds.specs.KnownHolds.{HoldsRolledBack}
+use Rattle.session_snapshots.specs.KnownHolds.{HoldsRolledBack}
 use Rattle.shard_statements.proofs.TakenBack.{took-back}
 use Rattle.linked_shards.specs.CellShards.{CoreShardStands}
 use Rattle.shard_events.specs.ShardsInRuns.{FitsShard, ShardAnswerSays}

@@ -1,3 +1,0 @@
-pub mod WatchingCalls
-pub mod BoundReaders
-pub mod WatchEnds

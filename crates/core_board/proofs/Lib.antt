@@ -1,2 +1,0 @@
-pub mod LinkedHistories
-pub mod OwnParts

@@ -1,5 +1,0 @@
-pub mod MailCells
-pub mod DeskEvents
-pub mod NamesEvents
-pub mod MailEvents
-pub mod BoardCells

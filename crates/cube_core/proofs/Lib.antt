@@ -1,0 +1,14 @@
+pub mod MailSteps
+pub mod DeskLinks
+pub mod Dictionaries
+pub mod NamesLinks
+pub mod KnownClients
+pub mod MailLinks
+pub mod OffCells
+pub mod OwnEntries
+pub mod JobsInRuns
+pub mod WaitingJobs
+pub mod EntrySteps
+pub mod OwnKnowledge
+pub mod LinkedHistories
+pub mod OwnParts
