@@ -1,5 +1,5 @@
 use Rattle.core_watches.proofs.ShowsPerformed.{performed}
-use Rattle.core_watches.proofs.law.shows_are_performed.Goals as goal
+use Rattle.core_watches.proofs.on_record.shows_are_performed.Goals as goal
 
 pub returns : goal.returns
 returns c = performed

@@ -1,5 +1,5 @@
 use Rattle.core_watches.proofs.WatchesPerformed.{performed}
-use Rattle.core_watches.proofs.law.watches_are_performed.Goals as goal
+use Rattle.core_watches.proofs.on_record.watches_are_performed.Goals as goal
 
 pub returns : goal.returns
 returns c = performed

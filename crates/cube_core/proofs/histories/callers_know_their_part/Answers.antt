@@ -1,5 +1,5 @@
 use Rattle.cube_core.proofs.OwnParts.{own-part, told-calls, told-moves, told-rounds}
-use Rattle.cube_core.proofs.law.callers_know_their_part.Goals as goal
+use Rattle.cube_core.proofs.histories.callers_know_their_part.Goals as goal
 
 pub returns-clause-calls : goal.returns-clause-calls
 returns-clause-calls g c = λ o. told-calls (g.C.CoreBoard.event o)

@@ -1,5 +1,5 @@
 use Rattle.cube_core.proofs.LinkedHistories.{history-run, history-cells}
-use Rattle.cube_core.proofs.law.histories_are_core_runs.Goals as goal
+use Rattle.cube_core.proofs.histories.histories_are_core_runs.Goals as goal
 
 pub returns-clause-run : goal.returns-clause-run
 returns-clause-run g c = history-run g.C.Cells.step g.C.Cells.fits g.C.CoreBoard.opens g.C.CoreBoard.event g.C.CoreBoard.stands g.met.C.CoreBoard.linked
