@@ -43,10 +43,10 @@ one-of-them o session = elim (leb_tells 1 session) [
 
 module _ {S : Type 0} (fits : Opening → ℕ → ShardCall → Type 0) (stands : Opening → ℕ → ℕ → S → ShardView → Type 0)
     (says : CoreJob → ShardAnswer → JobOutcome → Type 0) (cells : List (CoreCell S)) (o : Opening)
-    (log : List CoreEntry) (IsFile : FileClaim) (replies : List (List Reply)) where
+    (log : List CoreEntry) (IsFile : ℕ → FileClaim) (replies : List (List Reply)) where
   -- A session is at the end of the script that is given to it, and its files were those given.
   pub record EndsAs (given : RunScripts) (session : ℕ) : Type 0 where
-    pub end : AtTheEnd fits stands says cells IsFile given.round_every session (script_given given session)
+    pub end : AtTheEnd fits stands says cells (IsFile session) given.round_every session (script_given given session)
         (of_session replies session) log
     pub files : (number : ℕ) → given.file session number ≡ end.past.files number
 
@@ -54,7 +54,7 @@ module _ {S : Type 0} (fits : Opening → ℕ → ShardCall → Type 0) (stands 
       (long : length given.scripts ≡ o.sessions) (replied : length replies ≡ o.sessions)
       (ends : (session : ℕ) → IsSession o session → EndsAs given session) where
     module _ (session : ℕ) (is_session : IsSession o session) where
-      abbrev e : AtTheEnd fits stands says cells IsFile given.round_every session (script_given given session)
+      abbrev e : AtTheEnd fits stands says cells (IsFile session) given.round_every session (script_given given session)
           (of_session replies session) log
       e = (ends session is_session).end
 
@@ -134,7 +134,7 @@ module _ {S : Type 0} (fits : Opening → ℕ → ShardCall → Type 0) (stands 
 
     pub on-record : (every : ℕ) (scripts : List (List Sentence)) → given.scripts ≡ scripts → given.round_every ≡ every
         → ((session : ℕ) → IsSession o session
-        → AreKnownFiles IsFile (of_session scripts session) (of_session replies session) (given.file session))
+        → AreKnownFiles (IsFile session) (of_session scripts session) (of_session replies session) (given.file session))
         → IsPlayedRun IsFile every scripts replies o events
     on-record every scripts scripts_are every_is files = record {
       given = given;
@@ -152,7 +152,7 @@ module _ {S : Type 0} (fits : Opening → ℕ → ShardCall → Type 0) (stands 
   -- The files that the sessions had are given to them.
   module _ (every : ℕ) (scripts : List (List Sentence))
       (each : (session : ℕ) → IsSession o session
-      → AtTheEnd fits stands says cells IsFile every session (of_session scripts session)
+      → AtTheEnd fits stands says cells (IsFile session) every session (of_session scripts session)
       (of_session replies session) log)
     where
       files-at : (session : ℕ) → IsSession o session ⊎ (IsSession o session → ⊥) → ℕ → LoadedFile
@@ -167,7 +167,7 @@ module _ {S : Type 0} (fits : Opening → ℕ → ShardCall → Type 0) (stands 
       }
 
       had-files : (session : ℕ) (d : IsSession o session ⊎ (IsSession o session → ⊥)) → IsSession o session
-          → (e : AtTheEnd fits stands says cells IsFile every session (of_session scripts session)
+          → (e : AtTheEnd fits stands says cells (IsFile session) every session (of_session scripts session)
           (of_session replies session) log) × ((number : ℕ) → files-at session d number ≡ e.past.files number)
       unfolding files-at
       had-files session (inl is) now = (each session is, λ number. refl)
@@ -178,10 +178,10 @@ module _ {S : Type 0} (fits : Opening → ℕ → ShardCall → Type 0) (stands 
           let had = had-files session (one-of-them o session) is in record { end = had.0; files = had.1 }
 
       known-files : (session : ℕ) → IsSession o session
-          → AreKnownFiles IsFile (of_session scripts session) (of_session replies session) (all-given.file session)
+          → AreKnownFiles (IsFile session) (of_session scripts session) (of_session replies session) (all-given.file session)
       known-files session is =
           let x : EndsAs all-given session = ends-as session is in
-          coe 1 0 (i. AreKnownFiles IsFile (of_session scripts session) (of_session replies session)
+          coe 1 0 (i. AreKnownFiles (IsFile session) (of_session scripts session) (of_session replies session)
           (λ number. x.files number i)) x.end.files
 
       pub run-on-record : (events : List CoreEvent) → IsRunOfHistory fits stands says cells o log events
@@ -192,7 +192,7 @@ module _ {S : Type 0} (fits : Opening → ℕ → ShardCall → Type 0) (stands 
 
 module _ {S : Type 0} (fits : Opening → ℕ → ShardCall → Type 0) (stands : Opening → ℕ → ℕ → S → ShardView → Type 0)
     (says : CoreJob → ShardAnswer → JobOutcome → Type 0) (cells : List (CoreCell S)) where
-  pub scripts-end : (IsFile : FileClaim) (o : Opening) (log : List CoreEntry) (events : List CoreEvent) (every : ℕ)
+  pub scripts-end : (IsFile : ℕ → FileClaim) (o : Opening) (log : List CoreEntry) (events : List CoreEvent) (every : ℕ)
       (scripts : List (List Sentence)) (replies : List (List Reply))
       → IsRunOfHistory fits stands says cells o log events
       → HaveAllPlayed fits stands says cells o log IsFile every scripts replies
@@ -200,6 +200,6 @@ module _ {S : Type 0} (fits : Opening → ℕ → ShardCall → Type 0) (stands 
   scripts-end IsFile o log events every scripts replies h all =
       run-on-record fits stands says cells o log IsFile replies every scripts
       (λ session is.
-      at-the-end fits stands says cells IsFile every session (of_session scripts session)
+      at-the-end fits stands says cells (IsFile session) every session (of_session scripts session)
       (of_session replies session) log (all.each session is))
       events h all.as_many_scripts all.as_many_replies

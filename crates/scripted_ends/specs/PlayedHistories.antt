@@ -40,26 +40,26 @@ module _ {S : Type 0} (fits : Opening → ℕ → ShardCall → Type 0) (stands 
     pub cubes : OpensWithCubes o (desk_of o run).cubes
 
   -- There are so many scripts and lists of replies as sessions, and each session has played its script to the end by
-  -- its own calls, with its replies. A round follows after so many commits of a session.
-  pub record HaveAllPlayed (IsFile : FileClaim) (every : ℕ) (scripts : List (List Sentence))
+  -- its own calls, with its replies. Of the files of each session this is known. A round follows after so many commits.
+  pub record HaveAllPlayed (IsFile : ℕ → FileClaim) (every : ℕ) (scripts : List (List Sentence))
       (replies : List (List Reply)) : Type 0 where
     pub as_many_scripts : length scripts ≡ o.sessions
     pub as_many_replies : length replies ≡ o.sessions
     pub each : (session : ℕ) → IsSession o session
-        → HasPlayedToTheEnd fits stands says cells IsFile every session (of_session scripts session)
+        → HasPlayedToTheEnd fits stands says cells (IsFile session) every session (of_session scripts session)
         (of_session replies session) log
 
 -- The run on record has these scripts, the files that each session had, and a round after so many commits. Each session
 -- follows its script, and its posts stand for what its statements did. Every statement of every script has its
 -- reply, so the journal is a legal merge of the scripts, and the text is that of these replies and of the journal. The
 -- dictionaries begin with those of the opening.
-pub record IsPlayedRun (IsFile : FileClaim) (every : ℕ) (scripts : List (List Sentence)) (replies : List (List Reply))
+pub record IsPlayedRun (IsFile : ℕ → FileClaim) (every : ℕ) (scripts : List (List Sentence)) (replies : List (List Reply))
     (o : Opening) (events : List CoreEvent) : Type 0 where
   pub given : RunScripts
   pub scripts_are : given.scripts ≡ scripts
   pub every_is : given.round_every ≡ every
   pub files : (session : ℕ) → IsSession o session
-      → AreKnownFiles IsFile (of_session scripts session) (of_session replies session) (given.file session)
+      → AreKnownFiles (IsFile session) (of_session scripts session) (of_session replies session) (given.file session)
   pub run : IsScriptedRun o given events
   pub played : HavePlayed (record_of o given events) replies
   pub legal : IsLegalRun (record_of o given events)

@@ -15,10 +15,11 @@ use scripted_pasts::KnowsFiles;
 /// on record with these scripts and the files that they had: its journal is a legal merge of the scripts, and its text
 /// is that of the sessions' replies and of the journal.
 pub fn scripts_end_in_a_run<S: LinkedShard, F: KnowsFiles>()
-    ensures { (known : F) (cells : List (CoreCell S)) (o : Opening) (log : List CoreEntry)
+    ensures { (known : ℕ → F) (cells : List (CoreCell S)) (o : Opening) (log : List CoreEntry)
         (events : List CoreEvent) (every : ℕ) (scripts : List (List Sentence))
         (replies : List (List Reply))
         → IsRunOfHistory S.fits S.stands S.says cells o log events
-        → HaveAllPlayed S.fits S.stands S.says cells o log (F.is_file known) every scripts replies
-        → IsPlayedRun (F.is_file known) every scripts replies o events }
+        → HaveAllPlayed S.fits S.stands S.says cells o log
+        (λ session. F.is_file (known session)) every scripts replies
+        → IsPlayedRun (λ session. F.is_file (known session)) every scripts replies o events }
 {}

@@ -1,0 +1,5 @@
+pub mod ToldFiles
+pub mod CountedLoads
+pub mod PlayingSessions
+pub mod PlayedWhole
+pub mod ScriptWorks
