@@ -1,2 +1,6 @@
+pub mod PlainForms
 pub mod PlayedOn
+pub mod LoadsPlayed
+pub mod RefusedOn
 pub mod PlayedTexts
+pub mod FreshSessions

@@ -1,11 +1,11 @@
 -- A script is played text by text.
-use Rattle.std.proofs.Common.{◌≡◌, ◌∙◌, ℕ, ◌+◌, ◌≤◌, ◌<◌, List, [], ◌∷◌, ◌++◌, length, map, Option, None, Some, refl, sym, ap, subst, arith, append_assoc, append-nil, length-append}
+use Rattle.std.proofs.Common.{◌≡◌, ◌∙◌, ℕ, ◌+◌, ◌≤◌, List, [], ◌∷◌, ◌++◌, length, map, Option, None, Some, refl, sym, ap, subst, arith, append_assoc, append-nil, length-append}
 use Rattle.std.specs.List.{AllByRecursion}
 use Rattle.core_program.specs.CoreFits.{CoreEntry}
 use Rattle.core_endings.specs.ScriptEnds.{HoldsReaderUnder, IsWatchUnder}
 use Rattle.core_scripts.specs.CountedLoads.{CountsFor, CountsInTurn}
 use Rattle.core_scripts.specs.PlayedWhole.{CountsOfShelf}
-use Rattle.core_scripts.specs.PlayingSessions.{IsInScript, IsPlaying, IsProperSaid, PlaysOn, holder_kept}
+use Rattle.core_scripts.specs.PlayingSessions.{IsPlaying, IsProperSaid, PlaysOn, holder_kept}
 use Rattle.core_scripts.specs.ToldFiles.{ShelfTold}
 use Rattle.core_scripts.specs.declared.player.ScriptPlayer.{ScriptPlayer}
 use Rattle.core_states.specs.ExecutedInCore.{HasOneMore}

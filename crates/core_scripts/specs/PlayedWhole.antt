@@ -1,7 +1,6 @@
 -- A session that has played its script to the end, as the work of a caller of the core.
 -- Source: this project's own.
-use Rattle.std.specs.Prelude.{◌≡◌, ◌+◌, ◌≤◌, ℕ, List, [], length, map, None, Option, vec_capacity}
-use Rattle.std.specs.Bool.{OnTrue}
+use Rattle.std.specs.Prelude.{◌≡◌, ◌+◌, ◌≤◌, ℕ, List, [], length, None, Option}
 use Rattle.std.specs.List.{AllByRecursion}
 use Rattle.core_program.specs.CoreFits.{CoreEntry}
 use Rattle.core_scripts.specs.CountedLoads.{CountsInTurn}

@@ -11,6 +11,7 @@ ghost use Rattle.core_program.specs.Knowing.{IsClientOf, IsSessionOf};
 ghost use Rattle.linked_shards.specs.CellShards.{CoreShardStands};
 ghost use Rattle.shard_events.specs.ShardsInRuns.{FitsShard, ShardAnswerSays};
 ghost use Rattle.scripted_pasts.specs.Served.{IsServed};
+ghost use Rattle.session_desk.specs.FileReplies.{IsRefusedUnread};
 ghost use Rattle.session_desk.specs.Executed.{IfReplied, OnStopped};
 ghost use Rattle.session_replies.specs.Modes.{mode_of};
 ghost use Rattle.turn_board.specs.Passes.{callers_of};
@@ -29,6 +30,7 @@ use core_program::CoreSize;
 use core_states::{refuse_by_mode, refuse_syntax};
 use cube_journal::Refusal;
 use cube_language::{MOST_STATEMENTS, Statement, Syntax};
+use kept_holders::other_calls_leave_the_holders;
 use linked_shards::{CoreShard, ShardCells};
 use outside::Shelf;
 use script_sentences::Said;
@@ -133,7 +135,15 @@ fn play_allowed<R: Wait, P: CellCaller<ShardCells>, H: Shelf>(
         Statement::Watch { .. } | Statement::ShowWatch => {
             play_watching(rt, board, caller, size, player, statement, alloc)
         }
-        _ => play_without_rows(rt, board, caller, size, player, statement, alloc),
+        Statement::Begin
+        | Statement::Commit
+        | Statement::Rollback
+        | Statement::Flush
+        | Statement::Purge
+        | Statement::ShowEpochs
+        | Statement::CreateCube { .. } => {
+            play_without_rows(rt, board, caller, size, player, statement, alloc)
+        }
     }
 }
 
@@ -161,10 +171,12 @@ fn play_refused<R: Wait, P: CellCaller<ShardCells>>(
     ensures others { P.others caller.new ≡ P.others caller.old }
     ensures more { HasOneMore player.old.session player.new.session }
     ensures stopped { OnStopped result (IsPrefix (P.own caller.old) (P.own caller.new)) }
+    ensures unread { IfReplied result IsRefusedUnread }
     ensures plays { IfReplied result (λ said. (told : ShelfTold)
         → PlaysOn told (P.opening caller.old) (P.number caller.old) player.old (P.own caller.old)
         (Says statement.now) player.new (P.own caller.new) said) }
 {
+    other_calls_leave_the_holders::<CoreShard>();
     refuse_by_mode::<CoreShard, R, P>(rt, board, caller, &mut player.session, refusal)
 }
 
@@ -236,6 +248,7 @@ fn play_nothing<R: Wait, P: CellCaller<ShardCells>>(
         → PlaysOn told (P.opening caller.old) (P.number caller.old) player.old (P.own caller.old)
         (SaysNone fault.at) player.new (P.own caller.new) said) }
 {
+    other_calls_leave_the_holders::<CoreShard>();
     refuse_syntax::<CoreShard, R, P>(rt, board, caller, &mut player.session, fault)
 }
 
@@ -246,7 +259,7 @@ pub(crate) fn play_said<R: Wait, P: CellCaller<ShardCells>, H: Shelf>(
     caller: &mut P,
     size: &CoreSize,
     player: &mut ScriptPlayer,
-    said: Said,
+    text: Said,
     shelf: &mut H,
     alloc: Global,
 ) -> Answered
@@ -257,7 +270,7 @@ pub(crate) fn play_said<R: Wait, P: CellCaller<ShardCells>, H: Shelf>(
     requires number { player.old.session.number ≤ size.now.sessions }
     requires rows { OpenWithRowsOfCubes (P.opening caller.old) }
     requires few { player.old.session.statements < MOST_STATEMENTS }
-    requires proper { IsProperSaid said }
+    requires proper { IsProperSaid text }
     requires playing { IsInScript (P.opening caller.old) (P.number caller.old) player.old
         (P.own caller.old) }
     ensures board { P.calls_on board.now caller.new }
@@ -268,14 +281,14 @@ pub(crate) fn play_said<R: Wait, P: CellCaller<ShardCells>, H: Shelf>(
     ensures stopped { OnStopped result (IsPrefix (P.own caller.old) (P.own caller.new)) }
     ensures same { H.told shelf.new ≡ H.told shelf.old }
     ensures later { H.fault_count shelf.old ≤ H.fault_count shelf.new }
-    ensures faults { IfReplied result (λ said. CountsFor CountsFault (sentence_of said) said
+    ensures faults { IfReplied result (λ said. CountsFor CountsFault (sentence_of text) said
         (H.fault_count shelf.old) (H.fault_count shelf.new)) }
-    ensures absences { IfReplied result (λ said. CountsFor CountsAbsence (sentence_of said) said
+    ensures absences { IfReplied result (λ said. CountsFor CountsAbsence (sentence_of text) said
         (H.absence_count shelf.old) (H.absence_count shelf.new)) }
     ensures plays { IfReplied result (PlaysOn (H.told shelf.old) (P.opening caller.old)
-        (P.number caller.old) player.old (P.own caller.old) (sentence_of said) player.new (P.own caller.new)) }
+        (P.number caller.old) player.old (P.own caller.old) (sentence_of text) player.new (P.own caller.new)) }
 {
-    match said {
+    match text {
         Said::Statement { statement } => {
             play_statement(rt, board, caller, size, player, statement, shelf, alloc)
         }

@@ -22,7 +22,7 @@ use linked_shards::ShardCells;
 use outside::Shelf;
 use script_sentences::Said;
 use session_desk::Answered;
-use std::alloc::Global;
+use std::alloc::{AllocError, Global};
 use std::sync::Wait;
 use turn_board::Board;
 
@@ -131,5 +131,8 @@ pub fn play_to_the_end<R: Wait, P: CellCaller<ShardCells>, H: Shelf>(
         return false;
     }
     let holder = holder_of(&player.watch);
-    end_script(rt, board, caller, size, &player.session, holder, alloc).is_ok()
+    match end_script(rt, board, caller, size, &player.session, holder, alloc) {
+        Ok(()) => true,
+        Err(AllocError) => false,
+    }
 }

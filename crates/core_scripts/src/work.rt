@@ -42,7 +42,7 @@ pub struct ScriptWork<H> {
     pub alloc: Global,
 }
 
-impl<H: Shelf> ScriptWork<H> {
+impl<H: Shelf + Drop> ScriptWork<H> {
     /// The work of the session of this number, from 1 on, with room for all replies. After so many of its commits a
     /// round follows, if after any. The only error is out of memory.
     pub fn new(
