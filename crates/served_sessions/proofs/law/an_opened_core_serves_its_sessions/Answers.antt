@@ -12,10 +12,10 @@ returns-clause-served c = λ kept shards sessions session cells by_file over ope
       flush_mail = knows.mail kept shards sessions shards cells over (omega arith);
       flush_serves = knows.serves kept shards sessions session shards cells over last;
       storable = c.an_opened_core_knows_its_cubes.ensures kept shards sessions cells by_file over;
-      named = λ o log run open are is_run.
-          c.an_opened_core_has_its_dictionaries.ensures kept shards sessions cells by_file over o log run open are is_run;
+      named = λ o log run opened are is_run.
+          c.an_opened_core_has_its_dictionaries.ensures kept shards sessions cells by_file over o log run opened are is_run;
     }
 
 pub returns-clause-rows : goal.returns-clause-rows
-returns-clause-rows c = λ kept shards sessions cells by_file over o log open cube.
-    c.an_opened_core_has_the_kept_rows.ensures.rows kept shards sessions cells by_file over o log open cube
+returns-clause-rows c = λ kept shards sessions cells by_file over o log opened cube.
+    c.an_opened_core_has_the_kept_rows.ensures.rows kept shards sessions cells by_file over o log opened cube
