@@ -1,0 +1,6 @@
+mod WorkLists
+mod ShardCells
+mod LeftCells
+mod EndedWorks
+mod BeginningTasks
+mod RanTasks

@@ -1,0 +1,5 @@
+pub mod CallerEnds
+pub mod CoreParts
+pub mod RanCores
+pub mod Rooms
+pub mod TaskLists
