@@ -32,7 +32,8 @@ module _ {T Q A W : Type 0} (done : WorkDone T Q A W) (opening : List T) where
   number_stays own false caller before after e = ap (λ (w : NumberedWork W). w.number) e.1
 
 module _ {C T Q A W : Type 0} {g : Ghosts C T Q A} (done : WorkDone T Q A W) (opening : List T)
-    (moment log : List (Event Q A)) (began : Bool) (works : List W) (tasks tasks' : List (Task C (NumberedWork W) T Q A g))
+    (moment log : List (Event Q A)) (began : Bool) (works : List W)
+    (tasks tasks' : List (Task C (NumberedWork W) T Q A g))
     (long : length tasks ≡ length works)
     (numbered : (k : ℕ) (d : Task C (NumberedWork W) T Q A g) (e : W) → k < length works
     → (get_or tasks k d).work ≡ record { number = 1 + k; work = get_or works k e })
@@ -70,20 +71,24 @@ module _ {C T Q A W : Type 0} {g : Ghosts C T Q A} (done : WorkDone T Q A W) (op
     pub as_many_back : length works' ≡ length works
     as_many_back =
         let few : n ≤ length tasks' = omega (arith, count, long_enough) in
-        ap (λ (l : List W). length l) are ∙ length-map (take n tasks') work_in ∙ length-take-le n tasks' few ∙ sym count
+        ap (λ (l : List W). length l) are ∙ length-map (take n tasks') work_in ∙ length-take-le n tasks' few
+        ∙ sym count
 
     -- Each ended as its caller did.
     pub sessions_end : (k : ℕ) (d : W) → k < length works
         → EndsBy done opening moment log began (1 + k) (get_or works k d) (get_or works' k d)
     sessions_end k d lt =
         let t : Task C (NumberedWork W) T Q A g = record { work = record { number = 0; work = d }; pass = None } in
-        let e = ended_by (numbered_done done) opening moment log began (1 + k) (get_or tasks k t).work (get_or tasks' k t).work
+        let e = ended_by (numbered_done done) opening moment log began (1 + k) (get_or tasks k t).work
+        (get_or tasks' k t).work
         (each k t (within k lt)) in
         record {
           all = e.all;
           ends = subst (λ (w : W). EndsAs done opening began (1 + k) (of_caller (1 + k) log) w (get_or works' k d))
               (ap (λ (w : NumberedWork W). w.work) (numbered k t d lt))
-              (subst (λ (w : W). EndsAs done opening began (1 + k) (of_caller (1 + k) log) (get_or tasks k t).work.work w)
+              (subst (λ (w : W). EndsAs done opening began (1 + k) (of_caller (1 + k) log)
+              (get_or tasks k t).work.work w)
               (sym (back_at k d t lt))
-              (bare done opening (of_caller (1 + k) log) began (1 + k) (get_or tasks k t).work (get_or tasks' k t).work e.ends));
+              (bare done opening (of_caller (1 + k) log) began (1 + k) (get_or tasks k t).work
+              (get_or tasks' k t).work e.ends));
         }

@@ -52,7 +52,8 @@ module _ (o : Opening) (es : List CoreEvent) where
   core_there [] long stand = absurd (omega (arith, long))
   core_there (x ∷ []) long stand = absurd (omega (arith, long))
   core_there (cell.Desk desk alloc ∷ cell.Names names ∷ cells) long stand =
-      shards_there o.shards 0 cells (omega arith) (omega (arith, long)) (λ k x at. behind_two k x (stand (suc (suc k)) x at))
+      shards_there o.shards 0 cells (omega arith) (omega (arith, long))
+      (λ k x at. behind_two k x (stand (suc (suc k)) x at))
   core_there (cell.Desk desk alloc ∷ cell.Desk other a ∷ cells) long stand =
       absurd (let e = (stand 1 (cell.Desk other a) refl).0 in omega (arith, e))
   core_there (cell.Desk desk alloc ∷ cell.Shard shard ∷ cells) long stand =
@@ -66,15 +67,15 @@ module _ (o : Opening) (es : List CoreEvent) where
   core_there (cell.Mail mail ∷ y ∷ cells) long stand =
       absurd (let e = (stand 0 (cell.Mail mail) refl).1 in omega (arith, e))
 
-  shard_at : (shards : List CoreShard) (cells : List (CoreCell CoreShard)) (k : ℕ) (d : CoreShard) → BeginWith shards cells
-      → k < length shards → get_elem? cells k ≡ some (cell.Shard (get_or shards k d))
+  shard_at : (shards : List CoreShard) (cells : List (CoreCell CoreShard)) (k : ℕ) (d : CoreShard)
+      → BeginWith shards cells → k < length shards → get_elem? cells k ≡ some (cell.Shard (get_or shards k d))
   shard_at [] cells k d begin lt = absurd (omega arith)
   shard_at (s ∷ shards) [] k d begin lt = absurd begin
   shard_at (s ∷ shards) (x ∷ cells) zero d begin lt = ap (λ y. some y) begin.0
   shard_at (s ∷ shards) (x ∷ cells) (suc k) d begin lt = shard_at shards cells k d begin.1 (omega arith)
 
-  module _ (cells : List (CoreCell CoreShard)) (desk : DeskState) (names : List (List Dictionary)) (shards : List CoreShard)
-      (parts : HoldParts cells desk names shards)
+  module _ (cells : List (CoreCell CoreShard)) (desk : DeskState) (names : List (List Dictionary))
+      (shards : List CoreShard) (parts : HoldParts cells desk names shards)
       (stand : (k : ℕ) (x : CoreCell CoreShard) → get_elem? cells k ≡ some x → Stands k x) where
     pub desk_is : desk ≡ desk_of o es
     desk_is = (stand 0 (cell.Desk desk parts.alloc) (ap (λ l. get_elem? l 0) parts.whole)).1

@@ -18,8 +18,8 @@ pub some_cell : (n : ℕ) (cells : List (CoreCell CoreShard)) → BeginWithShard
 some_cell n [] begin = absurd begin
 some_cell n (held ∷ cells) begin = omega arith
 
-pub shard_first : (n : ℕ) (cells : List (CoreCell CoreShard)) (first : CoreCell CoreShard) → BeginWithShards (suc n) cells
-    → first ≡ get_or cells 0 first → IsShardCell first
+pub shard_first : (n : ℕ) (cells : List (CoreCell CoreShard)) (first : CoreCell CoreShard)
+    → BeginWithShards (suc n) cells → first ≡ get_or cells 0 first → IsShardCell first
 shard_first n [] first begin is = absurd begin
 shard_first n (held ∷ cells) first begin is = subst (λ x. IsShardCell x) (sym is) begin.0
 
@@ -35,14 +35,15 @@ begin_one_more n [] first shard rest begin is held others = absurd begin
 begin_one_more n (x ∷ cells) first shard rest begin is held others = (sym is ∙ held, others)
 
 -- It was taken.
-pub taken_begin : (n : ℕ) (whole cells left : List (CoreCell CoreShard)) (first : CoreCell CoreShard) (shard : CoreShard)
-    (shards now : List CoreShard) → BeginWithShards (suc n) cells → first ≡ get_or cells 0 first → first ≡ cell.Shard shard
-    → left ≡ remove cells 0 → now ≡ shards ++ shard ∷ []
+pub taken_begin : (n : ℕ) (whole cells left : List (CoreCell CoreShard)) (first : CoreCell CoreShard)
+    (shard : CoreShard) (shards now : List CoreShard) → BeginWithShards (suc n) cells → first ≡ get_or cells 0 first
+    → first ≡ cell.Shard shard → left ≡ remove cells 0 → now ≡ shards ++ shard ∷ []
     → ((rest : List CoreShard) → BeginWith rest cells → BeginWith (shards ++ rest) whole)
     → (rest : List CoreShard) → BeginWith rest left → BeginWith (now ++ rest) whole
 taken_begin n whole cells left first shard shards now begin is held left-is now-is so_far rest others =
     subst (λ l. BeginWith l whole) (sym (append_assoc shards (shard ∷ []) rest) ∙ ap (λ l. l ++ rest) (sym now-is))
-    (so_far (shard ∷ rest) (begin_one_more n cells first shard rest begin is held (subst (λ l. BeginWith rest l) left-is others)))
+    (so_far (shard ∷ rest) (begin_one_more n cells first shard rest begin is held
+    (subst (λ l. BeginWith rest l) left-is others)))
 
 pub all_begin : (whole cells : List (CoreCell CoreShard)) (shards : List CoreShard)
     → ((rest : List CoreShard) → BeginWith rest cells → BeginWith (shards ++ rest) whole) → BeginWith shards whole

@@ -60,8 +60,9 @@ module _ {C T Q A W : Type 0} {g : Ghosts C T Q A} where
       ∙ ap (λ (n : ℕ). record { number = n; work = get_or works k e }) (one_more from k)
 
   -- Once no work is left, all tasks have theirs.
-  pub all_numbered : (from : ℕ) (tasks : List (Task C (NumberedWork W) T Q A g)) (left works : List W) → length left ≡ 0
-      → map task_work tasks ++ numbered_works from left ≡ numbered_works 1 works → AreNumbered works tasks
+  pub all_numbered : (from : ℕ) (tasks : List (Task C (NumberedWork W) T Q A g)) (left works : List W)
+      → length left ≡ 0 → map task_work tasks ++ numbered_works from left ≡ numbered_works 1 works
+      → AreNumbered works tasks
   all_numbered from tasks [] works none is =
       let all = sym (append-nil (map task_work tasks)) ∙ is in
       record { as_many = as_many 1 tasks works all; each = task_at 1 tasks works all }
@@ -71,7 +72,8 @@ module _ {C T Q A W : Type 0} {g : Ghosts C T Q A} where
   pub session_begins : (may : W → ℕ → List T → ℕ → Type 0) (opening : List T) (works : List W)
       (tasks : List (Task C (NumberedWork W) T Q A g)) → AreNumbered works tasks → (k : ℕ)
       (d : Task C (NumberedWork W) T Q A g) (callers all : ℕ) → callers ≡ all → k < length works
-      → ((e : W) → may (get_or works k e) callers opening (1 + k)) → may (get_or tasks k d).work.work all opening (1 + k)
+      → ((e : W) → may (get_or works k e) callers opening (1 + k))
+      → may (get_or tasks k d).work.work all opening (1 + k)
   session_begins may opening works tasks numbered k d callers all same lt begins =
       subst (λ (w : NumberedWork W). may w.work all opening (1 + k)) (sym (numbered.each k d d.work.work lt))
       (subst (λ n. may (get_or works k d.work.work) n opening (1 + k)) same (begins d.work.work))
@@ -79,7 +81,8 @@ module _ {C T Q A W : Type 0} {g : Ghosts C T Q A} where
   -- Tasks that were given their callers have the works that they had.
   pub tasks_given : (works : List W) (tasks given : List (Task C (NumberedWork W) T Q A g)) → AreNumbered works tasks
       → length given ≡ length tasks
-      → ((k : ℕ) (d : Task C (NumberedWork W) T Q A g) → k < length tasks → (get_or given k d).work ≡ (get_or tasks k d).work)
+      → ((k : ℕ) (d : Task C (NumberedWork W) T Q A g) → k < length tasks
+      → (get_or given k d).work ≡ (get_or tasks k d).work)
       → AreNumbered works given
   tasks_given works tasks given numbered long same = record {
     as_many = long ∙ numbered.as_many;

@@ -45,7 +45,8 @@ pub record HoldParts (cells : List (CoreCell CoreShard)) (desk : DeskState) (nam
   pub whole : cells ≡ cell.Desk desk alloc ∷ cell.Names names ∷ behind
   pub shards_are : BeginWith shards behind
 
--- The history is a run that made of the cells what they are, and so of the desk, the names and each shard that are left.
+-- The history is a run that made of the cells what they are, and so of the desk, the names and each shard that are
+-- left.
 pub record IsLeftByRun (o : Opening) (log : List CoreEntry) (cells : List (CoreCell CoreShard)) (left : CoreLeft)
     : Type 0 where
   pub to : IsRunTo o cells log

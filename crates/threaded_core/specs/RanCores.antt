@@ -1,7 +1,7 @@
--- A core that ran on threads: the one history of all calls, the run that it is, what each caller did, and in which order
--- they ended.
--- Source: linearizability (Herlihy and Wing, 1990) makes one list of the calls of all threads; Cubrick (VLDB 2016), one
--- thread a shard and rounds of a flush; what main does at the end is own.
+-- A core that ran on threads: the one history of all calls, the run that it is, what each caller did, and in which
+-- order they ended.
+-- Source: linearizability (Herlihy and Wing, 1990) makes one list of the calls of all threads; Cubrick (VLDB 2016),
+-- one thread a shard and rounds of a flush; what main does at the end is own.
 use Rattle.std.specs.Prelude.{◌≡◌, ℕ, ◌+◌, ◌<◌, ◌≤◌, Bool, MatchBool, List, [], length, slice_index_or, Option, None}
 use mathlib.Core.List.{IsPrefix}
 use Rattle.core_events.specs.Events.{Opening}
@@ -62,8 +62,8 @@ module _ {M : Type 0} (serves : M → OpeningCells → Type 0) (has_kept : M →
 module _ {W M : Type 0} (done : SessionDone W) (serves : M → OpeningCells → Type 0) (has_kept : M → KeptClaim)
     (becomes : M → M → Type 0) (shards sessions : ℕ) (cells : OpeningCells) (works : List W) (maker : M)
     (ran : RanCore W M) where
-  -- First the sessions ended. Then main closed the flusher's mail, and the flusher ended. Then main had the shards purge,
-  -- where the sessions had begun, and closed their mails.
+  -- First the sessions ended. Then main closed the flusher's mail, and the flusher ended. Then main had the shards
+  -- purge, where the sessions had begun, and closed their mails.
   pub record EndInOrder (log : List CoreEntry) : Type 0 where
     pub played : List CoreEntry
     pub flushed : List CoreEntry
@@ -72,7 +72,8 @@ module _ {W M : Type 0} (done : SessionDone W) (serves : M → OpeningCells → 
     pub main_waits : of_caller 0 played ≡ []
     pub as_many : length ran.sessions.items ≡ sessions
     pub plays : (k : ℕ) (d : W) → k < sessions
-        → EndsBy done cells played log ran.began (1 + k) (slice_index_or works k d) (slice_index_or ran.sessions.items k d)
+        → EndsBy done cells played log ran.began (1 + k) (slice_index_or works k d)
+        (slice_index_or ran.sessions.items k d)
     pub stops : HasClosedFlusher shards sessions (sessions + 2 + shards) cells (of_caller 0 flushed)
     pub all_rounds : of_caller (sessions + 1 + shards) flushed ≡ of_caller (sessions + 1 + shards) log
     pub flushes : FlusherEnds serves has_kept becomes ran.flushed shards sessions maker ran.maker ran.last_round cells
@@ -80,8 +81,8 @@ module _ {W M : Type 0} (done : SessionDone W) (serves : M → OpeningCells → 
     pub closes : HasClosedShards shards ran.began ran.counters cells (of_caller 0 flushed) (of_caller 0 log)
 
   -- There is one history of the calls of main, the sessions, the workers and the flusher. However a run opens with the
-  -- cells, the history is one, which made of the cells what is left of them. Each worker served its mail until that was
-  -- closed.
+  -- cells, the history is a run, which made of the cells what is left of them. Each worker served its mail until that
+  -- was closed.
   pub record HasRunOnThreads : Type 0 where
     pub log : List CoreEntry
     pub left : List (CoreCell CoreShard)

@@ -59,8 +59,8 @@ module _ {C T Q A W : Type 0} {g : Ghosts C T Q A} where
         → (slice_index_or tasks k d).work ≡ record { number = 1 + k; work = slice_index_or works k e }
 
 module _ {C T Q A W M G : Type 0} {g : Ghosts C T Q A} where
-  -- The tasks are those of a core: main's, those of the sessions with these works, of the workers of all shards, and of
-  -- the flusher with what makes the rounds.
+  -- The tasks are those of a core: main's, those of the sessions with these works, of the workers of all shards, and
+  -- of the flusher with what makes the rounds.
   pub record AreTasksOf (size : CoreSize) (works : List W) (maker : M)
       (tasks : AllTasks C ClosingMain (NumberedWork W) (ShardWorker G) (FlusherWork M) T Q A g) : Type 0 where
     pub main : tasks.main.work.size ≡ size

@@ -8,5 +8,6 @@ invariant-works g l = record {
   left : l.number + length l.left.items ≡ l.count;
   long : length l.tasks.items ≡ l.number;
   room : l.count ≤ vec_capacity l.tasks;
-  works : map task_work l.tasks.items ++ numbered_works (l.number + 1) l.left.items ≡ numbered_works 1 l.fn.works.items;
+  works : map task_work l.tasks.items ++ numbered_works (l.number + 1) l.left.items
+      ≡ numbered_works 1 l.fn.works.items;
 }
