@@ -1,0 +1,47 @@
+-- Works of sessions that play their scripts, one for each, and the run on record that they then have.
+-- Source: this project's own; linearizability (Herlihy and Wing, 1990) makes one list of the calls of all threads.
+use Rattle.std.specs.Prelude.{◌≡◌, ℕ, ◌+◌, ◌-◌, ◌<◌, true, List, length, map, slice_index_or}
+use Rattle.core_events.specs.Events.{Opening, CoreEvent}
+use Rattle.core_program.specs.CoreFits.{CoreEntry}
+use Rattle.core_scripts.specs.ToldFiles.{ShelfTold, files_told}
+use Rattle.core_scripts.specs.declared.work.ScriptWork.{ScriptWork}
+use Rattle.cube_core.specs.BoardCells.{IsEntryEvent}
+use Rattle.cube_core.specs.Links.{AreEventsOf}
+use Rattle.cube_journal.specs.declared.reply.Reply.{Reply}
+use Rattle.cube_run.specs.RunRecords.{Sentence}
+use Rattle.linked_shards.specs.CellShards.{CoreShardStands}
+use Rattle.script_sentences.specs.Sentences.{sentence_of}
+use Rattle.scripted_ends.specs.PlayedHistories.{IsPlayedRun}
+use Rattle.scripted_pasts.specs.Performed.{every_of}
+use Rattle.scripted_pasts.specs.PlayedScripts.{FileClaim}
+use Rattle.shard_events.specs.ShardsInRuns.{FitsShard, ShardAnswerSays}
+
+module _ {H : Type 0} where
+  -- The script of a work, and the replies that it has.
+  abbrev pub script_in : ScriptWork H → List Sentence
+  script_in work = map sentence_of work.script.items
+
+  abbrev pub replies_in : ScriptWork H → List Reply
+  replies_in work = work.replies.items
+
+  -- What is known of the files of a session, counted from 1: they are as its own shelf tells them.
+  abbrev pub files_of_works : (H → ShelfTold) → List (ScriptWork H) → ScriptWork H → ℕ → FileClaim
+  files_of_works told works none session = files_told (told (slice_index_or works (session - 1) none).shelf)
+
+  -- There is one work for each session, by its number, and a round follows after so many commits of each.
+  pub record AreOfSessions (sessions every : ℕ) (works : List (ScriptWork H)) : Type 0 where
+    pub as_many : length works ≡ sessions
+    pub numbers : (k : ℕ) (d : ScriptWork H) → k < sessions
+        → (slice_index_or works k d).player.session.number ≡ 1 + k
+    pub rounds : (k : ℕ) (d : ScriptWork H) → k < sessions → every_of (slice_index_or works k d).player.session ≡ every
+
+  -- Each was played to its end.
+  abbrev pub AreWhole : ℕ → List (ScriptWork H) → Type 0
+  AreWhole sessions works = (k : ℕ) (d : ScriptWork H) → k < sessions → (slice_index_or works k d).whole ≡ true
+
+-- A history is on record with these scripts and replies, and of the files of each session this is known.
+pub record IsOnRecord (IsFile : ℕ → FileClaim) (every : ℕ) (scripts : List (List Sentence))
+    (replies : List (List Reply)) (o : Opening) (log : List CoreEntry) : Type 0 where
+  pub events : List CoreEvent
+  pub are : AreEventsOf (IsEntryEvent FitsShard CoreShardStands ShardAnswerSays o) log events
+  pub played : IsPlayedRun IsFile every scripts replies o events

@@ -1,0 +1,46 @@
+//! The law of scripts that were played on threads.
+ghost use Rattle.std.specs.Prelude.{◌≡◌, ℕ, true, List, map};
+ghost use Rattle.core_events.specs.Events.{Opening};
+ghost use Rattle.core_program.specs.CoreFits.{OpensCells};
+ghost use Rattle.core_scripts.specs.ScriptWorks.{HasPlayedOut};
+ghost use Rattle.core_scripts.specs.declared.work.ScriptWork.{ScriptWork};
+ghost use Rattle.cube_core.specs.declared.cell.CoreCell.{CoreCell};
+ghost use Rattle.cube_rounds.specs.Stands.{Kept};
+ghost use Rattle.kept_data.specs.KeptFiles.{IsKeptByFile};
+ghost use Rattle.linked_shards.specs.CellShards.{CoreShardStands};
+ghost use Rattle.linked_shards.specs.declared.cell.CoreShard.{CoreShard};
+ghost use Rattle.opened_core.specs.Openings.{AreCellsOver, OpenOver};
+ghost use Rattle.shard_events.specs.ShardsInRuns.{FitsShard, ShardAnswerSays};
+ghost use Rattle.threaded_core.specs.RanCores.{HasRunOnThreads};
+ghost use Rattle.threaded_core.specs.declared.cores.RanCore.{RanCore};
+ghost use Rattle.threaded_scripts.specs.ScriptsOnThreads.{AreOfSessions, AreWhole, IsOnRecord, files_of_works, replies_in, script_in};
+
+use core_scripts::FromShelf;
+use flush_loop::MakesRounds;
+use linked_shards::CoreShard;
+use opened_callers::an_opened_core_knows_its_callers;
+use opened_rows::an_opened_core_opens_with_its_cubes;
+use outside::Shelf;
+use scripted_ends::scripts_end_in_a_run;
+
+/// Where a core over what a file keeps ran on threads, the works of its sessions began, and each was played to its end,
+/// then, however a run opens with the core's cells, the one history of all calls is on record with the scripts of all
+/// sessions: its journal is a legal merge of the scripts, and its text is that of the replies and of the journal. The
+/// files of each session are as its own shelf tells them.
+pub fn scripts_on_threads_end_in_a_run<H: Shelf, M: MakesRounds<CoreShard>>()
+    ensures { (kept : Kept) (shards sessions every : ℕ) (cells : List (CoreCell CoreShard))
+        (works : List (ScriptWork H)) (none : ScriptWork H) (maker : M)
+        (ran : RanCore (ScriptWork H) M) → IsKeptByFile kept
+        → AreCellsOver kept shards sessions cells → OpenOver kept shards sessions cells
+        → AreOfSessions sessions every works
+        → (h : HasRunOnThreads (HasPlayedOut H.told H.fault_count H.absence_count) M.serves
+        M.has_kept M.becomes shards sessions cells works maker ran)
+        → ran.began ≡ true → AreWhole sessions ran.sessions.items → (o : Opening)
+        → OpensCells FitsShard CoreShardStands ShardAnswerSays o cells h.log
+        → IsOnRecord (files_of_works H.told works none) every (map script_in works)
+        (map replies_in ran.sessions.items) o h.log }
+{
+    an_opened_core_knows_its_callers();
+    an_opened_core_opens_with_its_cubes();
+    scripts_end_in_a_run::<CoreShard, FromShelf<H>>();
+}
