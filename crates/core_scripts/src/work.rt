@@ -55,6 +55,7 @@ impl<H: Shelf + Drop> ScriptWork<H> {
     ) -> Result<ScriptWork<H>, AllocError>
         requires few { length script.items ≤ MOST_STATEMENTS }
         requires proper { AllByRecursion IsProperSaid script.items }
+        ensures size { IfOk result (λ w. w.size ≡ size) }
         ensures number { IfOk result (λ w. w.player.session.number ≡ number) }
         ensures every { IfOk result (λ w. w.player.session.round_every ≡ round_every) }
         ensures script { IfOk result (λ w. w.script ≡ script) }

@@ -1,1 +1,2 @@
 pub mod ScriptsOnThreads
+pub mod GivenScripts
