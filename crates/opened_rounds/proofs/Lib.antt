@@ -1,0 +1,2 @@
+pub mod CountedNames
+pub mod KeptInRuns
