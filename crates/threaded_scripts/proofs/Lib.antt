@@ -1,1 +1,2 @@
 pub mod PlayedWorks
+pub mod BegunWorks

@@ -17,7 +17,7 @@ use Rattle.scripted_pasts.specs.Performed.{every_of}
 use Rattle.shard_events.specs.ShardsInRuns.{FitsShard, ShardAnswerSays}
 use Rattle.threaded_callers.specs.Ends.{EndsAs}
 use Rattle.threaded_core.specs.CallerEnds.{EndsBy}
-use Rattle.threaded_scripts.specs.ScriptsOnThreads.{AreOfSessions, AreWhole, files_of_works, replies_in, script_in}
+use Rattle.threaded_scripts.specs.ScriptsOnThreads.{AreOfSessions, AreShelvesOf, AreWhole, files_of_shelves, replies_in, script_in}
 use Rattle.turn_board.specs.History.{of_caller}
 
 -- ---- what stands in a list for a session
@@ -27,6 +27,12 @@ mapped-at : {X Y : Type 0} (f : X → List Y) (xs : List X) (k : ℕ) (d : X) �
 mapped-at f [] k d lt = absurd (omega (arith, lt))
 mapped-at f (x ∷ xs) zero d lt = refl
 mapped-at f (x ∷ xs) (suc k) d lt = mapped-at f xs k d (omega (arith, lt))
+
+-- The element at a place of a list.
+pub element-at : {X : Type 0} (xs : List X) (k : ℕ) → k < length xs → X
+element-at [] k lt = absurd (omega (arith, lt))
+element-at (x ∷ xs) zero lt = x
+element-at (x ∷ xs) (suc k) lt = element-at xs k (omega (arith, lt))
 
 length-mapped : {X Y : Type 0} (f : X → Y) (xs : List X) → length (map f xs) ≡ length xs
 length-mapped f [] = refl
@@ -62,8 +68,8 @@ module _ {H : Type 0} (told : H → ShelfTold) (fault_count absence_count : H �
         ends = p.ends;
       }
 
-  module _ (sessions every : ℕ) (works after : List (ScriptWork H)) (none : ScriptWork H) (o : Opening)
-      (same : o.sessions ≡ sessions) (are : AreOfSessions sessions every works) (as_many : length after ≡ sessions)
+  module _ (sessions every : ℕ) (works after : List (ScriptWork H)) (shelves : ℕ → H) (o : Opening)
+      (same : o.sessions ≡ sessions) (are : AreOfSessions sessions every works) (tells : AreShelvesOf sessions works shelves) (as_many : length after ≡ sessions)
       (clients : (caller : ℕ) → caller ≤ sessions
       → IsClientOf FitsShard CoreShardStands ShardAnswerSays cells caller caller) (began : Bool)
       (begun : began ≡ true) (played : List CoreEntry) (whole : AreWhole sessions after)
@@ -71,7 +77,7 @@ module _ {H : Type 0} (told : H → ShelfTold) (fault_count absence_count : H �
       → EndsBy (HasPlayedOut told fault_count absence_count) cells played log began (1 + k) (slice_index_or works k d)
       (slice_index_or after k d)) where
     of-work : (session : ℕ) → IsSession o session
-        → HasPlayedToTheEnd FitsShard CoreShardStands ShardAnswerSays cells (files_of_works told works none session)
+        → HasPlayedToTheEnd FitsShard CoreShardStands ShardAnswerSays cells (files_of_shelves told shelves session)
         every session (of_session (map script_in works) session) (of_session (map replies_in after) session) log
     of-work session is =
         let first = is.first in
@@ -80,19 +86,23 @@ module _ {H : Type 0} (told : H → ShelfTold) (fault_count absence_count : H �
         let k = session - 1 in
         let lt : k < sessions = omega (arith, first, last, same) in
         let back : 1 + k ≡ session = omega (arith, first) in
-        let before = slice_index_or works k none in
-        let then = slice_index_or after k none in
-        let script = mapped-at script_in works k none (omega (arith, lt, many)) in
-        let replies = mapped-at replies_in after k none (omega (arith, lt, as_many)) in
-        coe 1 0 (i. HasPlayedToTheEnd FitsShard CoreShardStands ShardAnswerSays cells (files_told (told before.shelf))
+        let d = element-at works k (omega (arith, lt, many)) in
+        let before = slice_index_or works k d in
+        let then = slice_index_or after k d in
+        let script = mapped-at script_in works k d (omega (arith, lt, many)) in
+        let replies = mapped-at replies_in after k d (omega (arith, lt, as_many)) in
+        let shelf : before.shelf ≡ shelves session =
+        sym (tells k d lt) ∙ ap shelves back
+        in
+        coe 1 0 (i. HasPlayedToTheEnd FitsShard CoreShardStands ShardAnswerSays cells (files_of_shelves told shelves session)
         every session (script i) (replies i) log)
-        (coe 0 1 (i. HasPlayedToTheEnd FitsShard CoreShardStands ShardAnswerSays cells (files_told (told before.shelf))
+        (coe 0 1 (i. HasPlayedToTheEnd FitsShard CoreShardStands ShardAnswerSays cells (files_told (told (shelf i)))
         every (back i) (script_in before) (replies_in then) log)
         (played-out (1 + k) (1 + k) every before then began (clients (1 + k) (omega (arith, lt))) begun
-        (plays k none lt).ends (whole k none lt) (are.numbers k none lt) (are.rounds k none lt)))
+        (plays k d lt).ends (whole k d lt) (are.numbers k d lt) (are.rounds k d lt)))
 
     pub all-played : HaveAllPlayed FitsShard CoreShardStands ShardAnswerSays cells o log
-        (files_of_works told works none) every (map script_in works) (map replies_in after)
+        (files_of_shelves told shelves) every (map script_in works) (map replies_in after)
     all-played = record {
       as_many_scripts = length-mapped script_in works ∙ are.as_many ∙ sym same;
       as_many_replies = length-mapped replies_in after ∙ as_many ∙ sym same;

@@ -1,6 +1,6 @@
 -- What the sessions of a run are given, the works that they then have, and the run on record.
 -- Source: this project's own.
-use Rattle.std.specs.Prelude.{◌≡◌, ℕ, ◌+◌, ◌-◌, ◌≤◌, true, List, [], ◌∷◌, length, map, Option, slice_index_or, unwrap_or, vec_capacity}
+use Rattle.std.specs.Prelude.{◌≡◌, ℕ, ◌+◌, ◌<◌, ◌≤◌, true, List, [], ◌∷◌, length, map, Option, slice_index_or, unwrap_or, vec_capacity}
 use Rattle.std.specs.List.{AllByRecursion}
 use Rattle.core_events.specs.Events.{Opening}
 use Rattle.core_program.specs.CoreFits.{OpensCells}
@@ -8,26 +8,23 @@ use Rattle.core_program.specs.declared.size.CoreSize.{CoreSize}
 use Rattle.core_scripts.specs.PlayedWhole.{MayPlay}
 use Rattle.core_scripts.specs.PlayingSessions.{IsProperSaid}
 use Rattle.core_scripts.specs.ScriptWorks.{HasPlayedOut}
-use Rattle.core_scripts.specs.ToldFiles.{ShelfTold, files_told}
+use Rattle.core_scripts.specs.ToldFiles.{ShelfTold}
 use Rattle.core_scripts.specs.declared.work.ScriptWork.{ScriptWork}
 use Rattle.core_watches.specs.BoundReaders.{OpenWithRowsOfCubes}
-use Rattle.cube_core.specs.declared.cell.CoreCell.{CoreCell}
 use Rattle.cube_language.specs.declared.piece.TheConstants.{MOST_STATEMENTS}
 use Rattle.cube_rounds.specs.Stands.{Kept}
 use Rattle.cube_run.specs.RunRecords.{Sentence}
 use Rattle.flush_loop.specs.MadeRounds.{KeptClaim}
 use Rattle.kept_data.specs.KeptFiles.{IsKeptByFile}
 use Rattle.linked_shards.specs.CellShards.{CoreShardStands}
-use Rattle.linked_shards.specs.declared.cell.CoreShard.{CoreShard}
 use Rattle.opened_core.specs.Openings.{AreCellsOver, OpenOver}
 use Rattle.run_threads.specs.CoreWorks.{OpeningCells}
 use Rattle.script_sentences.specs.Sentences.{sentence_of}
-use Rattle.scripted_pasts.specs.PlayedScripts.{FileClaim}
 use Rattle.scripted_pasts.specs.Served.{IsServed}
 use Rattle.shard_events.specs.ShardsInRuns.{FitsShard, ShardAnswerSays}
 use Rattle.threaded_core.specs.RanCores.{HasRunOnThreads}
 use Rattle.threaded_core.specs.declared.cores.RanCore.{RanCore}
-use Rattle.threaded_scripts.specs.ScriptsOnThreads.{AreWhole, IsOnRecord, replies_in}
+use Rattle.threaded_scripts.specs.ScriptsOnThreads.{AreWhole, IsOnRecord, files_of_shelves, replies_in}
 use Rattle.threaded_scripts.specs.declared.inputs.SessionInput.{SessionInput}
 
 -- The cells of a core that was opened over what a file keeps.
@@ -46,9 +43,10 @@ module _ {H : Type 0} where
   abbrev pub script_given : SessionInput H → List Sentence
   script_given input = map sentence_of input.script.items
 
-  -- The files of a session, counted from 1, are as its own shelf tells them.
-  abbrev pub files_given : (H → ShelfTold) → List (SessionInput H) → SessionInput H → ℕ → FileClaim
-  files_given told inputs none session = files_told (told (slice_index_or inputs (session - 1) none).shelf)
+  -- These are the shelves that the sessions are given, counted from 1.
+  abbrev pub AreShelvesGiven : ℕ → List (SessionInput H) → (ℕ → H) → Type 0
+  AreShelvesGiven sessions inputs shelves =
+      (k : ℕ) (d : SessionInput H) → k < sessions → shelves (1 + k) ≡ (slice_index_or inputs k d).shelf
 
   -- The work of the session of a number, by what it is given. It may begin on a core that serves it.
   pub record IsWorkOf (size : CoreSize) (round_every : Option ℕ) (number : ℕ) (input : SessionInput H)
@@ -82,7 +80,8 @@ module _ {H M : Type 0} (told : H → ShelfTold) (fault_count absence_count : H 
         size.sessions cells works maker ran
     -- Where they began and each was played to its end, then, however a run opens with the cells, the one history is on
     -- record with their scripts and replies.
-    pub on_record : ran.began ≡ true → AreWhole size.sessions ran.sessions.items → (none : SessionInput H)
-        (o : Opening) → OpensCells FitsShard CoreShardStands ShardAnswerSays o cells run.log
-        → IsOnRecord (files_given told inputs none) (unwrap_or round_every 0) (map script_given inputs)
+    pub on_record : ran.began ≡ true → AreWhole size.sessions ran.sessions.items → (shelves : ℕ → H)
+        → AreShelvesGiven size.sessions inputs shelves → (o : Opening)
+        → OpensCells FitsShard CoreShardStands ShardAnswerSays o cells run.log
+        → IsOnRecord (files_of_shelves told shelves) (unwrap_or round_every 0) (map script_given inputs)
         (map replies_in ran.sessions.items) o run.log

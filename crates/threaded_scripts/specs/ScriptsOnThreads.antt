@@ -1,6 +1,6 @@
 -- Works of sessions that play their scripts, one for each, and the run on record that they then have.
 -- Source: this project's own; linearizability (Herlihy and Wing, 1990) makes one list of the calls of all threads.
-use Rattle.std.specs.Prelude.{◌≡◌, ℕ, ◌+◌, ◌-◌, ◌<◌, true, List, length, map, slice_index_or}
+use Rattle.std.specs.Prelude.{◌≡◌, ℕ, ◌+◌, ◌<◌, true, List, length, map, slice_index_or}
 use Rattle.core_events.specs.Events.{Opening, CoreEvent}
 use Rattle.core_program.specs.CoreFits.{CoreEntry}
 use Rattle.core_scripts.specs.ToldFiles.{ShelfTold, files_told}
@@ -25,8 +25,13 @@ module _ {H : Type 0} where
   replies_in work = work.replies.items
 
   -- What is known of the files of a session, counted from 1: they are as its own shelf tells them.
-  abbrev pub files_of_works : (H → ShelfTold) → List (ScriptWork H) → ScriptWork H → ℕ → FileClaim
-  files_of_works told works none session = files_told (told (slice_index_or works (session - 1) none).shelf)
+  abbrev pub files_of_shelves : (H → ShelfTold) → (ℕ → H) → ℕ → FileClaim
+  files_of_shelves told shelves session = files_told (told (shelves session))
+
+  -- These are the shelves of the works.
+  abbrev pub AreShelvesOf : ℕ → List (ScriptWork H) → (ℕ → H) → Type 0
+  AreShelvesOf sessions works shelves =
+      (k : ℕ) (d : ScriptWork H) → k < sessions → shelves (1 + k) ≡ (slice_index_or works k d).shelf
 
   -- There is one work for each session, by its number, and a round follows after so many commits of each.
   pub record AreOfSessions (sessions every : ℕ) (works : List (ScriptWork H)) : Type 0 where

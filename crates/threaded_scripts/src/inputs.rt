@@ -31,14 +31,7 @@ pub(crate) fn works_of<H: Shelf + Drop>(
     let mut works = Vec::with_capacity(alloc, inputs.len())?;
     'inputs: for input in inputs {
         let number = works.len() as u32 + 1;
-        let work = ScriptWork::new(
-            alloc,
-            size,
-            number,
-            round_every,
-            input.script,
-            input.shelf,
-        )?;
+        let work = ScriptWork::new(alloc, size, number, round_every, input.script, input.shelf)?;
         works.push(work)?;
     }
     Ok(works)

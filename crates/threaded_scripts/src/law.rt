@@ -13,7 +13,7 @@ ghost use Rattle.opened_core.specs.Openings.{AreCellsOver, OpenOver};
 ghost use Rattle.shard_events.specs.ShardsInRuns.{FitsShard, ShardAnswerSays};
 ghost use Rattle.threaded_core.specs.RanCores.{HasRunOnThreads};
 ghost use Rattle.threaded_core.specs.declared.cores.RanCore.{RanCore};
-ghost use Rattle.threaded_scripts.specs.ScriptsOnThreads.{AreOfSessions, AreWhole, IsOnRecord, files_of_works, replies_in, script_in};
+ghost use Rattle.threaded_scripts.specs.ScriptsOnThreads.{AreOfSessions, AreShelvesOf, AreWhole, IsOnRecord, files_of_shelves, replies_in, script_in};
 
 use core_scripts::FromShelf;
 use flush_loop::MakesRounds;
@@ -29,15 +29,15 @@ use scripted_ends::scripts_end_in_a_run;
 /// files of each session are as its own shelf tells them.
 pub fn scripts_on_threads_end_in_a_run<H: Shelf, M: MakesRounds<CoreShard>>()
     ensures { (kept : Kept) (shards sessions every : ℕ) (cells : List (CoreCell CoreShard))
-        (works : List (ScriptWork H)) (none : ScriptWork H) (maker : M)
+        (works : List (ScriptWork H)) (shelves : ℕ → H) (maker : M)
         (ran : RanCore (ScriptWork H) M) → IsKeptByFile kept
         → AreCellsOver kept shards sessions cells → OpenOver kept shards sessions cells
-        → AreOfSessions sessions every works
+        → AreOfSessions sessions every works → AreShelvesOf sessions works shelves
         → (h : HasRunOnThreads (HasPlayedOut H.told H.fault_count H.absence_count) M.serves
         M.has_kept M.becomes shards sessions cells works maker ran)
         → ran.began ≡ true → AreWhole sessions ran.sessions.items → (o : Opening)
         → OpensCells FitsShard CoreShardStands ShardAnswerSays o cells h.log
-        → IsOnRecord (files_of_works H.told works none) every (map script_in works)
+        → IsOnRecord (files_of_shelves H.told shelves) every (map script_in works)
         (map replies_in ran.sessions.items) o h.log }
 {
     an_opened_core_knows_its_callers();

@@ -63,6 +63,13 @@ pub fn play_on_threads<
     };
     match run_core(rt, alloc, starter, core, gate) {
         Ok(ran) => Ok(ran),
-        Err(_) => Err(AllocError),
+        Err(
+            ReadyCore {
+                size: _,
+                cells: _cells,
+                sessions: _sessions,
+                maker: _maker,
+            },
+        ) => Err(AllocError),
     }
 }

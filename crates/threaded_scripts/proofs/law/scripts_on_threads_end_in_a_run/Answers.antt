@@ -1,4 +1,4 @@
-use Rattle.std.proofs.Common.{◌-◌, map, slice_index_or}
+use Rattle.std.proofs.Common.{map}
 use Rattle.opened_callers.proofs.ToldSizes.{sessions-told}
 use Rattle.linked_shards.specs.CellShards.{CoreShardStands}
 use Rattle.scripted_ends.specs.PlayedHistories.{IsRunOfHistory}
@@ -8,7 +8,7 @@ use Rattle.threaded_scripts.specs.ScriptsOnThreads.{replies_in, script_in}
 use Rattle.threaded_scripts.proofs.law.scripts_on_threads_end_in_a_run.Goals as goal
 
 pub returns : goal.returns
-returns g c = λ kept shards sessions every cells works none maker ran by_file over opens are h begun whole o opened.
+returns g c = λ kept shards sessions every cells works shelves maker ran by_file over opens are tells h begun whole o opened.
     let told = g.H.Shelf.told in
     let left = h.runs o opened in
     let events = left.to.es in
@@ -24,10 +24,10 @@ returns g c = λ kept shards sessions every cells works none maker ran by_file o
       events = events;
       are = left.to.events;
       played =
-          c.scripts_end_in_a_run.ensures (λ session. record { shelf = (slice_index_or works (session - 1) none).shelf })
+          c.scripts_end_in_a_run.ensures (λ session. record { shelf = shelves session })
           cells o h.log events every (map script_in works) (map replies_in ran.sessions.items) history
           (all-played told g.H.Shelf.fault_count g.H.Shelf.absence_count cells h.log sessions every works
-          ran.sessions.items none o (sessions-told kept shards sessions cells over o h.log opened) are h.order.as_many
+          ran.sessions.items shelves o (sessions-told kept shards sessions cells over o h.log opened) are tells h.order.as_many
           (λ caller low.
           c.an_opened_core_knows_its_callers.ensures.client kept shards sessions caller cells over opens low)
           ran.began begun h.order.played whole h.order.plays);
