@@ -11,6 +11,7 @@ use threaded_callers::ThreadStarter;
 
 /// A core that may run: the cells with which it opens, the work of each session, and what makes its
 /// rounds.
+#[derive(Drop)]
 pub struct ReadyCore<W, M> {
     pub size: CoreSize,
     pub cells: Vec<CoreCell<CoreShard>>,
@@ -20,6 +21,7 @@ pub struct ReadyCore<W, M> {
 
 /// What the cells of a core held once a run was over: the desk with the journal, the names, and the
 /// shards by their numbers.
+#[derive(Drop)]
 pub struct CoreLeft {
     pub desk: Desk,
     pub names: Dicts,
@@ -27,6 +29,7 @@ pub struct CoreLeft {
 }
 
 /// A core that has run.
+#[derive(Drop)]
 pub struct RanCore<W, M> {
     pub left: CoreLeft,
     pub sessions: Vec<W>,
