@@ -62,8 +62,9 @@ module _ {M : Type 0} (serves : M → OpeningCells → Type 0) (has_kept : M →
 module _ {W M : Type 0} (done : SessionDone W) (serves : M → OpeningCells → Type 0) (has_kept : M → KeptClaim)
     (becomes : M → M → Type 0) (shards sessions : ℕ) (cells : OpeningCells) (works : List W) (maker : M)
     (ran : RanCore W M) where
-  -- First the sessions ended. Then main closed the flusher's mail, and the flusher ended. Then main had the shards
-  -- purge, where the sessions had begun, and closed their mails.
+  -- First the sessions ended, and then main closed the flusher's mail. The flusher ended, and then main had the shards
+  -- purge, where the sessions had begun, and closed their mails. The history stood at `played` once the sessions had
+  -- ended, and at `flushed` once the flusher had.
   pub record EndInOrder (log : List CoreEntry) : Type 0 where
     pub played : List CoreEntry
     pub flushed : List CoreEntry
