@@ -1,2 +1,3 @@
 pub mod PlayedWorks
 pub mod BegunWorks
+pub mod ReadScripts

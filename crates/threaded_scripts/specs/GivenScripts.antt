@@ -1,6 +1,7 @@
 -- What the sessions of a run are given, the works that they then have, and the run on record.
 -- Source: this project's own.
 use Rattle.std.specs.Prelude.{◌≡◌, ℕ, ◌+◌, ◌<◌, ◌≤◌, true, List, [], ◌∷◌, length, map, Option, slice_index_or, unwrap_or, vec_capacity}
+use Rattle.std.specs.Global.{Vec}
 use Rattle.std.specs.List.{AllByRecursion}
 use Rattle.core_events.specs.Events.{Opening}
 use Rattle.core_program.specs.CoreFits.{OpensCells}
@@ -20,6 +21,7 @@ use Rattle.linked_shards.specs.CellShards.{CoreShardStands}
 use Rattle.opened_core.specs.Openings.{AreCellsOver, OpenOver}
 use Rattle.run_threads.specs.CoreWorks.{OpeningCells}
 use Rattle.script_sentences.specs.Sentences.{sentence_of}
+use Rattle.script_sentences.specs.declared.said.Said.{Said}
 use Rattle.scripted_pasts.specs.Served.{IsServed}
 use Rattle.shard_events.specs.ShardsInRuns.{FitsShard, ShardAnswerSays}
 use Rattle.threaded_core.specs.RanCores.{HasRunOnThreads}
@@ -34,11 +36,15 @@ pub record AreCellsOfCore (shards sessions : ℕ) (cells : OpeningCells) : Type 
   pub over : AreCellsOver kept shards sessions cells
   pub opens : OpenOver kept shards sessions cells
 
+-- A script of no more texts than may be, each of which says what has the form of a statement, or no statement.
+pub record MayBeSaid (script : Vec Said) : Type 0 where
+  pub few : length script.items ≤ MOST_STATEMENTS
+  pub proper : AllByRecursion IsProperSaid script.items
+
 module _ {H : Type 0} where
-  -- A script of no more texts than may be, each of which says what has the form of a statement, or no statement.
-  pub record MayBeGiven (input : SessionInput H) : Type 0 where
-    pub few : length input.script.items ≤ MOST_STATEMENTS
-    pub proper : AllByRecursion IsProperSaid input.script.items
+  -- A session may be given such a script.
+  abbrev pub MayBeGiven : SessionInput H → Type 0
+  MayBeGiven input = MayBeSaid input.script
 
   abbrev pub script_given : SessionInput H → List Sentence
   script_given input = map sentence_of input.script.items

@@ -1,0 +1,5 @@
+//! Scripts on threads, tried.
+#![tactic(auto)]
+
+#[cfg(test)]
+mod runs;
