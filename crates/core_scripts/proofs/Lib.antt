@@ -4,3 +4,6 @@ pub mod LoadsPlayed
 pub mod RefusedOn
 pub mod PlayedTexts
 pub mod FreshSessions
+pub mod PlayedWorks
+pub mod BegunWorks
+pub mod ReadScripts

@@ -3,3 +3,5 @@ pub mod CountedLoads
 pub mod PlayingSessions
 pub mod PlayedWhole
 pub mod ScriptWorks
+pub mod ScriptsOnThreads
+pub mod GivenScripts

@@ -15,7 +15,7 @@ use std::thread::Threads;
 use cube_values::Text;
 use store_reading::Kept;
 use threaded_callers::ThreadStarter;
-use threaded_scripts::{SessionInput, play_on_threads};
+use core_scripts::{SessionInput, play_on_threads};
 
 const VISITS_CUBES: &[u8] = b"# Visits to a site: where from, who, on which day of the year, in which hour.\n# Hours are kept in ranges of six, so a quarter of a day can be deleted, and a single hour cannot.\ncube visits\ndim region text 8 1\ndim gender text 4 1\ndim day int 366 1\ndim hour int 24 6\nmetric likes\nmetric comments\n";
 const VISITS_SQL: &[u8] = b"-- Two days of visits are loaded and looked at, and the first of them is deleted.\nLOAD visits FROM 'monday.csv' REJECT 0;\nLOAD visits FROM 'tuesday.csv' REJECT 5;\nSELECT day, COUNT(*), SUM(likes) FROM visits GROUP BY day ORDER BY day;\nSELECT region, SUM(likes), AVG(comments) FROM visits GROUP BY region ORDER BY SUM(likes) DESC, region LIMIT 3;\nSELECT region, gender, MIN(likes), MAX(likes), COUNT(*) FROM visits\n  WHERE day = 33 AND hour BETWEEN 6 AND 17 GROUP BY region, gender\n  HAVING COUNT(*) BETWEEN 8 AND 1000 ORDER BY COUNT(*) DESC, region, gender;\nDELETE FROM visits WHERE day = 32;\nSELECT day, COUNT(*), SUM(likes) FROM visits GROUP BY day ORDER BY day;\nBEGIN;\nINSERT INTO visits VALUES ('Oslo', 'F', 34, 9, 12, 3), ('Quito', 'X', 34, 23, 41, 0);\nDELETE FROM visits WHERE day = 33 AND hour IN (0, 1, 2, 3, 4, 5);\nSELECT day, COUNT(*), SUM(likes) FROM visits GROUP BY day ORDER BY day;\nCOMMIT;\nSELECT COUNT(*), SUM(likes), SUM(comments) FROM visits;\nFLUSH;\nSHOW EPOCHS;\n";

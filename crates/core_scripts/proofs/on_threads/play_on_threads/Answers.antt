@@ -4,9 +4,9 @@ use Rattle.core_scripts.specs.declared.work.ScriptWork.{ScriptWork}
 use Rattle.cube_core.specs.declared.cell.CoreCell.{CoreCell}
 use Rattle.linked_shards.specs.declared.cell.CoreShard.{CoreShard}
 use Rattle.threaded_core.specs.RanCores.{MayRun}
-use Rattle.threaded_scripts.proofs.BegunWorks.{scripts-of-works, shelves-of-works, works-may-begin, works-of-sessions}
-use Rattle.threaded_scripts.specs.ScriptsOnThreads.{IsOnRecord, files_of_shelves, replies_in}
-use Rattle.threaded_scripts.proofs.playing.play_on_threads.Goals as goal
+use Rattle.core_scripts.proofs.BegunWorks.{scripts-of-works, shelves-of-works, works-may-begin, works-of-sessions}
+use Rattle.core_scripts.specs.ScriptsOnThreads.{IsOnRecord, files_of_shelves, replies_in}
+use Rattle.core_scripts.proofs.on_threads.play_on_threads.Goals as goal
 
 pub run_core-requires-clause-may : goal.run_core-requires-clause-may
 run_core-requires-clause-may g c =

@@ -26,8 +26,8 @@ use Rattle.scripted_pasts.specs.Served.{IsServed}
 use Rattle.shard_events.specs.ShardsInRuns.{FitsShard, ShardAnswerSays}
 use Rattle.threaded_core.specs.RanCores.{HasRunOnThreads}
 use Rattle.threaded_core.specs.declared.cores.RanCore.{RanCore}
-use Rattle.threaded_scripts.specs.ScriptsOnThreads.{AreWhole, IsOnRecord, files_of_shelves, replies_in}
-use Rattle.threaded_scripts.specs.declared.inputs.SessionInput.{SessionInput}
+use Rattle.core_scripts.specs.ScriptsOnThreads.{AreWhole, IsOnRecord, files_of_shelves, replies_in}
+use Rattle.core_scripts.specs.declared.inputs.SessionInput.{SessionInput}
 
 -- The cells of a core that was opened over what a file keeps.
 pub record AreCellsOfCore (shards sessions : ℕ) (cells : OpeningCells) : Type 0 where

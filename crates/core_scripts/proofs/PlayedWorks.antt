@@ -17,7 +17,7 @@ use Rattle.scripted_pasts.specs.Performed.{every_of}
 use Rattle.shard_events.specs.ShardsInRuns.{FitsShard, ShardAnswerSays}
 use Rattle.threaded_callers.specs.Ends.{EndsAs}
 use Rattle.threaded_core.specs.CallerEnds.{EndsBy}
-use Rattle.threaded_scripts.specs.ScriptsOnThreads.{AreOfSessions, AreShelvesOf, AreWhole, files_of_shelves, replies_in, script_in}
+use Rattle.core_scripts.specs.ScriptsOnThreads.{AreOfSessions, AreShelvesOf, AreWhole, files_of_shelves, replies_in, script_in}
 use Rattle.turn_board.specs.History.{of_caller}
 
 -- ---- what stands in a list for a session

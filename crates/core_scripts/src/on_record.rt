@@ -13,9 +13,9 @@ ghost use Rattle.opened_core.specs.Openings.{AreCellsOver, OpenOver};
 ghost use Rattle.shard_events.specs.ShardsInRuns.{FitsShard, ShardAnswerSays};
 ghost use Rattle.threaded_core.specs.RanCores.{HasRunOnThreads};
 ghost use Rattle.threaded_core.specs.declared.cores.RanCore.{RanCore};
-ghost use Rattle.threaded_scripts.specs.ScriptsOnThreads.{AreOfSessions, AreShelvesOf, AreWhole, IsOnRecord, files_of_shelves, replies_in, script_in};
+ghost use Rattle.core_scripts.specs.ScriptsOnThreads.{AreOfSessions, AreShelvesOf, AreWhole, IsOnRecord, files_of_shelves, replies_in, script_in};
 
-use core_scripts::FromShelf;
+use crate::told_files::FromShelf;
 use flush_loop::MakesRounds;
 use linked_shards::CoreShard;
 use opened_callers::an_opened_core_knows_its_callers;

@@ -1,10 +1,10 @@
 use Rattle.std.proofs.Common.{◌≡◌, ◌∙◌, ◌+◌, List, [], ◌∷◌, ◌++◌, length, sym, ap, arith, append_assoc, length-append}
 use Rattle.std.specs.List.{AllByRecursion}
 use Rattle.std.specs.Vec.Iter.{into_iter_items}
-use Rattle.threaded_scripts.proofs.BegunWorks.{as-many-works, one-work-more}
-use Rattle.threaded_scripts.specs.GivenScripts.{AreWorksOf, IsWorkOf, MayBeGiven}
-use Rattle.threaded_scripts.specs.declared.inputs.SessionInput.{SessionInput}
-use Rattle.threaded_scripts.proofs.inputs.works_of.Goals as goal
+use Rattle.core_scripts.proofs.BegunWorks.{as-many-works, one-work-more}
+use Rattle.core_scripts.specs.GivenScripts.{AreWorksOf, IsWorkOf, MayBeGiven}
+use Rattle.core_scripts.specs.declared.inputs.SessionInput.{SessionInput}
+use Rattle.core_scripts.proofs.inputs.works_of.Goals as goal
 
 pub overflow_cast-number : goal.overflow_cast-number
 overflow_cast-number g c =

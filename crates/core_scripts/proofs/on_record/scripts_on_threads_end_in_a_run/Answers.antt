@@ -3,9 +3,9 @@ use Rattle.opened_callers.proofs.ToldSizes.{sessions-told}
 use Rattle.linked_shards.specs.CellShards.{CoreShardStands}
 use Rattle.scripted_ends.specs.PlayedHistories.{IsRunOfHistory}
 use Rattle.shard_events.specs.ShardsInRuns.{FitsShard, ShardAnswerSays}
-use Rattle.threaded_scripts.proofs.PlayedWorks.{all-played}
-use Rattle.threaded_scripts.specs.ScriptsOnThreads.{replies_in, script_in}
-use Rattle.threaded_scripts.proofs.law.scripts_on_threads_end_in_a_run.Goals as goal
+use Rattle.core_scripts.proofs.PlayedWorks.{all-played}
+use Rattle.core_scripts.specs.ScriptsOnThreads.{replies_in, script_in}
+use Rattle.core_scripts.proofs.on_record.scripts_on_threads_end_in_a_run.Goals as goal
 
 pub returns : goal.returns
 returns g c = λ kept shards sessions every cells works shelves maker ran by_file over opens are tells h begun whole o opened.

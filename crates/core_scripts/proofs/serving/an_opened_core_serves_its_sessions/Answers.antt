@@ -1,5 +1,5 @@
 use Rattle.std.proofs.Common.{arith}
-use Rattle.served_sessions.proofs.law.an_opened_core_serves_its_sessions.Goals as goal
+use Rattle.core_scripts.proofs.serving.an_opened_core_serves_its_sessions.Goals as goal
 
 pub returns-clause-served : goal.returns-clause-served
 returns-clause-served c = λ kept shards sessions session cells by_file over opens some first last.

@@ -11,9 +11,9 @@ use Rattle.script_sentences.specs.Sentences.{sentence_of}
 use Rattle.script_sentences.specs.declared.said.Said.{Said}
 use Rattle.scripted_pasts.specs.Served.{IsServed}
 use Rattle.std.specs.Global.{Vec}
-use Rattle.threaded_scripts.specs.GivenScripts.{AreShelvesGiven, AreWorksOf, IsWorkOf, script_given}
-use Rattle.threaded_scripts.specs.ScriptsOnThreads.{AreOfSessions, AreShelvesOf, script_in}
-use Rattle.threaded_scripts.specs.declared.inputs.SessionInput.{SessionInput}
+use Rattle.core_scripts.specs.GivenScripts.{AreShelvesGiven, AreWorksOf, IsWorkOf, script_given}
+use Rattle.core_scripts.specs.ScriptsOnThreads.{AreOfSessions, AreShelvesOf, script_in}
+use Rattle.core_scripts.specs.declared.inputs.SessionInput.{SessionInput}
 
 module _ {H : Type 0} (size : CoreSize) (round_every : Option ℕ) where
   Works : ℕ → List (SessionInput H) → List (ScriptWork H) → Type 0

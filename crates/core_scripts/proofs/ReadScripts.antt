@@ -11,7 +11,7 @@ use Rattle.run_inputs.specs.ReadInputs.{GivesSentences, script_files}
 use Rattle.script_sentences.specs.Sentences.{SaysInTurn, sentence_of}
 use Rattle.script_sentences.specs.declared.said.Said.{Said}
 use Rattle.script_sentences.specs.declared.said.Said.TheVariants as saying
-use Rattle.threaded_scripts.specs.GivenScripts.{MayBeSaid}
+use Rattle.core_scripts.specs.GivenScripts.{MayBeSaid}
 
 proper-said : (text : List ℕ) (said : Said) → IsSaidBy text (sentence_of said) → IsProperSaid said
 proper-said text (saying.Statement s) spells = spells.proper

@@ -1,10 +1,10 @@
 //! What sessions are given, and their works.
 ghost use Rattle.std.specs.Prelude.{◌≡◌, IfOk, length};
 ghost use Rattle.std.specs.List.{AllByRecursion};
-ghost use Rattle.threaded_scripts.specs.GivenScripts.{AreWorksOf, MayBeGiven};
+ghost use Rattle.core_scripts.specs.GivenScripts.{AreWorksOf, MayBeGiven};
 
+use crate::work::ScriptWork;
 use core_program::CoreSize;
-use core_scripts::ScriptWork;
 use outside::Shelf;
 use script_sentences::Said;
 use std::alloc::{AllocError, Global};

@@ -1,9 +1,9 @@
 use Rattle.std.proofs.Common.{◌≡◌, ◌++◌, List, length}
 use Rattle.std.specs.List.{AllByRecursion}
 use Rattle.std.specs.Vec.Iter.{into_iter_items, into_iter_len}
-use Rattle.threaded_scripts.specs.GivenScripts.{AreWorksOf, MayBeGiven}
-use Rattle.threaded_scripts.specs.declared.inputs.SessionInput.{SessionInput}
-use Rattle.threaded_scripts.proofs.inputs.works_of.Given as goal
+use Rattle.core_scripts.specs.GivenScripts.{AreWorksOf, MayBeGiven}
+use Rattle.core_scripts.specs.declared.inputs.SessionInput.{SessionInput}
+use Rattle.core_scripts.proofs.inputs.works_of.Given as goal
 
 abbrev pub invariant-inputs : goal.invariant-inputs
 invariant-inputs g l =

@@ -3,18 +3,18 @@ ghost use Rattle.std.specs.Prelude.{◌≡◌, ◌+◌, ◌≤◌, [], IfOk, IsT
 ghost use Rattle.std.specs.List.{AllByRecursion};
 ghost use Rattle.run_threads.specs.CoreWorks.{KeepsRounds};
 ghost use Rattle.threaded_callers.specs.Starts.{HaveThreads};
-ghost use Rattle.threaded_scripts.specs.GivenScripts.{AreCellsOfCore, HavePlayedOnThreads, MayBeGiven};
+ghost use Rattle.core_scripts.specs.GivenScripts.{AreCellsOfCore, HavePlayedOnThreads, MayBeGiven};
 
 use crate::inputs::{SessionInput, works_of};
-use crate::law::scripts_on_threads_end_in_a_run;
+use crate::on_record::scripts_on_threads_end_in_a_run;
+use crate::serving::an_opened_core_serves_its_sessions;
+use crate::work::ScriptWork;
 use core_program::CoreSize;
-use core_scripts::ScriptWork;
 use cube_core::CoreCell;
 use flush_loop::MakesRounds;
 use linked_shards::CoreShard;
 use outside::Shelf;
 use outside_disk::Gate;
-use served_sessions::an_opened_core_serves_its_sessions;
 use std::alloc::{AllocError, Global};
 use std::sync::Wait;
 use std::thread::Threads;

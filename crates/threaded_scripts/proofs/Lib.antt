@@ -1,3 +1,0 @@
-pub mod PlayedWorks
-pub mod BegunWorks
-pub mod ReadScripts

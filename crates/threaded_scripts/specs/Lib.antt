@@ -1,2 +1,0 @@
-pub mod ScriptsOnThreads
-pub mod GivenScripts
