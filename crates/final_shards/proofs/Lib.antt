@@ -1,0 +1,4 @@
+pub mod LeftEntries
+pub mod PurgedShards
+pub mod HeldRows
+pub mod RecordedRows

@@ -1,0 +1,2 @@
+pub mod PurgedBricks
+pub mod FinalShards
