@@ -216,7 +216,8 @@ cleared o number (e ∷ log) start es x y are run leads before =
     cleared o number log (are.0 ∷ start) es next.0 y are.2 run next.1 next.2
 
 pub cell-cleared : (o : Opening) (number epoch : ℕ) (log : List CoreEntry) (es : List CoreEvent)
-    (x y : CoreCell CoreShard) → AreEventsAfter (IsEntryEvent FitsShard CoreShardStands ShardAnswerSays o) [] log es → IsCoreRun o es
+    (x y : CoreCell CoreShard)
+    → AreEventsAfter (IsEntryEvent FitsShard CoreShardStands ShardAnswerSays o) [] log es → IsCoreRun o es
     → LeadsTo (CoreStep CoreShardStep) x (of_cell (cell_of_shard number) log) y → was_purged number es epoch ≡ true
     → CellHasNoMarksUpTo epoch y
 cell-cleared o number epoch log es x y are run leads p =

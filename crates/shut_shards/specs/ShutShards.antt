@@ -60,7 +60,7 @@ abbrev pub IsShardIn : List (CoreCell CoreShard) → ℕ → CoreShard → Type 
 IsShardIn cells number s = get_elem? cells (cell_of_shard number) ≡ some (cell.Shard s)
 
 -- Of a cube the shards in the cells hold rows that stand for these rows of values, each as often: each shard those of
--- its bricks, in the brick of their coordinates, and none of other bricks. What a shard holds of a brick is a parameter.
+-- its bricks, in the brick of their coordinates, and none of other bricks. What counts as held is a parameter.
 pub record ShardsHoldRowsFor (holds : ShardState → ℕ → ℕ → List CodedRow) (o : Opening)
     (cells : List (CoreCell CoreShard)) (d : Decl) (lists : List (List (List ℕ))) (cube : ℕ) (stored : List StoredRow)
     : Type 0 where

@@ -1,0 +1,4 @@
+pub mod QuietCallers
+pub mod MainEnds
+pub mod ThreadEnds
+pub mod RecordedEnds

@@ -1,0 +1,6 @@
+//! How a run on threads ends: with a purge of all shards up to the LSE that it leaves.
+#![tactic(auto)]
+
+mod law;
+
+pub use law::{runs_end_purged_up_to_lse, shards_end_with_the_record, shards_end_without_marks};
