@@ -1,4 +1,4 @@
--- Behind the last calls of the sessions and of the flusher the counters stay, so main reads those at which the run ends.
+-- Behind the last calls of the sessions and of the flusher the counters stay, so main reads those of the run's end.
 use Rattle.std.proofs.Common.{◌≡◌, ◌≢◌, ◌∙◌, ℕ, zero, eqb, Bool, true, false, true≢false, List, [], ◌∷◌, ◌++◌, length, get_or, cond, append_assoc, inl, inr, refl, sym, ap, arith, eq-eqb}
 use Rattle.std.proofs.lemmas.Bool.{eqb-false}
 use Rattle.std.proofs.lemmas.List.{append_cancel_left}
@@ -167,7 +167,8 @@ read-counters o counters (e ∷ log) more start es are run none own =
 
 -- ---- a history that is cut
 
-pub split : (o : Opening) (moment rest : List CoreEntry) (start es : List CoreEvent) → OfEntries o start (moment ++ rest) es
+pub split : (o : Opening) (moment rest : List CoreEntry) (start es : List CoreEvent)
+    → OfEntries o start (moment ++ rest) es
     → (before : List CoreEvent) × OfEntries o start moment before × OfEntries o before rest es
 split o [] rest start es are = (start, refl, are)
 split o (e ∷ moment) rest start es are =

@@ -1,5 +1,5 @@
--- How main ends a run on threads in which the sessions had begun: they have ended, and the flusher, and then main has all
--- shards purge.
+-- How main ends a run on threads in which the sessions had begun: they have ended, and the flusher, and then main has
+-- all shards purge.
 -- Source: AOSI (ICDE 2018), purge up to LSE; that main has the shards purge at the end of a run is this project's own.
 use Rattle.std.specs.Prelude.{◌≡◌, ℕ, ◌+◌, ◌≤◌, Bool, true, List, Some}
 use mathlib.Core.List.{IsPrefix}
@@ -44,7 +44,7 @@ StopsFlusher before after callers cells own =
 abbrev pub StopsWorkers : ClosingMain → ClosingMain → OpeningCells → Bool → List CoreEntry → List CoreEntry → Type 0
 StopsWorkers before after cells began own now = HasClosedShards before.size.shards began after.counters cells own now
 
--- A run on threads that main ended so: how it opens, the cells that it leaves, its history, and the events that this is.
+-- A run on threads that main ended so: how it opens, the cells that it leaves, its history, and the events of this.
 pub record IsEndedRun (o : Opening) (counters : Counters) (callers : ℕ) (opening cells : OpeningCells)
     (log : List CoreEntry) (es : List CoreEvent) : Type 0 where
   pub opens : OpensCells FitsShard CoreShardStands ShardAnswerSays o opening log

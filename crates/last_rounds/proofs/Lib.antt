@@ -1,0 +1,2 @@
+pub mod OpenCounters
+pub mod SavedRounds
