@@ -13,7 +13,7 @@ use Rattle.aosi_desk.specs.declared.answer.RoundEnd.TheVariants.{Safe, Lost}
 use Rattle.aosi_desk.specs.declared.cube.CubeAnswer.TheVariants.{Created, Exists, TooMany}
 use Rattle.aosi_desk.specs.declared.cube.CubeFound.TheVariants.{Found, Unknown}
 use Rattle.core_events.specs.Cells.{counters_of_run}
-use Rattle.core_events.specs.Clients.{ClientState, client_state, held_under, writer_at, reader_up_to}
+use Rattle.core_events.specs.Clients.{ClientState, client_state, writer_at, reader_up_to}
 use Rattle.core_events.specs.Events.{Opening, IsSession, OpenWrite, OpenRead, Commit, AbortEnd, CloseRead, TakeNote, CreateCube, FindCube, CubesFrom, CountersNow, RoundOpen, RoundClose, StoreFailed, ClientCall, OnDesk, OnNames, Post, Fetch, CloseMail, NoChange, CoreEvent, By, At}
 use Rattle.core_events.specs.Fitting.{FitsCall, IsNumberOf}
 use Rattle.core_events.specs.Groups.{has_number}
@@ -102,7 +102,7 @@ none-held o es m run nothing = at (held_by (counters_of_run o es).snapshots m) r
     at (Some s) is =
         let owner = held-of o es m s run is in
         agree o es run owner.session owner.is_session m owner.under
-        ∙ ap (held_under m) (nothing owner.session owner.is_session)
+        ∙ nothing owner.session m owner.is_session owner.under
 
 no-snapshot : (xs : List OpenSnapshot) → ((m : ℕ) → held_by xs m ≡ None) → xs ≡ []
 no-snapshot [] none = refl

@@ -411,7 +411,7 @@ saves n epoch (result.Idle saved) calls more h is =
 saves n epoch (result.Lost cause) calls more h is = absurd is
 saves n epoch result.NoMemory calls more h is = absurd is
 
-calls-joined : (a : ℕ) (later es : List CoreEvent) → calls_of a (later ++ es) ≡ calls_of a later ++ calls_of a es
+pub calls-joined : (a : ℕ) (later es : List CoreEvent) → calls_of a (later ++ es) ≡ calls_of a later ++ calls_of a es
 calls-joined a [] es = refl
 calls-joined a (By b call ∷ later) es = at (b == a) (calls-joined a later es)
   where

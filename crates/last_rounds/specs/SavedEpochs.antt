@@ -3,8 +3,9 @@
 use Rattle.std.specs.Prelude.{◌≡◌, ℕ, List, [], ◌++◌, Option, Some, None, fold}
 use Rattle.cube_journal.specs.declared.journal_entry.JournalEntry.{JournalEntry}
 use Rattle.cube_journal.specs.declared.journal_entry.JournalEntry.TheVariants as entry
-use Rattle.core_events.specs.Clients.{calls_of, client_state}
+use Rattle.core_events.specs.Clients.{calls_of, client_state, held_under}
 use Rattle.core_events.specs.Events.{Opening, IsSession, flusher, ClientCall, CoreEvent}
+use Rattle.core_events.specs.Fitting.{IsNumberOf}
 use Rattle.flush_loop.specs.RoundResults.{AreOfRound}
 use Rattle.flush_loop.specs.declared.round_result.RoundResult.{RoundResult}
 use Rattle.flush_loop.specs.declared.round_result.RoundResult.TheVariants as result
@@ -24,10 +25,12 @@ HasSaved epoch (result.Safe saved) = saved ≡ epoch
 HasSaved epoch (result.Idle saved) = saved ≡ epoch
 HasSaved epoch result = ⊥
 
--- No session holds a snapshot, and none makes a call in later events.
+-- No session holds a snapshot under a number of its own.
 abbrev pub SessionsHoldNothing : Opening → List CoreEvent → Type 0
-SessionsHoldNothing o es = (session : ℕ) → IsSession o session → (client_state o session es).holds ≡ []
+SessionsHoldNothing o es = (session number : ℕ) → IsSession o session → IsNumberOf session number
+    → held_under number (client_state o session es).holds ≡ None
 
+-- None makes a call in later events.
 abbrev pub HasNoSessionCalls : Opening → List CoreEvent → Type 0
 HasNoSessionCalls o later = (session : ℕ) → IsSession o session → calls_of session later ≡ []
 

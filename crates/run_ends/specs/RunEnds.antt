@@ -1,15 +1,17 @@
 -- How main ends a run on threads in which the sessions had begun: they have ended, and the flusher, and then main has
 -- all shards purge.
 -- Source: AOSI (ICDE 2018), purge up to LSE; that main has the shards purge at the end of a run is this project's own.
-use Rattle.std.specs.Prelude.{◌≡◌, ℕ, ◌+◌, ◌≤◌, Bool, true, List, Some}
+use Rattle.std.specs.Prelude.{◌≡◌, ℕ, ◌+◌, ◌≤◌, Bool, true, List, [], Some}
 use mathlib.Core.List.{IsPrefix}
 use Rattle.cube_journal.specs.declared.counters.Counters.{Counters}
-use Rattle.core_events.specs.Events.{Opening, CoreEvent}
+use Rattle.core_events.specs.Events.{Opening, IsSession, flusher, flush_mail, CoreEvent}
 use Rattle.core_events.specs.Runs.{IsCoreRun}
 use Rattle.core_program.specs.CoreFits.{CoreEntry, FitsOwnCalls, OpensCells}
-use Rattle.cube_core.specs.BoardCells.{IsEntryEvent}
+use Rattle.cube_core.specs.BoardCells.{IsEntryEvent, server_of}
 use Rattle.cube_core.specs.CoreSteps.{CoreStep}
 use Rattle.cube_core.specs.Links.{AreEventsOf}
+use Rattle.flush_loop.specs.FlushTurns.{LearnsOfFlushes}
+use Rattle.flush_loop.specs.declared.round_result.RoundResult.{RoundResult}
 use Rattle.linked_shards.specs.CellShards.{CoreShardStands, CoreShardStep}
 use Rattle.shard_events.specs.ShardsInRuns.{FitsShard, ShardAnswerSays}
 use Rattle.shut_shards.specs.ShutShards.{CellsStand}
@@ -58,3 +60,13 @@ pub record IsEndedRun (o : Opening) (counters : Counters) (callers : ℕ) (openi
 -- Nothing is above the LSE that the counters show.
 abbrev pub ShowAllSafe : Counters → Type 0
 ShowAllSafe counters = counters.ec ≡ counters.lse + 1
+
+-- The sessions had made all their calls at a moment before main's first, and the flusher has made those of its loop,
+-- with a last round that ended so.
+pub record FlushesLast (o : Opening) (how : RoundResult) (opening : OpeningCells) (log : List CoreEntry) : Type 0 where
+  pub moment : List CoreEntry
+  pub goes_on : IsPrefix moment log
+  pub main_waits : of_caller 0 moment ≡ []
+  pub played : (session : ℕ) → IsSession o session → of_caller session moment ≡ of_caller session log
+  pub flushed : LearnsOfFlushes FitsShard CoreShardStands ShardAnswerSays opening (server_of o (flush_mail o))
+      (flusher o) (flush_mail o) (Some how) [] (of_caller (server_of o (flush_mail o)) log)

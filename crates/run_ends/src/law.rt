@@ -18,7 +18,10 @@ ghost use Rattle.cube_values.specs.Visible.{visible_rows};
 ghost use Rattle.final_shards.specs.FinalShards.{HasPurgedToLse};
 ghost use Rattle.linked_shards.specs.declared.cell.CoreShard.{CoreShard};
 ghost use Rattle.one_session.specs.Changes.{rows_in_cube};
-ghost use Rattle.run_ends.specs.RunEnds.{IsEndedRun, ShowAllSafe};
+ghost use Rattle.core_serial.specs.Journals.{journal_of};
+ghost use Rattle.flush_loop.specs.declared.round_result.RoundResult.{RoundResult};
+ghost use Rattle.last_rounds.specs.SavedEpochs.{HasSaved, SessionsHoldNothing, last_saved};
+ghost use Rattle.run_ends.specs.RunEnds.{FlushesLast, IsEndedRun, ShowAllSafe};
 ghost use Rattle.run_threads.specs.CoreWorks.{OpeningCells};
 ghost use Rattle.shard_cell.specs.Shards.{shard_brick};
 ghost use Rattle.shut_shards.specs.ShutShards.{
@@ -74,4 +77,23 @@ pub fn shards_end_with_the_record()
         → ShardsHoldRowsFor rows_in_shard o cells d (lists_at (record_of o given es).names cube) cube
         (rows_in_cube d.name
         (visible_rows (reader_up_to counters.lse) (run_transactions (record_of o given es)))) }
+{}
+
+/// Where the sessions have ended whole besides, holding nothing, and the flusher's last round ended as Safe
+/// or Idle, the last Safe or Idle of the journal has the LCE that main read, which is that of the run's end,
+/// and nothing is above LSE.
+pub fn runs_end_with_all_saved()
+    ensures saved { (o : Opening) (how : RoundResult) (counters : Counters) (callers epoch : ℕ)
+        (opening cells : OpeningCells) (log : List CoreEntry) (es : List CoreEvent)
+        → IsEndedRun o counters callers opening cells log es → FlushesLast o how opening log
+        → SessionsHoldNothing o es → HasSaved epoch how
+        → last_saved (journal_of o es) ≡ Some counters.lce }
+    ensures epoch { (o : Opening) (how : RoundResult) (counters : Counters) (callers epoch : ℕ)
+        (opening cells : OpeningCells) (log : List CoreEntry) (es : List CoreEvent)
+        → IsEndedRun o counters callers opening cells log es → FlushesLast o how opening log
+        → SessionsHoldNothing o es → HasSaved epoch how → epoch ≡ counters.lce }
+    ensures all { (o : Opening) (how : RoundResult) (counters : Counters) (callers epoch : ℕ)
+        (opening cells : OpeningCells) (log : List CoreEntry) (es : List CoreEvent)
+        → IsEndedRun o counters callers opening cells log es → FlushesLast o how opening log
+        → SessionsHoldNothing o es → HasSaved epoch how → ShowAllSafe counters }
 {}

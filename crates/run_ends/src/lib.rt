@@ -3,4 +3,7 @@
 
 mod law;
 
-pub use law::{runs_end_purged_up_to_lse, shards_end_with_the_record, shards_end_without_marks};
+pub use law::{
+    runs_end_purged_up_to_lse, runs_end_with_all_saved, shards_end_with_the_record,
+    shards_end_without_marks,
+};

@@ -1,0 +1,17 @@
+use Rattle.run_ends.proofs.WholeEnds.{epoch-shown, last-shown, safe-shown}
+use Rattle.run_ends.proofs.law.runs_end_with_all_saved.Goals as goal
+
+pub returns-clause-saved : goal.returns-clause-saved
+returns-clause-saved c =
+    λ o how counters callers epoch opening cells log es r h nothing is.
+    last-shown o how counters callers opening cells log es r h nothing epoch is
+
+pub returns-clause-epoch : goal.returns-clause-epoch
+returns-clause-epoch c =
+    λ o how counters callers epoch opening cells log es r h nothing is.
+    epoch-shown o how counters callers opening cells log es r h nothing epoch is
+
+pub returns-clause-all : goal.returns-clause-all
+returns-clause-all c =
+    λ o how counters callers epoch opening cells log es r h nothing is.
+    safe-shown o how counters callers opening cells log es r h nothing epoch is
