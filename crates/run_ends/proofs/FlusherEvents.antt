@@ -111,7 +111,8 @@ record OwnAfter (o : Opening) (earlier fs : List CoreEvent) (log : List CoreEntr
   events : OfEntries o fs (of_caller (caller_here o) log) (filter (is_flushers o) later ++ fs)
 
 one-more : (o : Opening) (own : Bool) (e : CoreEntry) (x : CoreEvent) (log : List CoreEntry)
-    (earlier fs es : List CoreEvent) → eqb e.caller (caller_here o) ≡ own → flusher_part o earlier ≡ flusher_part o fs → OfEntry o earlier e x
+    (earlier fs es : List CoreEvent) → eqb e.caller (caller_here o) ≡ own
+    → flusher_part o earlier ≡ flusher_part o fs → OfEntry o earlier e x
     → ((gs : List CoreEvent) → flusher_part o (x ∷ earlier) ≡ flusher_part o gs → OwnAfter o (x ∷ earlier) gs log es)
     → (later : List CoreEvent) × (es ≡ later ++ earlier)
     × OfEntries o fs (cond own (e ∷ of_caller (caller_here o) log) (of_caller (caller_here o) log))

@@ -1,0 +1,3 @@
+pub mod HeldNumbers
+pub mod StepHolds
+pub mod EndHolds
