@@ -21,7 +21,7 @@ use Rattle.core_serial.proofs.FoundRows.{all-below}
 use Rattle.core_serial.proofs.ToldBricks.{writer-of, above-lse}
 use Rattle.core_serial.proofs.Fates.{or-right}
 use Rattle.core_events.proofs.Finished.{or-is}
-use Rattle.final_shards.specs.PurgedBricks.{HasNoMarkUpTo, HasPurged, purged_after_job, purged_after_move, was_purged}
+use Rattle.final_shards.specs.PurgedBricks.{HasNoMarkUpTo, HasPurgedShards, purged_after_job, purged_after_move, was_purged}
 use Rattle.final_shards.proofs.LeftEntries.{no-mark-left, no-mark-purged, no-mark-rolled}
 
 -- ---- a purge that was made
@@ -470,14 +470,14 @@ run-group o (At other move ∷ es) a mail run =
 -- ---- all shards
 
 pub all-purged : (o : Opening) (es : List CoreEvent) (client epoch mail : ℕ) → IsCoreRun o es
-    → HasPurged o.shards epoch (client_state o client es).group → mail < o.shards
+    → HasPurgedShards o.shards epoch (client_state o client es).group → mail < o.shards
     → was_purged mail es epoch ≡ true
 all-purged o es client epoch mail run h there =
     run-group o es client mail run epoch h.purges
     (all-below o.shards mail (mails_of (client_state o client es).group.answers) h.done.all there)
 
 pub has-purged : (o : Opening) (es : List CoreEvent) (client epoch cube brick : ℕ) → IsCoreRun o es
-    → HasPurged o.shards epoch (client_state o client es).group
+    → HasPurgedShards o.shards epoch (client_state o client es).group
     → HasNoMarkUpTo epoch (shard_view_of o es cube brick)
 has-purged o es client epoch cube brick run h =
     let some = (opening-of o es run).some in

@@ -10,7 +10,7 @@ use Rattle.core_events.specs.ShardView.{ShardView}
 use Rattle.core_events.specs.Clients.{client_state}
 use Rattle.core_events.specs.Cells.{counters_of_run, rows_of_brick}
 use Rattle.core_agreements.specs.PostsForOperations.{StandForAll}
-use Rattle.final_shards.specs.PurgedBricks.{HasPurged, rows_held_up_to}
+use Rattle.final_shards.specs.PurgedBricks.{HasPurgedShards, rows_held_up_to}
 
 -- The LSE of a run.
 abbrev pub lse_of : Opening → List CoreEvent → ℕ
@@ -18,7 +18,7 @@ lse_of o es = (counters_of_run o es).lse
 
 -- A client has had all shards purge up to the LSE at which the run ends.
 abbrev pub HasPurgedToLse : Opening → List CoreEvent → ℕ → Type 0
-HasPurgedToLse o es client = HasPurged o.shards (lse_of o es) (client_state o client es).group
+HasPurgedToLse o es client = HasPurgedShards o.shards (lse_of o es) (client_state o client es).group
 
 -- Nothing is above LSE: the next epoch is the one after it.
 abbrev pub AllIsSafe : Opening → List CoreEvent → Type 0

@@ -27,7 +27,7 @@ HasNoMark (RowRun e rows ∷ older) = HasNoMark older
 HasNoMark (RowMark e ∷ older) = ⊥
 
 -- The group purges up to the epoch, and the client has the answers of all shards, none of them a refusal.
-pub record HasPurged (shards epoch : ℕ) (g : JobGroup) : Type 0 where
+pub record HasPurgedShards (shards epoch : ℕ) (g : JobGroup) : Type 0 where
   pub purges : g.kind ≡ Purges epoch
   pub done : HasAllDone shards g
 

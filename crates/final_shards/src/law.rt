@@ -26,7 +26,7 @@ ghost use Rattle.core_events.specs.ShardView.{
 ghost use Rattle.final_shards.specs.PurgedBricks.{
   HasNoMark,
   HasNoMarkUpTo,
-  HasPurged,
+  HasPurgedShards,
   rows_held_up_to,
   was_purged,
 };
@@ -45,13 +45,13 @@ pub fn purged_bricks_hold_what_is_seen()
 /// purge up to an epoch, no brick has one.
 pub fn purges_leave_no_marks()
     ensures made { (o : Opening) (es : List CoreEvent) (client epoch shard : ℕ) → IsCoreRun o es
-        → HasPurged o.shards epoch (client_state o client es).group → shard < o.shards
+        → HasPurgedShards o.shards epoch (client_state o client es).group → shard < o.shards
         → was_purged shard es epoch ≡ true }
     ensures marks { (o : Opening) (es : List CoreEvent) (shard epoch cube brick : ℕ) → IsCoreRun o es
         → brick % o.shards ≡ shard → was_purged shard es epoch ≡ true
         → HasNoMarkUpTo epoch (shard_view_of o es cube brick) }
     ensures all { (o : Opening) (es : List CoreEvent) (client epoch cube brick : ℕ) → IsCoreRun o es
-        → HasPurged o.shards epoch (client_state o client es).group
+        → HasPurgedShards o.shards epoch (client_state o client es).group
         → HasNoMarkUpTo epoch (shard_view_of o es cube brick) }
 {}
 

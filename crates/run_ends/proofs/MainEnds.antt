@@ -24,7 +24,7 @@ use Rattle.threaded_callers.specs.Ends.{IsHistoryTo}
 use Rattle.turn_board.proofs.Places.{inside, there}
 use Rattle.turn_board.specs.History.{of_caller}
 use Rattle.final_shards.specs.FinalShards.{HasPurgedToLse, lse_of}
-use Rattle.final_shards.specs.PurgedBricks.{HasPurged}
+use Rattle.final_shards.specs.PurgedBricks.{HasPurgedShards}
 use Rattle.final_shards.proofs.PurgedShards.{all-purged}
 use Rattle.shut_shards.specs.ShutShards.{HasNoMarksUpTo, IsShardIn}
 use Rattle.shut_shards.proofs.MarkedCells.{cell-cleared}
@@ -68,7 +68,7 @@ module _ (o : Opening) (opening : List (CoreCell CoreShard)) (log : List CoreEnt
         coe 0 1 (i. calls_of (client-low o 0 main-low i) es ≡ calls_of (client-low o 0 main-low i) part.own) part.same,
       )
 
-  pub main-purged : HasPurged o.shards counters.lse (client_state o 0 es).group
+  pub main-purged : HasPurgedShards o.shards counters.lse (client_state o 0 es).group
   main-purged =
       let part = main-part in
       let ends = h.ends in
@@ -89,7 +89,7 @@ module _ (o : Opening) (opening : List (CoreCell CoreShard)) (log : List CoreEnt
       ap (λ (k : ClientState). k.group) (known-by-calls o 0 es ∙ ap (state_from_calls o 0) part.2)
       ∙ closing-stays o (2 + o.shards) o.shards cut.0 part.0 cut.2
       in
-      coe 1 0 (i. HasPurged o.shards counters.lse (same i)) (record { purges = knows.purges; done = knows.done })
+      coe 1 0 (i. HasPurgedShards o.shards counters.lse (same i)) (record { purges = knows.purges; done = knows.done })
 
   -- What main did behind the moment begins with the counters.
   behind-reads : (more : List CoreEntry) × (of_caller 0 h.goes_on.0 ≡ counters_entry counters ∷ more)
@@ -121,7 +121,7 @@ module _ (o : Opening) (opening : List (CoreCell CoreShard)) (log : List CoreEnt
   last-lse = ap (λ (c : Counters). c.lse) (sym last-counters)
 
   pub main-purged-to-lse : HasPurgedToLse o es 0
-  main-purged-to-lse = coe 1 0 (i. HasPurged o.shards (last-lse i) (client_state o 0 es).group) main-purged
+  main-purged-to-lse = coe 1 0 (i. HasPurgedShards o.shards (last-lse i) (client_state o 0 es).group) main-purged
 
   pub no-old-marks : (callers : ℕ) (cells : List (CoreCell CoreShard)) (number : ℕ) (s : CoreShard)
       → IsHistoryTo (CoreStep CoreShardStep) (FitsOwnCalls FitsShard CoreShardStands ShardAnswerSays) callers opening

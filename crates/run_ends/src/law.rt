@@ -12,6 +12,7 @@ ghost use Rattle.core_records.specs.CoreRecords.{RunScripts, record_of};
 ghost use Rattle.cube_journal.specs.Counters.{counters_in};
 ghost use Rattle.cube_journal.specs.declared.counters.Counters.{Counters};
 ghost use Rattle.cube_language.specs.declared.decl.Decl.{Decl};
+ghost use Rattle.cube_run.specs.Merge.{IsMerge};
 ghost use Rattle.cube_run.specs.RunRecords.{catalog_of};
 ghost use Rattle.cube_run.specs.RunTransactions.{run_transactions};
 ghost use Rattle.cube_values.specs.Visible.{visible_rows};
@@ -20,7 +21,7 @@ ghost use Rattle.linked_shards.specs.declared.cell.CoreShard.{CoreShard};
 ghost use Rattle.one_session.specs.Changes.{rows_in_cube};
 ghost use Rattle.core_serial.specs.Journals.{journal_of};
 ghost use Rattle.flush_loop.specs.declared.round_result.RoundResult.{RoundResult};
-ghost use Rattle.last_rounds.specs.SavedEpochs.{HasSaved, SessionsHoldNothing, last_saved};
+ghost use Rattle.last_rounds.specs.SavedEpochs.{HasSaved, last_saved};
 ghost use Rattle.run_ends.specs.RunEnds.{FlushesLast, IsEndedRun, ShowAllSafe};
 ghost use Rattle.run_threads.specs.CoreWorks.{OpeningCells};
 ghost use Rattle.shard_cell.specs.Shards.{shard_brick};
@@ -79,21 +80,23 @@ pub fn shards_end_with_the_record()
         (visible_rows (reader_up_to counters.lse) (run_transactions (record_of o given es)))) }
 {}
 
-/// Where the sessions have ended whole besides, holding nothing, and the flusher's last round ended as Safe
-/// or Idle, the last Safe or Idle of the journal has the LCE that main read, which is that of the run's end,
-/// and nothing is above LSE.
+/// Where the sessions have ended whole besides, so that the journal is a merge of their scripts with their
+/// ends, and the flusher's last round ended as Safe or Idle, the last Safe or Idle of the journal has the
+/// LCE that main read, which is that of the run's end, and nothing is above LSE.
 pub fn runs_end_with_all_saved()
     ensures saved { (o : Opening) (how : RoundResult) (counters : Counters) (callers epoch : ℕ)
         (opening cells : OpeningCells) (log : List CoreEntry) (es : List CoreEvent)
-        → IsEndedRun o counters callers opening cells log es → FlushesLast o how opening log
-        → SessionsHoldNothing o es → HasSaved epoch how
-        → last_saved (journal_of o es) ≡ Some counters.lce }
+        (given : RunScripts) → IsEndedRun o counters callers opening cells log es
+        → FlushesLast o how opening log → IsScriptedRun o given es → IsMerge (record_of o given es)
+        → HasSaved epoch how → last_saved (journal_of o es) ≡ Some counters.lce }
     ensures epoch { (o : Opening) (how : RoundResult) (counters : Counters) (callers epoch : ℕ)
         (opening cells : OpeningCells) (log : List CoreEntry) (es : List CoreEvent)
-        → IsEndedRun o counters callers opening cells log es → FlushesLast o how opening log
-        → SessionsHoldNothing o es → HasSaved epoch how → epoch ≡ counters.lce }
+        (given : RunScripts) → IsEndedRun o counters callers opening cells log es
+        → FlushesLast o how opening log → IsScriptedRun o given es → IsMerge (record_of o given es)
+        → HasSaved epoch how → epoch ≡ counters.lce }
     ensures all { (o : Opening) (how : RoundResult) (counters : Counters) (callers epoch : ℕ)
         (opening cells : OpeningCells) (log : List CoreEntry) (es : List CoreEvent)
-        → IsEndedRun o counters callers opening cells log es → FlushesLast o how opening log
-        → SessionsHoldNothing o es → HasSaved epoch how → ShowAllSafe counters }
+        (given : RunScripts) → IsEndedRun o counters callers opening cells log es
+        → FlushesLast o how opening log → IsScriptedRun o given es → IsMerge (record_of o given es)
+        → HasSaved epoch how → ShowAllSafe counters }
 {}
