@@ -4,3 +4,4 @@ pub mod ThreadEnds
 pub mod RecordedEnds
 pub mod FlusherEvents
 pub mod WholeEnds
+pub mod HaveEnded
