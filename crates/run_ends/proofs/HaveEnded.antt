@@ -71,9 +71,9 @@ module _ {C W K F : Type 0} {g : Ghosts C (CoreCell CoreShard) CoreCall CoreAnsw
         → FlushesLast o how opening h.log
     ended-flushes done how learns =
         let shards = shards-are in
-        flushes-last session_done flusher_done callers opening o how h.log (1 + length sessions + length workers) main main'
-        sessions sessions' flusher flusher'
-        (coe 0 1 (i. MainEnded StopsFlusher StopsWorkers session_done flusher_done callers opening (InHistory h.log) true
-        (done i) (1 + length sessions + length workers) main main' sessions sessions' flusher flusher' h.log
+        flushes-last session_done flusher_done callers opening o how h.log (1 + length sessions + length workers) main
+        main' sessions sessions' flusher flusher'
+        (coe 0 1 (i. MainEnded StopsFlusher StopsWorkers session_done flusher_done callers opening (InHistory h.log)
+        true (done i) (1 + length sessions + length workers) main main' sessions sessions' flusher flusher' h.log
         (of_caller 0 h.log)) h.play)
         (omega (arith, shards, sessions_are, all_sessions, all_workers)) (all_sessions ∙ sessions_are) learns
