@@ -1,0 +1,3 @@
+pub mod NamesCome
+pub mod NamedRows
+pub mod NamesFit
