@@ -1,2 +1,4 @@
 pub mod AskedTexts
 pub mod NamesStand
+pub mod NamesBehind
+pub mod StepTexts

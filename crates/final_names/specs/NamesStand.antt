@@ -18,8 +18,8 @@ AskForOffered run calls =
     (cube place : ℕ) (d : Decl) (dim : DimDecl) (text : List ℕ) → HasDimension run cube place d dim
     → IsAskedForBy calls cube place text → Offers run d dim place text
 
--- The rows that a step has put have their names in the dictionaries in the end, and so have the texts that its deletion
--- compares with, or these are full.
+-- The rows that a step has put have their names in the dictionaries in the end, and so have the texts that its
+-- deletion compares with, or these are full.
 pub record IsNamedStep (run : RunRecord) (step : SessionStep) : Type 0 where
   pub puts : (cube place : ℕ) (d : Decl) (dim : DimDecl) → HasDimension run cube place d dim
       → PutsNamed d.name place (names_at run.names cube place) (operation_done (catalog_of run) step)
