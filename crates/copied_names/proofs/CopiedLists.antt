@@ -34,8 +34,8 @@ use Rattle.one_session.specs.Pasts.{EndsAs}
 use Rattle.query_plan.specs.Ties.{AreDistinct}
 use Rattle.round_copies.proofs.NameLoops.{AreDimsTold, dims-all, dims-next, dims-none}
 use Rattle.round_copies.specs.RoundCopies.{AreNamesTold, HasMoreWith, HasNamesTold}
-use Rattle.core_names.specs.AskedNames.{GoOnByNames}
-use Rattle.core_names.specs.StaysAsWhoAsks.{asks-both, asks-none}
+use Rattle.core_names.specs.AskedNames.{GoOnByCopies}
+use Rattle.core_names.proofs.PlainNames.{copies-both, copies-none}
 use Rattle.copied_names.specs.CopiedNames.{AreCopiedBetween, IsMomentAfter, MayCopyCube, copied_answer, copy_entry}
 use Rattle.copied_names.proofs.CopyCalls.{HasCopied, by_copying, copied-after, copied-in-run}
 
@@ -209,11 +209,11 @@ module _ {S : Type 0} (fits : Opening → ℕ → ShardCall → Type 0) (stands 
 -- ---- one call
 
 pub asked-one : {E : Type 0} (caller place dim : ℕ) (own now : List CoreEntry) (came : Result (List (List ℕ)) E)
-    → now ≡ own ++ copy_entry caller place dim came ∷ [] → GoOnByNames caller own now
+    → now ≡ own ++ copy_entry caller place dim came ∷ [] → GoOnByCopies caller own now
 asked-one caller place dim own now came whole = record {
   added = copy_entry caller place dim came ∷ [];
   whole = whole;
-  only = (record { call = names.CopyFrom place dim 0; said = copied_answer came; is = refl }, tt);
+  only = (record { place = place; dim = dim; from = 0; said = copied_answer came; is = refl }, tt);
 }
 
 pub told-one : {E : Type 0} (caller place dim : ℕ) (own now : List CoreEntry) (came : Result (List (List ℕ)) E) (text : Bool)
@@ -278,26 +278,26 @@ last-lists lists new item place long is =
 -- ---- the first dimensions
 
 pub record HasCopiedFirst (caller place : ℕ) (d : Decl) (own now : List CoreEntry) (lists : List (List (List ℕ))) (dim : ℕ) : Type 0 where
-  pub asks : GoOnByNames caller own now
+  pub asks : GoOnByCopies caller own now
   pub told : HasMoreWith own now (λ later. AreDimsTold caller later place [] (map (λ dim. dim.text) d.dims) lists dim)
   pub distinct : All (IsDistinct bytes_eq) lists
 
 pub first-none : (caller place : ℕ) (d : Decl) (own : List CoreEntry) (lists : List (List (List ℕ))) → lists ≡ []
     → HasCopiedFirst caller place d own own lists 0
 first-none caller place d own lists none = record {
-  asks = asks-none caller own;
+  asks = copies-none caller own;
   told = dims-none caller own place [] (map (λ dim. dim.text) d.dims) lists none;
   distinct = subst (λ (l : List (List (List ℕ))). All (IsDistinct bytes_eq) l) (sym none) (All-nil (IsDistinct bytes_eq));
 }
 
 pub asks-more : (caller place : ℕ) (d : Decl) (own mid now : List CoreEntry) (lists : List (List (List ℕ))) (dim mid_caller : ℕ) → mid_caller ≡ caller
-    → HasCopiedFirst caller place d own mid lists dim → GoOnByNames mid_caller mid now → GoOnByNames caller own now
+    → HasCopiedFirst caller place d own mid lists dim → GoOnByCopies mid_caller mid now → GoOnByCopies caller own now
 asks-more caller place d own mid now lists dim mid_caller same was asks =
-    asks-both caller own mid now was.asks (subst (λ (n : ℕ). GoOnByNames n mid now) same asks)
+    copies-both caller own mid now was.asks (subst (λ (n : ℕ). GoOnByCopies n mid now) same asks)
 
 pub first-next : (caller place : ℕ) (d : Decl) (own mid now : List CoreEntry) (lists new : List (List (List ℕ))) (dim mid_caller : ℕ)
     (text : Bool) (list : List (List ℕ)) → mid_caller ≡ caller → HasCopiedFirst caller place d own mid lists dim
-    → GoOnByNames mid_caller mid now → slice_get (map (λ dim. dim.text) d.dims) dim ≡ Some text
+    → GoOnByCopies mid_caller mid now → slice_get (map (λ dim. dim.text) d.dims) dim ≡ Some text
     → HasMoreWith mid now (λ added. AreNamesTold mid_caller added place dim 0 text list) → IsDistinct bytes_eq list
     → new ≡ lists ++ list ∷ [] → HasCopiedFirst caller place d own now new (dim + 1)
 first-next caller place d own mid now lists new dim mid_caller text list same was asks at said apart is = record {

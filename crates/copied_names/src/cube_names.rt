@@ -5,7 +5,7 @@ ghost use Rattle.std.specs.List.{IsDistinct};
 ghost use Rattle.std.specs.Str.{bytes_eq};
 ghost use Rattle.condition_spans.specs.Codes.{lists_at};
 ghost use Rattle.copied_names.specs.CopiedNames.{AreCopiedBetween, MayCopyCube};
-ghost use Rattle.core_names.specs.AskedNames.{GoOnByNames};
+ghost use Rattle.core_names.specs.AskedNames.{GoOnByCopies};
 ghost use Rattle.session_snapshots.specs.KnownHolds.{HoldsTheSame};
 ghost use Rattle.query_plan.specs.Ties.{AreDistinct};
 ghost use Rattle.round_copies.specs.RoundCopies.{AreNamesTold, HasMoreWith, HasNamesTold};
@@ -69,7 +69,7 @@ fn copy_dim<S: LinkedShard, R: Wait, P: CellCaller<CoreCells<S>>>(
     ensures opening { P.opening caller.new ≡ P.opening caller.old }
     ensures number { P.number caller.new ≡ P.number caller.old }
     ensures others { P.others caller.new ≡ P.others caller.old }
-    ensures asks { GoOnByNames (P.number caller.old) (P.own caller.old) (P.own caller.new) }
+    ensures asks { GoOnByCopies (P.number caller.old) (P.own caller.old) (P.own caller.new) }
     ensures told { IfOk result (λ list. HasMoreWith (P.own caller.old) (P.own caller.new)
         (λ added. AreNamesTold (P.number caller.old) added place dim 0 text list)) }
     ensures distinct { IfOk result (IsDistinct bytes_eq) }
@@ -108,7 +108,7 @@ fn copy_dims<S: LinkedShard, R: Wait, P: CellCaller<CoreCells<S>>>(
     ensures opening { P.opening caller.new ≡ P.opening caller.old }
     ensures number { P.number caller.new ≡ P.number caller.old }
     ensures others { P.others caller.new ≡ P.others caller.old }
-    ensures asks { GoOnByNames (P.number caller.old) (P.own caller.old) (P.own caller.new) }
+    ensures asks { GoOnByCopies (P.number caller.old) (P.own caller.old) (P.own caller.new) }
     ensures told { IfOk result (λ lists. HasMoreWith (P.own caller.old) (P.own caller.new)
         (λ added. HasNamesTold (P.number caller.old) added place []
         (map (λ dim. dim.text) cube.now.dims) lists)) }
@@ -142,7 +142,7 @@ pub fn copy_names_of_cube<S: LinkedShard, R: Wait, P: CellCaller<CoreCells<S>>>(
     ensures opening { P.opening caller.new ≡ P.opening caller.old }
     ensures number { P.number caller.new ≡ P.number caller.old }
     ensures others { P.others caller.new ≡ P.others caller.old }
-    ensures asks { GoOnByNames (P.number caller.old) (P.own caller.old) (P.own caller.new) }
+    ensures asks { GoOnByCopies (P.number caller.old) (P.own caller.old) (P.own caller.new) }
     ensures holds { HoldsTheSame S.fits S.stands S.says session (P.opening caller.old)
         (P.number caller.old) (P.own caller.old) (P.opening caller.new) (P.number caller.new)
         (P.own caller.new) }

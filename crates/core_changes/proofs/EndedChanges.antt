@@ -4,13 +4,15 @@ use mathlib.Core.List.{IsPrefix}
 use Rattle.aosi_desk.specs.Desks.{is_cube_code}
 use Rattle.core_changes.specs.ChangesUnderWay.{HasAnswered, HasChangedNothing, IsSameStatement}
 use Rattle.core_changes.specs.FinishedChanges.{HasFinished}
-use Rattle.core_cubes.proofs.CallsForStatements.{plain-for}
+use Rattle.core_cubes.proofs.CallsForStatements.{plain-asks, plain-for}
+use Rattle.final_names.proofs.AskingOnly.{only-plain, only-then}
+use Rattle.final_names.specs.AskedTexts.{AsksOnly}
 use Rattle.core_cubes.proofs.CallsGoOn.{go-on-as, go-on-then}
 use Rattle.core_events.specs.Events.{ClientCall}
 use Rattle.core_events.specs.Serial.{CubeOperation}
 use Rattle.core_program.specs.CoreFits.{CoreEntry}
 use Rattle.core_states.proofs.LeftCalls.{longer-front}
-use Rattle.core_states.specs.LeftBehind.{GoOnByCalls, IsPlainCall}
+use Rattle.core_states.specs.LeftBehind.{AsksForNone, GoOnByCalls, IsPlainCall}
 use Rattle.core_states.specs.StandingInCore.{HoldsForMode}
 use Rattle.core_states.specs.declared.session.CoreSession.{CoreSession}
 use Rattle.cube_core.specs.declared.cell.CoreCell.{CoreCell}
@@ -115,7 +117,8 @@ module _ (cells : List (CoreCell CoreShard)) (caller session : ℕ) (first own n
 -- ---- the ends
 
 module _ (cells : List (CoreCell CoreShard)) (caller : ℕ) (old : CoreSession) (s : Statement)
-    (first own now : List CoreEntry) (Posts : ChangeEnd → Type 0) (Answers : ChangeEnd → Reply → Type 0) where
+    (first own now : List CoreEntry) (IsText : ℕ → ℕ → List ℕ → Type 0) (Posts : ChangeEnd → Type 0)
+    (Answers : ChangeEnd → Reply → Type 0) where
   abbrev GoOn : (ClientCall → Type 0) → List CoreEntry → List CoreEntry → Type 0
   GoOn Is one two = GoOnByCalls FitsShard CoreShardStands ShardAnswerSays cells caller old.number Is one two
 
@@ -126,11 +129,21 @@ module _ (cells : List (CoreCell CoreShard)) (caller : ℕ) (old : CoreSession) 
   Plainly added = LeavesOverShards cells caller old.number own now added
 
   abbrev Answered-so : CoreSession → Answered → Type 0
-  Answered-so new answered = HasAnswered cells caller old s first now Posts Answers new answered
+  Answered-so new answered = HasAnswered cells caller old s first now IsText Posts Answers new answered
 
   abbrev Holds : CoreSession → Type 0
   Holds new =
       HoldsForMode FitsShard CoreShardStands ShardAnswerSays cells caller new.number now (mode_of new.mode)
+
+  abbrev Asks : List CoreEntry → List CoreEntry → Type 0
+  Asks one two = LearnsThat FitsShard CoreShardStands ShardAnswerSays (AsksOnly IsText) cells caller old.number one two
+
+  asks-then : Asks first own → IsPrefix own now → GoOn IsPlainCall own now → Asks first now
+  asks-then asks more plain =
+      only-then FitsShard CoreShardStands ShardAnswerSays cells caller old.number IsText first own now more asks
+      (only-plain FitsShard CoreShardStands ShardAnswerSays cells caller old.number IsText own now
+      (go-on-as FitsShard CoreShardStands ShardAnswerSays cells caller old.number IsPlainCall AsksForNone own now
+      plain-asks plain))
 
   plain-as : (one two : List CoreEntry) → GoOn IsPlainCall one two → GoOn (IsCallOfChange old.statements s) one two
   plain-as one two plain =
@@ -162,10 +175,11 @@ module _ (cells : List (CoreCell CoreShard)) (caller : ℕ) (old : CoreSession) 
     began = begun_entries old.number old.statements (mode_of old.mode) writer
 
     -- It is done.
-    pub finished : Left first own began → IsPrefix own now → GoOn IsPlainCall own now → new ≡ finished_session old
+    pub finished : Left first own began → Asks first own → IsPrefix own now → GoOn IsPlainCall own now
+        → new ≡ finished_session old
         → Holds new → (f : HasFinished cells caller old writer own now) → Posts (Finished writer f.round)
         → Answers (Finished writer f.round) said → Answered-so new (Replied said)
-    finished left more plain becomes holds f posts answers =
+    finished left asks more plain becomes holds f posts answers =
         let ended = committed_entries old.number old.statements (mode_of old.mode) writer ++ f.round in
         record {
           more = longer-front first own now left.more more;
@@ -178,6 +192,7 @@ module _ (cells : List (CoreCell CoreShard)) (caller : ℕ) (old : CoreSession) 
                 by-more-calls cells caller old.number old.statements s first own now began ended left
                 (by-plain-calls cells caller old.number old.statements s own now ended f.left);
             becomes = becomes;
+            asks = asks-then asks more plain;
             posts = posts;
             answers = answers;
             holds = holds;
@@ -185,11 +200,12 @@ module _ (cells : List (CoreCell CoreShard)) (caller : ℕ) (old : CoreSession) 
         }
 
     -- It fails by a cause.
-    pub failed : (cause : AbortCause) → is_failure cause ≡ true → Left first own began → IsPrefix own now
+    pub failed : (cause : AbortCause) → is_failure cause ≡ true → Left first own began → Asks first own
+        → IsPrefix own now
         → GoOn IsPlainCall own now → new ≡ failed_session old → Holds new
         → Plainly (failed_entries old.number old.statements writer cause) → Posts (Failed writer cause)
         → Answers (Failed writer cause) said → Answered-so new (Replied said)
-    failed cause fails left more plain becomes holds leaves posts answers =
+    failed cause fails left asks more plain becomes holds leaves posts answers =
         let ended = failed_entries old.number old.statements writer cause in
         record {
           more = longer-front first own now left.more more;
@@ -202,6 +218,7 @@ module _ (cells : List (CoreCell CoreShard)) (caller : ℕ) (old : CoreSession) 
                 by-more-calls cells caller old.number old.statements s first own now began ended left
                 (by-plain-calls cells caller old.number old.statements s own now ended leaves);
             becomes = becomes;
+            asks = asks-then asks more plain;
             posts = posts;
             answers = answers;
             holds = holds;
@@ -210,7 +227,7 @@ module _ (cells : List (CoreCell CoreShard)) (caller : ℕ) (old : CoreSession) 
 
   -- It is refused before it has changed anything, or stops at that.
   pub refused : (why : Refusal) (answered : Answered) → old.commits < old.statements
-      → HasChangedNothing cells caller old s first own
+      → HasChangedNothing cells caller old s first own IsText
       → IfReplied answered (λ said. said ≡ reply.Refused why)
       → IfReplied answered (λ said. Plainly (entry.Refused old.number old.statements (code why) ∷ []))
       → OnStopped answered (Plainly []) → Holds old
@@ -230,6 +247,7 @@ module _ (cells : List (CoreCell CoreShard)) (caller : ℕ) (old : CoreSession) 
               by-more-calls cells caller old.number old.statements s first own now [] entries nothing.left
               (by-plain-calls cells caller old.number old.statements s own now entries left);
           becomes = refl;
+          asks = asks-then nothing.asks left.more left.plain;
           posts = posts left;
           answers =
               subst (λ (r : Reply). Answers (RefusedBefore (code why)) r) (sym is) (answers left.more);

@@ -11,6 +11,7 @@ use Rattle.cube_core.specs.BoardCells.{IsEntryEvent}
 use Rattle.core_program.specs.CoreFits.{CoreEntry}
 use Rattle.core_program.specs.Knowing.{IsLaterRun}
 use Rattle.core_records.specs.OwnEntries.{entries_by_calls}
+use Rattle.core_states.specs.LeftBehind.{AsksForNone}
 use Rattle.cube_core.specs.declared.cell.CoreCell.{CoreCell}
 use Rattle.cube_core.specs.declared.shard.ShardCall.{ShardCall}
 use Rattle.cube_journal.specs.declared.journal_entry.JournalEntry.{JournalEntry}
@@ -21,7 +22,7 @@ use Rattle.job_groups.specs.AskedEach.{IsGroupCall}
 use Rattle.linked_shards.specs.CellShards.{CoreShardStands}
 use Rattle.shard_events.specs.ShardsInRuns.{FitsShard, ShardAnswerSays}
 use Rattle.linked_shards.specs.declared.cell.CoreShard.{CoreShard}
-use Rattle.core_changes.specs.CallsOfChanges.{IsCallOfChange, LeavesForChange}
+use Rattle.core_changes.specs.CallsOfChanges.{IsCallOfChange, LeavesByJobs, LeavesForChange}
 use Rattle.session_batches.specs.PutRows.{LearnsOfRows}
 use Rattle.session_batches.specs.declared.answers.PutEnd.{PutEnd}
 use Rattle.session_groups.specs.ShardGroups.{HasAskedAll}
@@ -46,6 +47,15 @@ all-may number s (NoChange ∷ added) only = (record { speaks = tt; readers = tt
 all-may number s (OnDesk c ∷ added) only = absurd only.0
 all-may number s (OnNames c ∷ added) only = absurd only.0
 all-may number s (CloseMail mail ∷ added) only = absurd only.0
+
+all-ask-none : (added : List ClientCall) → AllByRecursion IsGroupCall added → AllByRecursion AsksForNone added
+all-ask-none [] only = tt
+all-ask-none (Post mail job ∷ added) only = (tt, all-ask-none added only.1)
+all-ask-none (Fetch mail outcome ∷ added) only = (tt, all-ask-none added only.1)
+all-ask-none (NoChange ∷ added) only = (tt, all-ask-none added only.1)
+all-ask-none (OnDesk c ∷ added) only = absurd only.0
+all-ask-none (OnNames c ∷ added) only = absurd only.0
+all-ask-none (CloseMail mail ∷ added) only = absurd only.0
 
 -- In a run a session's calls go on by those of a group alone.
 pub record GoesOnByGroup (o : Opening) (session : ℕ) (own : List CoreEntry) (es : List CoreEvent) : Type 0 where
@@ -89,10 +99,28 @@ module _ (cells : List (CoreCell CoreShard)) (caller session number : ℕ) (s : 
           };
     }
 
+    by-jobs : IsPrefix own now
+        → ((o : Opening) (log : List CoreEntry) (run es : List CoreEvent) → Later o now log run
+        → AreEventsOf (IsEntryEvent FitsShard CoreShardStands ShardAnswerSays o) now es
+        → GoesOnByGroup o session own es)
+        → LeavesByJobs cells caller session number s own now
+    by-jobs more learns = record {
+      left = by-group more learns;
+      none = λ o log run es later are.
+          let h : GoesOnByGroup o session own es = learns o log run es later are in
+          record {
+            before = h.before;
+            events = h.events;
+            added = h.added;
+            calls = h.past;
+            each = all-ask-none h.added h.only;
+          };
+    }
+
     pub by-asking : (shards : ℕ) (call : ShardCall) → HasAskedAll cells caller session shards call own now
-        → LeavesForChange cells caller session number s own now []
+        → LeavesByJobs cells caller session number s own now
     by-asking shards call asked =
-        by-group (asked.more.more, sym asked.more.whole)
+        by-jobs (asked.more.more, sym asked.more.whole)
         (λ o log run es later are.
         let h = asked.learns o log run es later are in
         record {
@@ -105,9 +133,9 @@ module _ (cells : List (CoreCell CoreShard)) (caller session number : ℕ) (s : 
 
     pub by-putting : (shards cube epoch : ℕ) (shape : CubeShape) (rows : List CodedRow) (told : PutEnd) → IsPrefix own now
         → LearnsOfRows cells caller session shards cube shape epoch rows told own now
-        → LeavesForChange cells caller session number s own now []
+        → LeavesByJobs cells caller session number s own now
     by-putting shards cube epoch shape rows told more learns =
-        by-group more
+        by-jobs more
         (λ o log run es later are.
         let h = learns o log run es later are in
         record { before = h.before; events = h.events; added = h.added; past = h.past; only = h.only })

@@ -13,3 +13,4 @@ pub mod BegunChanges
 pub mod EndedChanges
 pub mod PerformedInTheEnd
 pub mod CubesOfChanges
+pub mod OfferedTexts

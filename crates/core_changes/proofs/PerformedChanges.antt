@@ -1,10 +1,10 @@
 -- A statement that changes rows is performed, by how it has ended.
-use Rattle.std.proofs.Common.{◌≡◌, ◌∙◌, ℕ, ◌+◌, Bool, true, cond, List, [], ◌∷◌, Option, None, inl, inr, refl, sym, ap, subst, arith, append-nil, eq-eqb, length-append, ne_eqb}
+use Rattle.std.proofs.Common.{◌≡◌, ◌∙◌, ℕ, ◌+◌, Bool, true, cond, Contains, List, [], ◌∷◌, Option, None, inl, inr, refl, sym, ap, subst, arith, append-nil, eq-eqb, length-append, ne_eqb}
 use Rattle.std.specs.List.{list_any}
 use Rattle.core_agreements.specs.PostsForOperations.{batches_posted}
 use Rattle.core_events.specs.Events.{Opening, CoreEvent}
 use Rattle.core_events.specs.Serial.{DropRows}
-use Rattle.core_states.proofs.LongerPasts.{in-turn-after}
+use Rattle.core_states.proofs.LongerPasts.{in-turn-after, run-before}
 use Rattle.core_states.specs.CorePasts.{CorePast, IsOneMore, last_number, last_step}
 use Rattle.core_states.specs.RunsFrom.{IsRunFrom}
 use Rattle.core_program.specs.CoreFits.{CoreEntry}
@@ -20,7 +20,7 @@ use Rattle.cube_language.specs.declared.statement.Statement.{Statement}
 use Rattle.cube_run.specs.Merge.{RoundFollows}
 use Rattle.cube_run.specs.RunRecords.{LoadedFile, Says}
 use Rattle.cube_run.specs.SessionStates.{KeptWatch, SessionState, session_after}
-use Rattle.cube_run.specs.SessionSteps.{SessionStep}
+use Rattle.cube_run.specs.SessionSteps.{SessionStep, all_steps}
 use Rattle.cube_run.specs.StepOutcomes.{refused_by_watch}
 use Rattle.linked_shards.specs.CellShards.{CoreShardStands}
 use Rattle.shard_events.specs.ShardsInRuns.{FitsShard, ShardAnswerSays}
@@ -32,9 +32,14 @@ use Rattle.core_changes.specs.CallsOfChanges.{LeavesForChange}
 use Rattle.core_changes.specs.ChangeEnds.{ChangeEnd, Failed, Finished, MayEndSo, RefusedBefore, change_entries, counted_session, round_due_after}
 use Rattle.core_changes.specs.ChangesInRuns.{HasEndedSo, IsRunAfterChange, IsStepOfChange, PostsByEnd, RoundInStep, entries_of_change, past_with}
 use Rattle.played_scripts.specs.PlayedRuns.{AreNumbered}
+use Rattle.final_names.proofs.NamesMore.{with-statement as names-with-statement}
+use Rattle.final_names.proofs.StepsAmong.{last-among}
+use Rattle.final_names.proofs.StepsNamed.{nothing-named, put-named}
+use Rattle.final_names.specs.NamesBehind.{NamesStandBehind}
+use Rattle.final_names.specs.NamesStand.{IsNamedStep}
 use Rattle.posted_pasts.proofs.ChangesStand.{drop-change, put-change}
 use Rattle.posted_pasts.proofs.PostsMore.{with-calls, with-change, with-failure, with-statement}
-use Rattle.posted_pasts.specs.PostsBehind.{PostsStandBehind, is_abort_of}
+use Rattle.posted_pasts.specs.PostsBehind.{InEachRun, PostsStandBehind, is_abort_of}
 use Rattle.scripted_pasts.specs.BehindScripts.{StandsForScript}
 use Rattle.scripted_pasts.specs.Performed.{HasPerformed, PerformsWatched, every_of}
 use Rattle.scripted_pasts.specs.ScriptClaims.{IsRunOfScripts, OpensForScripts}
@@ -183,6 +188,53 @@ module _ (s : Statement) (file : LoadedFile) (old : CoreSession) (end : ChangeEn
       (with-calls FitsShard CoreShardStands ShardAnswerSays cells caller old.number (OpensForScripts (every_of old)) past
       own now state h.left.more learns st.posts)
 
+  -- Its step is named, whichever its end.
+  step-named : (e : ChangeEnd) → e ≡ end → PostsByEnd s file old end cells caller own now e
+      → InEachRun FitsShard CoreShardStands ShardAnswerSays cells caller old.number (OpensForScripts (every_of old))
+      after
+      (λ run. IsNamedStep run step)
+  step-named (Finished writer round) same (inl put) o given events from also =
+      put-named (record_of o given events) step put.cube writer.epoch put.batches
+      (record-apart o given events from.run.is_run from.follow also.opens.apart)
+      (put.puts past o given events step (run-after o given events from also) (step-of o given events also))
+  step-named (Finished writer round) same (inr drop) o given events from also =
+      drop.named past o given events step (run-after o given events from also) (step-of o given events also)
+  step-named (Failed writer cause) same learns o given events from also =
+      let may : MayEndSo (counted_session old) (Failed writer cause) =
+      subst (λ (x : ChangeEnd). MayEndSo (counted_session old) x) (sym same) h.may
+      in
+      nothing-named (record_of o given events) step
+      (failed-does-nothing (record_of o given events) step s (mode_of old.mode) writer cause may.0
+      (subst (λ (x : ChangeEnd). IsStep step (mode_of old.mode) (Says s)
+      (change_entries step.session step.number (mode_of old.mode) x)) (sym same) (step-of o given events also).parts))
+  step-named (RefusedBefore code) same learns o given events from also =
+      nothing-named (record_of o given events) step
+      (refused-does-nothing (record_of o given events) step s (mode_of old.mode) code
+      (subst (λ (x : ChangeEnd). IsStep step (mode_of old.mode) (Says s)
+      (change_entries step.session step.number (mode_of old.mode) x)) (sym same) (step-of o given events also).parts))
+
+  -- It is one of the run.
+  step-among : (o : Opening) (given : RunScripts) (events : List CoreEvent)
+      → IsRunFrom FitsShard CoreShardStands ShardAnswerSays cells caller old.number after o given events
+      → OpensForScripts (every_of old) o given events → Contains (all_steps (record_of o given events)) step
+  step-among o given events from also =
+      last-among FitsShard CoreShardStands ShardAnswerSays cells caller old.number past after state (Says s) added
+      st.stands_there.turn one o given events (h.session o from.log from.run.opens) from
+      (st.posts.becomes o given events
+      (run-before FitsShard CoreShardStands ShardAnswerSays cells caller old.number past after (Says s) added o given
+      events one from) also)
+
+  names-after : NamesStandBehind FitsShard CoreShardStands ShardAnswerSays cells caller old.number
+      (OpensForScripts (every_of old)) after now
+  names-after =
+      names-with-statement FitsShard CoreShardStands ShardAnswerSays cells caller old.number
+      (OpensForScripts (every_of old)) past after state (Says s) added st.stands_there.turn one own now h.left.more
+      st.posts.becomes
+      (λ o given events es r.
+      h.asks past o given r.log events es step (run-after o given events r.from r.also) (step-of o given events r.also)
+      (step-among o given events r.from r.also) r.later r.calls)
+      (step-named end refl h.posts) st.names
+
   performed : (IsFile : LoadedFile → Type 0) → IsFile file
       → HasPerformed FitsShard CoreShardStands ShardAnswerSays cells caller old.number (every_of old) IsFile past state
       (Says s) own now (state_of_session new watch) said
@@ -199,6 +251,7 @@ module _ (s : Statement) (file : LoadedFile) (old : CoreSession) (end : ChangeEn
         leaves = h.left.entries past.entries st.stands_there.leaves;
       };
       posts = subst (λ (x : SessionState). Behind after now x) (sym becomes) (posts-after end refl h.posts);
+      names = names-after;
       speaks = speaks;
     };
     file = subst IsFile (sym file-is) is_file;

@@ -104,9 +104,10 @@ module _ (cells : List (CoreCell CoreShard)) (caller : ℕ) (IsFile : LoadedFile
 
   -- ---- the cube was found
 
-  module _ (own mid now : List CoreEntry) (Posts : ChangeEnd → Type 0) (Answers : ChangeEnd → Reply → Type 0)
-      (new : CoreSession) (answered : Answered) (found : LeavesOverShards cells caller old.number own mid [])
-      (h : HasAnswered cells caller (counted_session old) s mid now Posts Answers new answered) where
+  module _ (own mid now : List CoreEntry) (IsText : ℕ → ℕ → List ℕ → Type 0) (Posts : ChangeEnd → Type 0)
+      (Answers : ChangeEnd → Reply → Type 0) (new : CoreSession) (answered : Answered)
+      (found : LeavesOverShards cells caller old.number own mid [])
+      (h : HasAnswered cells caller (counted_session old) s mid now IsText Posts Answers new answered) where
     pub found-leaves-watch : GoOn (IsUnderOwnNumber old.number) own now
     found-leaves-watch =
         go-on-then FitsShard CoreShardStands ShardAnswerSays cells caller old.number (IsUnderOwnNumber old.number) own
@@ -121,19 +122,19 @@ module _ (cells : List (CoreCell CoreShard)) (caller : ℕ) (IsFile : LoadedFile
     pub found-front : IsPrefix own now
     found-front = longer-front own mid now found.more h.more
 
-  pub found-performed : (own mid now : List CoreEntry) (Posts : ChangeEnd → Type 0)
+  pub found-performed : (own mid now : List CoreEntry) (IsText : ℕ → ℕ → List ℕ → Type 0) (Posts : ChangeEnd → Type 0)
       (Answers : ChangeEnd → Reply → Type 0) (new : CoreSession) (answered : Answered)
-      → ((said : Reply) → HasEnded cells caller (counted_session old) s mid now Posts Answers new said
+      → ((said : Reply) → HasEnded cells caller (counted_session old) s mid now IsText Posts Answers new said
       → Performed own new now said)
-      → HasAnswered cells caller (counted_session old) s mid now Posts Answers new answered
+      → HasAnswered cells caller (counted_session old) s mid now IsText Posts Answers new answered
       → IfReplied answered (Performed own new now)
-  found-performed own mid now Posts Answers new (Replied said) ended h = ended said h.replied
-  found-performed own mid now Posts Answers new Stopped ended h = tt
+  found-performed own mid now IsText Posts Answers new (Replied said) ended h = ended said h.replied
+  found-performed own mid now IsText Posts Answers new Stopped ended h = tt
 
-  pub found-holds : (mid now : List CoreEntry) (Posts : ChangeEnd → Type 0) (Answers : ChangeEnd → Reply → Type 0)
-      (new : CoreSession) (answered : Answered)
-      → HasAnswered cells caller (counted_session old) s mid now Posts Answers new answered
+  pub found-holds : (mid now : List CoreEntry) (IsText : ℕ → ℕ → List ℕ → Type 0) (Posts : ChangeEnd → Type 0)
+      (Answers : ChangeEnd → Reply → Type 0) (new : CoreSession) (answered : Answered)
+      → HasAnswered cells caller (counted_session old) s mid now IsText Posts Answers new answered
       → IfReplied answered (λ said. HoldsForMode FitsShard CoreShardStands ShardAnswerSays cells caller new.number now
       (mode_of new.mode))
-  found-holds mid now Posts Answers new (Replied said) h = h.replied.holds
-  found-holds mid now Posts Answers new Stopped h = tt
+  found-holds mid now IsText Posts Answers new (Replied said) h = h.replied.holds
+  found-holds mid now IsText Posts Answers new Stopped h = tt

@@ -1,11 +1,11 @@
 -- The calls of a statement that changes rows, over shards, and what they leave.
 -- Source: this project's own.
-use Rattle.std.specs.Prelude.{ℕ, List}
+use Rattle.std.specs.Prelude.{ℕ, List, []}
 use mathlib.Core.List.{IsPrefix}
 use Rattle.core_cubes.specs.StatementCalls.{SpeaksFor}
 use Rattle.core_events.specs.Events.{ClientCall}
 use Rattle.core_program.specs.CoreFits.{CoreEntry}
-use Rattle.core_states.specs.LeftBehind.{AddsEntries, GoOnByCalls, LeavesReaders}
+use Rattle.core_states.specs.LeftBehind.{AddsEntries, AsksForNone, GoOnByCalls, LeavesReaders}
 use Rattle.cube_core.specs.declared.cell.CoreCell.{CoreCell}
 use Rattle.cube_journal.specs.declared.journal_entry.JournalEntry.{JournalEntry}
 use Rattle.cube_language.specs.declared.statement.Statement.{Statement}
@@ -26,3 +26,8 @@ module _ (cells : List (CoreCell CoreShard)) (caller session : ℕ) where
     pub entries : AddsEntries FitsShard CoreShardStands ShardAnswerSays cells caller session own now added
     pub calls : GoOnByCalls FitsShard CoreShardStands ShardAnswerSays cells caller session (IsCallOfChange number s) own
         now
+
+  -- They leave no entry, and ask for the code of no text.
+  pub record LeavesByJobs (number : ℕ) (s : Statement) (own now : List CoreEntry) : Type 0 where
+    pub left : LeavesForChange number s own now []
+    pub none : GoOnByCalls FitsShard CoreShardStands ShardAnswerSays cells caller session AsksForNone own now

@@ -2,16 +2,19 @@
 -- and how it is answered.
 -- Source: AOSI (ICDE 2018), the operations of a transaction. A promise of what was done speaks of every run that begins
 -- with it, as with prophecy variables (Abadi and Lamport, 1991).
-use Rattle.std.specs.Prelude.{◌≡◌, ◌⊎◌, ℕ, ◌+◌, ◌==◌, true, List, [], ◌∷◌, ◌++◌, None, if◌then◌else◌}
+use Rattle.std.specs.Prelude.{◌≡◌, ◌⊎◌, ℕ, ◌+◌, ◌==◌, true, List, [], ◌∷◌, ◌++◌, Contains, None, if◌then◌else◌}
 use Rattle.core_agreements.specs.PostsForOperations.{batches_posted}
 use Rattle.core_events.specs.Events.{Opening, ClientCall, CoreEvent}
 use Rattle.core_events.specs.Serial.{DropRows}
 use Rattle.core_states.specs.CorePasts.{CorePast, last_number}
 use Rattle.core_states.specs.RunsFrom.{IsRunFrom}
 use Rattle.core_program.specs.CoreFits.{CoreEntry}
+use Rattle.core_program.specs.Knowing.{IsLaterRun, IsSessionOf}
 use Rattle.core_records.specs.CoreRecords.{RunScripts, record_of}
 use Rattle.core_states.specs.StandingInCore.{StandsInCore}
 use Rattle.core_states.specs.declared.session.CoreSession.{CoreSession}
+use Rattle.cube_core.specs.BoardCells.{IsEntryEvent}
+use Rattle.cube_core.specs.Links.{AreEventsOf}
 use Rattle.cube_core.specs.declared.cell.CoreCell.{CoreCell}
 use Rattle.cube_journal.specs.declared.journal_entry.JournalEntry.{JournalEntry}
 use Rattle.cube_journal.specs.declared.reply.Reply.{Reply}
@@ -19,7 +22,7 @@ use Rattle.cube_language.specs.declared.statement.Statement.{Statement}
 use Rattle.cube_run.specs.Merge.{RoundFollows}
 use Rattle.cube_run.specs.RunRecords.{LoadedFile, RunRecord, Says}
 use Rattle.cube_run.specs.RunText.{IsReply}
-use Rattle.cube_run.specs.SessionSteps.{SessionStep}
+use Rattle.cube_run.specs.SessionSteps.{SessionStep, all_steps}
 use Rattle.cube_run.specs.StatementEntries.{is_change}
 use Rattle.cube_run.specs.StepOutcomes.{refused_by_watch}
 use Rattle.cube_values.specs.declared.row.CodedRow.{CodedRow}
@@ -28,6 +31,8 @@ use Rattle.linked_shards.specs.CellShards.{CoreShardStands}
 use Rattle.linked_shards.specs.declared.cell.CoreShard.{CoreShard}
 use Rattle.core_changes.specs.CallsOfChanges.{LeavesForChange}
 use Rattle.core_changes.specs.ChangeEnds.{ChangeEnd, Finished, Failed, RefusedBefore, MayEndSo, change_entries, counted_session, round_due_after, session_after_change}
+use Rattle.final_names.specs.NamesBehind.{AsksMoreOffered}
+use Rattle.final_names.specs.NamesStand.{IsNamedStep}
 use Rattle.posted_pasts.specs.DoneChanges.{HasDroppedRegion, HasPutRows}
 use Rattle.posted_pasts.specs.PostsAdded.{AddsAtEpoch, AddsNoOperation, AddsOperations, LearnsThat}
 use Rattle.scripted_pasts.specs.Performed.{every_of}
@@ -92,12 +97,13 @@ module _ (s : Statement) (file : LoadedFile) (old : CoreSession) (end : ChangeEn
       pub posted : LearnsOfChange (AddsOperations cube epoch (batches_posted batches))
       pub puts : InRunsAfterChange (λ run step. HasPutRows run step cube epoch batches)
 
-    -- or a box, which takes the rows of the region that it has dropped.
+    -- or a box, which takes the rows of the region that it has dropped. Each text with which it compares has its place.
     pub record DropsRegion (epoch : ℕ) : Type 0 where
       pub cube : ℕ
       pub box : Span
       pub posted : LearnsOfChange (AddsOperations cube epoch (DropRows box ∷ []))
       pub drops : InRunsAfterChange (λ run step. HasDroppedRegion run step cube epoch box)
+      pub named : InRunsAfterChange (λ run step. IsNamedStep run step)
 
     -- A statement that is done has posted either. What one posted that failed is all at its epoch, and one that was
     -- refused before posted nothing.
@@ -106,15 +112,26 @@ module _ (s : Statement) (file : LoadedFile) (old : CoreSession) (end : ChangeEn
     PostsByEnd (Failed writer cause) = LearnsOfChange (AddsAtEpoch writer.epoch)
     PostsByEnd (RefusedBefore code) = LearnsOfChange AddsNoOperation
 
+    -- In each such run, of which its calls are these, it asks for no text but what its step offers.
+    abbrev pub AsksForItsTexts : Type 0
+    AsksForItsTexts = (past : CorePast) (o : Opening) (given : RunScripts) (log : List CoreEntry)
+        (events es : List CoreEvent) (step : SessionStep) → IsRunAfterChange past o given events
+        → IsStepOfChange given step → Contains (all_steps (record_of o given events)) step
+        → IsLaterRun FitsShard CoreShardStands ShardAnswerSays cells o caller now log events
+        → AreEventsOf (IsEntryEvent FitsShard CoreShardStands ShardAnswerSays o) now es
+        → AsksMoreOffered FitsShard CoreShardStands ShardAnswerSays (record_of o given events) o old.number own es
+
     -- A statement that changes rows has ended so.
     pub record HasEndedSo (new : CoreSession) (said : Reply) : Type 0 where
-      -- It changes rows, and the session may end it so.
+      -- It is one of the run's sessions, which changes rows, and may end it so.
+      pub session : IsSessionOf FitsShard CoreShardStands ShardAnswerSays cells old.number
       pub changes : is_change s ≡ true
       pub may : MayEndSo (counted_session old) end
       -- Its calls have left its entries, and the session is what these make of it.
       pub left : LeavesForChange cells caller old.number (old.statements + 1) s own now
           (entries_of_change old end)
       pub becomes : new ≡ session_after_change (counted_session old) end
-      -- What it has posted stands for what it has done, and the record answers it so.
+      -- It asks for its texts alone, what it has posted stands for what it has done, and the record answers it so.
+      pub asks : AsksForItsTexts
       pub posts : PostsByEnd end
       pub answers : InRunsAfterChange (λ run step. IsReply run step said)

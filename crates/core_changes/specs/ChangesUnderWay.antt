@@ -6,6 +6,7 @@ use Rattle.std.specs.Prelude.{◌≡◌, ℕ, ◌<◌, ◌≤◌, false, List, [
 use mathlib.Core.List.{IsPrefix}
 use Rattle.core_events.specs.Events.{Opening, ClientCall}
 use Rattle.core_program.specs.CoreFits.{CoreEntry}
+use Rattle.final_names.specs.AskedTexts.{AsksOnly}
 use Rattle.core_states.specs.LeftBehind.{GoOnByCalls}
 use Rattle.core_states.specs.StandingInCore.{HoldsForMode}
 use Rattle.core_states.specs.declared.session.CoreSession.{CoreSession}
@@ -47,36 +48,42 @@ module _ (cells : List (CoreCell CoreShard)) (caller : ℕ) where
     abbrev pub Learns : (ℕ → Opening → List ClientCall → List ClientCall → Type 0) → Type 0
     Learns Adds = LearnsThat FitsShard CoreShardStands ShardAnswerSays Adds cells caller old.number own now
 
-    -- The change has begun by a writer, and its calls so far have added such operations.
-    pub record HasBegunWith (writer : Snapshot) (Adds : ℕ → Opening → List ClientCall → List ClientCall → Type 0)
+    -- The change has begun by a writer, its calls so far have added such operations, and have asked only for such
+    -- texts.
+    pub record HasBegunWith (IsText : ℕ → ℕ → List ℕ → Type 0) (writer : Snapshot) (Adds : ℕ → Opening
+        → List ClientCall → List ClientCall → Type 0)
         : Type 0 where
       pub left : LeavesForChange cells caller old.number old.statements s own now
           (begun_entries old.number old.statements (mode_of old.mode) writer)
       pub learns : Learns Adds
+      pub asks : Learns (AsksOnly IsText)
 
-    -- No entry is left yet, and no operation added.
-    pub record HasChangedNothing : Type 0 where
+    -- No entry is left yet, and no operation added. Its calls have asked only for such texts.
+    pub record HasChangedNothing (IsText : ℕ → ℕ → List ℕ → Type 0) : Type 0 where
       pub left : LeavesForChange cells caller old.number old.statements s own now []
       pub learns : Learns AddsNoOperation
+      pub asks : Learns (AsksOnly IsText)
 
-    -- By its end it has posted such, and is answered such.
-    module _ (Posts : ChangeEnd → Type 0) (Answers : ChangeEnd → Reply → Type 0) where
-      -- The counted statement has ended, and is answered by its end. The session holds what its mode says.
-      pub record HasEnded (new : CoreSession) (said : Reply) : Type 0 where
-        pub ended : ChangeEnd
-        pub may : MayEndSo old ended
-        pub left : LeavesForChange cells caller old.number old.statements s own now
-            (change_entries old.number old.statements (mode_of old.mode) ended)
-        pub becomes : new ≡ session_after_change old ended
-        pub posts : Posts ended
-        pub answers : Answers ended said
-        pub holds : HoldsForMode FitsShard CoreShardStands ShardAnswerSays cells caller new.number now
-            (mode_of new.mode)
+    -- By its end it has asked only for such texts, has posted such, and is answered such.
+    module _ (IsText : ℕ → ℕ → List ℕ → Type 0) (Posts : ChangeEnd → Type 0) (Answers : ChangeEnd → Reply → Type 0)
+      where
+        -- The counted statement has ended, and is answered by its end. The session holds what its mode says.
+        pub record HasEnded (new : CoreSession) (said : Reply) : Type 0 where
+          pub ended : ChangeEnd
+          pub may : MayEndSo old ended
+          pub left : LeavesForChange cells caller old.number old.statements s own now
+              (change_entries old.number old.statements (mode_of old.mode) ended)
+          pub becomes : new ≡ session_after_change old ended
+          pub asks : Learns (AsksOnly IsText)
+          pub posts : Posts ended
+          pub answers : Answers ended said
+          pub holds : HoldsForMode FitsShard CoreShardStands ShardAnswerSays cells caller new.number now
+              (mode_of new.mode)
 
-      -- So it is where it is answered. In any case its calls are such of the statement.
-      pub record HasAnswered (new : CoreSession) (answered : Answered) : Type 0 where
-        pub more : IsPrefix own now
-        pub calls : GoOnByCalls FitsShard CoreShardStands ShardAnswerSays cells caller old.number
-            (IsCallOfChange old.statements s) own now
-        pub stays : IsSameStatement old new
-        pub replied : IfReplied answered (HasEnded new)
+        -- So it is where it is answered. In any case its calls are such of the statement.
+        pub record HasAnswered (new : CoreSession) (answered : Answered) : Type 0 where
+          pub more : IsPrefix own now
+          pub calls : GoOnByCalls FitsShard CoreShardStands ShardAnswerSays cells caller old.number
+              (IsCallOfChange old.statements s) own now
+          pub stays : IsSameStatement old new
+          pub replied : IfReplied answered (HasEnded new)

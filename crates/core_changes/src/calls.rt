@@ -13,7 +13,7 @@ ghost use Rattle.cube_values.specs.declared.row.CodedRow.{CodedRow};
 ghost use Rattle.cube_values.specs.declared.shape.CubeShape.{CubeShape};
 ghost use Rattle.linked_shards.specs.CellShards.{CoreShardStands};
 ghost use Rattle.linked_shards.specs.declared.cell.CoreShard.{CoreShard};
-ghost use Rattle.core_changes.specs.CallsOfChanges.{LeavesForChange};
+ghost use Rattle.core_changes.specs.CallsOfChanges.{LeavesByJobs, LeavesForChange};
 ghost use Rattle.scripted_pasts.specs.Served.{LeavesItsWatch};
 ghost use Rattle.session_batches.specs.PutRows.{LearnsOfRows};
 ghost use Rattle.session_batches.specs.declared.answers.PutEnd.{PutEnd};
@@ -46,16 +46,17 @@ pub fn calls_of_changes_go_on()
         → LeavesItsWatch cells caller session own now }
 {}
 
-/// A group of jobs leaves no entry, and its calls may be those of a statement that changes rows: where each shard was
-/// asked by a call, and where rows were put.
+/// A group of jobs leaves no entry and asks for no text's code, and its calls may be those of a statement
+/// that changes
+/// rows: where each shard was asked by a call, and where rows were put.
 pub fn groups_are_calls_of_changes()
     ensures asked { (cells : List (CoreCell CoreShard)) (caller session number shards : ℕ) (s : Statement)
         (call : ShardCall) (own now : List CoreEntry)
         → HasAskedAll cells caller session shards call own now
-        → LeavesForChange cells caller session number s own now [] }
+        → LeavesByJobs cells caller session number s own now }
     ensures put { (cells : List (CoreCell CoreShard)) (caller session number shards cube epoch : ℕ) (s : Statement)
         (shape : CubeShape) (rows : List CodedRow) (told : PutEnd) (own now : List CoreEntry)
         → IsPrefix own now
         → LearnsOfRows cells caller session shards cube shape epoch rows told own now
-        → LeavesForChange cells caller session number s own now [] }
+        → LeavesByJobs cells caller session number s own now }
 {}

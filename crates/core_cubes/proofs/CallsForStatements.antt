@@ -5,11 +5,11 @@ use Rattle.std.specs.Option.{IsSomeAnd}
 use Rattle.std.proofs.lemmas.Option.{none-some}
 use Rattle.aosi_desk.specs.declared.cube.CubeFound.TheVariants.{Found, Unknown}
 use Rattle.core_cubes.specs.StatementCalls.{IsCallFor, PostsNoChange, SpeaksFor}
-use Rattle.core_events.specs.Events.{Opening, OpenWrite, OpenRead, Commit, AbortEnd, CloseRead, TakeNote, CreateCube, FindCube, CubesFrom, CountersNow, RoundOpen, RoundClose, StoreFailed, ClientCall, OnDesk, OnNames, Post, Fetch, CloseMail, NoChange}
+use Rattle.core_events.specs.Events.{Opening, OpenWrite, OpenRead, Commit, AbortEnd, CloseRead, TakeNote, CreateCube, FindCube, CubesFrom, CountersNow, RoundOpen, RoundClose, StoreFailed, Encode, FindName, CopyFrom, ClientCall, OnDesk, OnNames, Post, Fetch, CloseMail, NoChange}
 use Rattle.core_events.specs.Jobs.{Append, DropBox, Scan, Delta, Rollback, Purge, CopyRound, Flush}
 use Rattle.core_records.specs.ScriptedCalls.{SpeaksByScript, statement_in}
 use Rattle.core_serial.specs.OwnOperations.{operations_by_calls}
-use Rattle.core_states.specs.LeftBehind.{IsPlainCall, LeavesReaders}
+use Rattle.core_states.specs.LeftBehind.{AsksForNone, IsPlainCall, LeavesReaders}
 use Rattle.cube_language.specs.declared.statement.Statement.{Statement}
 use Rattle.cube_language.specs.declared.statement.Statement.TheVariants as asked
 use Rattle.cube_run.specs.RunRecords.{Sentence, cube_needed, name_spoken_of}
@@ -70,10 +70,21 @@ plain-readers (Fetch mail said) plain = tt
 plain-readers (CloseMail mail) plain = tt
 plain-readers NoChange plain = tt
 
+pub plain-asks : (c : ClientCall) → IsPlainCall c → AsksForNone c
+plain-asks (OnNames (Encode cube dim name code)) plain = absurd plain
+plain-asks (OnNames (FindName cube dim name number)) plain = tt
+plain-asks (OnNames (CopyFrom cube dim from names)) plain = tt
+plain-asks (OnDesk c) plain = tt
+plain-asks (Post mail job) plain = tt
+plain-asks (Fetch mail said) plain = tt
+plain-asks (CloseMail mail) plain = tt
+plain-asks NoChange plain = tt
+
 pub plain-for : (number : ℕ) (s : Statement) (c : ClientCall) → IsPlainCall c → IsCallFor number s c
 plain-for number s c plain = record {
   speaks = plain-speaks number s c plain;
   posts = plain-posts c plain;
+  asks = plain-asks c plain;
   readers = plain-readers c plain;
 }
 

@@ -107,8 +107,8 @@ module _ {S : Type 0} (fits : Opening → ℕ → ShardCall → Type 0) (stands 
   module _ (needs : cube_needed s ≡ Some name) where
     one-call : (found : CubeFound) (k : ClientState) → IsCallFor (session.statements + 1) s
         (desk_event session.number k find (answer.Found found))
-    one-call (Found place decl) k = record { speaks = tt; posts = tt; readers = tt }
-    one-call Unknown k = record { speaks = (refl, spoken s name needs); posts = tt; readers = tt }
+    one-call (Found place decl) k = record { speaks = tt; posts = tt; asks = tt; readers = tt }
+    one-call Unknown k = record { speaks = (refl, spoken s name needs); posts = tt; asks = tt; readers = tt }
 
     pub calls-by-search : (found : CubeFound) → Asked found
         → GoOnByCalls fits stands says cells caller session.number (IsCallFor (session.statements + 1) s) own now

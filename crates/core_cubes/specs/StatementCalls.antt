@@ -4,7 +4,7 @@ use Rattle.std.specs.Prelude.{◌≡◌, ℕ}
 use Rattle.aosi_desk.specs.declared.cube.CubeFound.TheVariants.{Unknown}
 use Rattle.core_events.specs.Events.{CreateCube, FindCube, ClientCall, OnDesk, Post}
 use Rattle.core_events.specs.Jobs.{Append, DropBox}
-use Rattle.core_states.specs.LeftBehind.{LeavesReaders}
+use Rattle.core_states.specs.LeftBehind.{AsksForNone, LeavesReaders}
 use Rattle.cube_language.specs.declared.statement.Statement.{Statement}
 use Rattle.cube_language.specs.declared.statement.Statement.TheVariants as asked
 use Rattle.cube_run.specs.RunRecords.{name_spoken_of}
@@ -22,8 +22,9 @@ PostsNoChange (Post mail (Append cube epoch rows)) = ⊥
 PostsNoChange (Post mail (DropBox cube epoch box)) = ⊥
 PostsNoChange call = Unit {0}
 
--- A call that the statement of this number makes without a change of rows and without a reader.
+-- A call that the statement of this number makes without a change of rows, without a reader, and for no text's code.
 pub record IsCallFor (number : ℕ) (s : Statement) (call : ClientCall) : Type 0 where
   pub speaks : SpeaksFor number s call
   pub posts : PostsNoChange call
+  pub asks : AsksForNone call
   pub readers : LeavesReaders call

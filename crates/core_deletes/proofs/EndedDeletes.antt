@@ -23,7 +23,7 @@ use Rattle.cube_language.specs.declared.statement.Statement.{Statement}
 use Rattle.cube_values.specs.declared.snapshot.Snapshot.{Snapshot}
 use Rattle.cube_values.specs.declared.span.Span.{Span}
 use Rattle.dropped_regions.proofs.BoxesOfPlans.{box-later}
-use Rattle.dropped_regions.specs.DeleteBoxes.{IsBoxOf}
+use Rattle.dropped_regions.specs.DeleteBoxes.{IsBoxOf, IsDeleteText}
 use Rattle.linked_shards.specs.CellShards.{CoreShardStands}
 use Rattle.linked_shards.specs.declared.cell.CoreShard.{CoreShard}
 use Rattle.core_changes.specs.CallsOfChanges.{LeavesForChange}
@@ -61,20 +61,23 @@ module _ (cells : List (CoreCell CoreShard)) (caller : ℕ) (old : CoreSession) 
       → LeavesForChange cells caller old.number old.statements s first own added → IsPrefix own now
       → Plain → IsSameStatement old new → Answered-so new Stopped
   stopped added new left more plain stays =
-      change-stopped cells caller old s first own now Drops (AnswersDelete d s) added new left more plain stays
+      change-stopped cells caller old s first own now (IsDeleteText place d s) Drops (AnswersDelete d s) added new
+      left more plain stays
 
   module _ (writer : Snapshot) (writes : IsWriterFor (mode_of old.mode) writer)
       (counted : old.commits < old.statements) where
     -- It is done.
     pub finished : (box : Span) (new : CoreSession)
         → IsBoxOf FitsShard CoreShardStands ShardAnswerSays cells caller own place d s box
-        → HasBegunWith cells caller old s first own writer (AddsOperations place writer.epoch (DropRows box ∷ []))
+        → HasBegunWith cells caller old s first own (IsDeleteText place d s) writer
+        (AddsOperations place writer.epoch (DropRows box ∷ []))
         → IsPrefix own now → Plain → new ≡ finished_session old → Holds new
         → HasFinished cells caller old writer own now → Answered-so new (Replied (reply.Dropped writer.epoch))
     finished box new is_box begun more plain becomes holds f =
         let ended = committed_entries old.number old.statements (mode_of old.mode) writer ++ f.round in
-        change-finished cells caller old s first own now Drops (AnswersDelete d s) writer writes counted new
-        (reply.Dropped writer.epoch) begun.left more plain becomes holds f
+        change-finished cells caller old s first own now (IsDeleteText place d s) Drops (AnswersDelete d s) writer
+        writes
+        counted new (reply.Dropped writer.epoch) begun.left begun.asks more plain becomes holds f
         (record {
           box = box;
           is_box = box-later FitsShard CoreShardStands ShardAnswerSays cells caller own place d now s box more is_box;
@@ -85,29 +88,32 @@ module _ (cells : List (CoreCell CoreShard)) (caller : ℕ) (old : CoreSession) 
         refl
 
     -- It fails for want of memory.
-    pub failed : (new : CoreSession) → HasBegunWith cells caller old s first own writer (AddsAtEpoch writer.epoch)
+    pub failed : (new : CoreSession) → HasBegunWith cells caller old s first own (IsDeleteText place d s) writer
+        (AddsAtEpoch writer.epoch)
         → IsPrefix own now → Plain → new ≡ failed_session old → Holds new
         → LeavesOverShards cells caller old.number own now
         (failed_entries old.number old.statements writer abort.NoMemory)
         → Answered-so new (Replied (reply.Refused refusal.NoMemory))
     failed new begun more plain becomes holds left =
-        change-failed cells caller old s first own now Drops (AnswersDelete d s) writer writes counted new
-        (reply.Refused refusal.NoMemory) abort.NoMemory refl begun.left more plain becomes holds left
+        change-failed cells caller old s first own now (IsDeleteText place d s) Drops (AnswersDelete d s) writer
+        writes counted
+        new (reply.Refused refusal.NoMemory) abort.NoMemory refl begun.left begun.asks more plain becomes holds left
         (epoch-stays cells caller old.number first own now
         (failed_entries old.number old.statements writer abort.NoMemory) left writer.epoch begun.learns)
         (refl, refl)
 
   -- It is refused before it has changed anything, or stops at that.
   pub refused : (why : Refusal) (answered : Answered) → old.commits < old.statements → IsRefusalOn d s why
-      → HasChangedNothing cells caller old s first own
+      → HasChangedNothing cells caller old s first own (IsDeleteText place d s)
       → IfReplied answered (λ said. said ≡ reply.Refused why)
       → IfReplied answered (λ said. LeavesOverShards cells caller old.number own now
       (entry.Refused old.number old.statements (code why) ∷ []))
       → OnStopped answered (LeavesOverShards cells caller old.number own now []) → Holds old
       → Answered-so old answered
   refused why answered counted right nothing is left stops holds =
-      change-refused cells caller old s first own now Drops (AnswersDelete d s) why answered counted nothing is left
-      stops holds
+      change-refused cells caller old s first own now (IsDeleteText place d s) Drops (AnswersDelete d s) why answered
+      counted
+      nothing is left stops holds
       (λ leaves. nothing-stays cells caller old.number first own now
       (entry.Refused old.number old.statements (code why) ∷ []) leaves nothing.learns)
       (λ more. record { why = why; right = right; number = refl; is = refl })

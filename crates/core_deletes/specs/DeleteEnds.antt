@@ -19,7 +19,7 @@ use Rattle.cube_language.specs.declared.decl.Decl.{Decl}
 use Rattle.cube_language.specs.declared.misfit.Misfit.{Misfit}
 use Rattle.cube_language.specs.declared.statement.Statement.{Statement}
 use Rattle.cube_values.specs.declared.span.Span.{Span}
-use Rattle.dropped_regions.specs.DeleteBoxes.{IsBoxOf}
+use Rattle.dropped_regions.specs.DeleteBoxes.{IsBoxOf, IsDeleteText}
 use Rattle.linked_shards.specs.CellShards.{CoreShardStands}
 use Rattle.shard_events.specs.ShardsInRuns.{FitsShard, ShardAnswerSays}
 use Rattle.linked_shards.specs.declared.cell.CoreShard.{CoreShard}
@@ -70,7 +70,9 @@ module _ (cells : List (CoreCell CoreShard)) (caller : ℕ) (old : CoreSession) 
 
   -- The counted DELETE has ended, and is answered by its end; and so it is where it is answered.
   abbrev pub HasDeleted : CoreSession → Reply → Type 0
-  HasDeleted new said = HasEnded cells caller old s own now DropsByEnd (AnswersDelete d s) new said
+  HasDeleted new said =
+      HasEnded cells caller old s own now (IsDeleteText place d s) DropsByEnd (AnswersDelete d s) new said
 
   abbrev pub AnswersAsDelete : CoreSession → Answered → Type 0
-  AnswersAsDelete new answered = HasAnswered cells caller old s own now DropsByEnd (AnswersDelete d s) new answered
+  AnswersAsDelete new answered =
+      HasAnswered cells caller old s own now (IsDeleteText place d s) DropsByEnd (AnswersDelete d s) new answered

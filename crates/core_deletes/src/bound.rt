@@ -4,7 +4,7 @@ ghost use Rattle.core_changes.specs.ChangesUnderWay.{HasChangedNothing, MayChang
 ghost use Rattle.core_deletes.specs.DeleteEnds.{AnswersAsDelete, IsRefusalOn};
 ghost use Rattle.core_program.specs.CoreFits.{CoreEntry};
 ghost use Rattle.core_names.specs.CoreEncoders.{MayAskForCodes};
-ghost use Rattle.dropped_regions.specs.DeleteBoxes.{IsToldOfPlace};
+ghost use Rattle.dropped_regions.specs.DeleteBoxes.{IsDeleteText, IsToldOfPlace};
 ghost use Rattle.linked_shards.specs.CellShards.{CoreShardStands};
 ghost use Rattle.shard_events.specs.ShardsInRuns.{FitsShard, ShardAnswerSays};
 ghost use Rattle.query_plan.specs.Bindings.{DeletesRows};
@@ -12,9 +12,7 @@ ghost use Rattle.turn_board.specs.Passes.{callers_of};
 
 use crate::dropping::delete_box;
 use board_callers::CellCaller;
-use core_names::{
-    CubeTexts, known_numbers_stay_told, names_calls_are_plain, names_calls_keep_what_is_held,
-};
+use core_names::{CubeTexts, known_numbers_stay_told, names_calls_keep_what_is_held};
 use core_program::CoreSize;
 use core_states::{CoreSession, refuse_plainly};
 use cube_journal::Refusal;
@@ -50,7 +48,7 @@ pub(crate) fn refuse_delete<R: Wait, P: CellCaller<ShardCells>>(
     ensures others { P.others caller.new ≡ P.others caller.old }
     ensures answered { (first : List CoreEntry)
         → HasChangedNothing (P.opening caller.old) (P.number caller.old) session.now statement.now
-        first (P.own caller.old)
+        first (P.own caller.old) (IsDeleteText place decl.now statement.now)
         → AnswersAsDelete (P.opening caller.old) (P.number caller.old) session.now statement.now first
         (P.own caller.new) place decl.now session.now result }
 {
@@ -91,7 +89,6 @@ fn delete_knowing<R: Wait, P: CellCaller<ShardCells>>(
     ensures answered { AnswersAsDelete (P.opening caller.old) (P.number caller.old) session.old
         statement.now (P.own caller.old) (P.own caller.new) place cube.now session.new result }
 {
-    names_calls_are_plain::<CoreShard>();
     names_calls_keep_what_is_held::<CoreShard>();
     let number = session.number;
     match box_of_delete::<CoreShard, R, P>(

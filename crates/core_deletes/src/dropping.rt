@@ -5,11 +5,11 @@ ghost use Rattle.core_changes.specs.ChangesUnderWay.{HasBegunWith, HasChangedNot
 ghost use Rattle.core_deletes.specs.DeleteEnds.{AnswersAsDelete, is_done};
 ghost use Rattle.core_events.specs.Serial.{DropRows};
 ghost use Rattle.core_program.specs.CoreFits.{CoreEntry};
-ghost use Rattle.dropped_regions.specs.DeleteBoxes.{IsBoxOf, IsToldOfPlace, IsWholeBox};
+ghost use Rattle.dropped_regions.specs.DeleteBoxes.{IsBoxOf, IsDeleteText, IsToldOfPlace, IsWholeBox};
 ghost use Rattle.session_snapshots.specs.KnownHolds.{HoldsWriter};
 ghost use Rattle.linked_shards.specs.CellShards.{CoreShardStands};
 ghost use Rattle.shard_events.specs.ShardsInRuns.{FitsShard, ShardAnswerSays};
-ghost use Rattle.core_changes.specs.CallsOfChanges.{LeavesForChange};
+ghost use Rattle.core_changes.specs.CallsOfChanges.{LeavesByJobs};
 ghost use Rattle.core_changes.specs.ChangeEnds.{IsWriterFor};
 ghost use Rattle.posted_pasts.specs.PostsAdded.{AddsAtEpoch, AddsNoOperation, AddsOperations, LearnsThat};
 ghost use Rattle.scripted_pasts.specs.Served.{IsServed};
@@ -72,8 +72,8 @@ fn has_dropped<R: Wait, P: CellCaller<ShardCells>>(
     ensures opening { P.opening caller.new ≡ P.opening caller.old }
     ensures number { P.number caller.new ≡ P.number caller.old }
     ensures others { P.others caller.new ≡ P.others caller.old }
-    ensures left { LeavesForChange (P.opening caller.old) (P.number caller.old) session number
-        statement.now (P.own caller.old) (P.own caller.new) [] }
+    ensures left { LeavesByJobs (P.opening caller.old) (P.number caller.old) session number
+        statement.now (P.own caller.old) (P.own caller.new) }
     ensures operations { OnTrue result (LearnsThat FitsShard CoreShardStands ShardAnswerSays
         (AddsOperations place writer.now.epoch (DropRows span.now ∷ [])) (P.opening caller.old)
         (P.number caller.old) session (P.own caller.old) (P.own caller.new)) }
@@ -124,7 +124,7 @@ fn delete_by<R: Wait, P: CellCaller<ShardCells>>(
     ensures others { P.others caller.new ≡ P.others caller.old }
     ensures answered { (first : List CoreEntry)
         → HasBegunWith (P.opening caller.old) (P.number caller.old) session.old statement.now first
-        (P.own caller.old) writer.now AddsNoOperation
+        (P.own caller.old) (IsDeleteText place cube.now statement.now) writer.now AddsNoOperation
         → AnswersAsDelete (P.opening caller.old) (P.number caller.old) session.old statement.now first
         (P.own caller.new) place cube.now session.new result }
 {
@@ -170,7 +170,7 @@ pub(crate) fn delete_box<R: Wait, P: CellCaller<ShardCells>>(
     ensures others { P.others caller.new ≡ P.others caller.old }
     ensures answered { (first : List CoreEntry)
         → HasChangedNothing (P.opening caller.old) (P.number caller.old) session.old statement.now
-        first (P.own caller.old)
+        first (P.own caller.old) (IsDeleteText place cube.now statement.now)
         → AnswersAsDelete (P.opening caller.old) (P.number caller.old) session.old statement.now first
         (P.own caller.new) place cube.now session.new result }
 {

@@ -4,7 +4,7 @@ ghost use Rattle.core_changes.specs.ChangesUnderWay.{HasBegunWith};
 ghost use Rattle.core_deletes.specs.DeleteEnds.{AnswersAsDelete};
 ghost use Rattle.core_events.specs.Serial.{DropRows};
 ghost use Rattle.core_program.specs.CoreFits.{CoreEntry};
-ghost use Rattle.dropped_regions.specs.DeleteBoxes.{IsBoxOf};
+ghost use Rattle.dropped_regions.specs.DeleteBoxes.{IsBoxOf, IsDeleteText};
 ghost use Rattle.session_snapshots.specs.KnownHolds.{HoldsWriter};
 ghost use Rattle.linked_shards.specs.CellShards.{CoreShardStands};
 ghost use Rattle.shard_events.specs.ShardsInRuns.{FitsShard, ShardAnswerSays};
@@ -60,7 +60,7 @@ pub(crate) fn finish_delete<R: Wait, P: CellCaller<ShardCells>>(
     ensures others { P.others caller.new ≡ P.others caller.old }
     ensures answered { (first : List CoreEntry)
         → HasBegunWith (P.opening caller.old) (P.number caller.old) session.old statement.now first
-        (P.own caller.old) writer.now
+        (P.own caller.old) (IsDeleteText place cube.now statement.now) writer.now
         (AddsOperations place writer.now.epoch (DropRows span.now ∷ []))
         → AnswersAsDelete (P.opening caller.old) (P.number caller.old) session.old statement.now first
         (P.own caller.new) place cube.now session.new result }
@@ -102,7 +102,8 @@ pub(crate) fn fail_delete<R: Wait, P: CellCaller<ShardCells>>(
     ensures others { P.others caller.new ≡ P.others caller.old }
     ensures answered { (first : List CoreEntry)
         → HasBegunWith (P.opening caller.old) (P.number caller.old) session.old statement.now first
-        (P.own caller.old) writer.now (AddsAtEpoch writer.now.epoch)
+        (P.own caller.old) (IsDeleteText place cube.now statement.now) writer.now
+        (AddsAtEpoch writer.now.epoch)
         → AnswersAsDelete (P.opening caller.old) (P.number caller.old) session.old statement.now first
         (P.own caller.new) place cube.now session.new result }
 {

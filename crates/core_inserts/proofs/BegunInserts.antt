@@ -1,10 +1,11 @@
 -- A counted INSERT may change rows, has rows that can be stored, and knows whether every shard has them.
-use Rattle.std.proofs.Common.{◌≡◌, ℕ, false, inr, List, Option, None, Some, IfNone, IfSome, refl, sym, subst}
+use Rattle.std.proofs.Common.{◌≡◌, ◌⊎◌, ℕ, false, inl, inr, List, Option, None, Some, IfNone, IfSome, refl, sym, subst}
 use Rattle.std.specs.Prelude.{Err}
 use Rattle.std.proofs.lemmas.Option.{none-some}
 use mathlib.Core.List.{IsPrefix}
 use Rattle.core_inserts.proofs.StepsOfInserts.{insert-of}
-use Rattle.core_inserts.specs.InsertEnds.{InsertsRows, IsRefusalOn, cause_of_put, misfit_refusal, without_memory, unfit}
+use Rattle.core_inserts.specs.InsertEnds.{InsertsRows, IsInsertText, IsRefusalOn, cause_of_put, misfit_refusal, without_memory, unfit}
+use Rattle.core_names.specs.AskedNames.{HasAskedFor}
 use Rattle.core_program.specs.CoreFits.{CoreEntry}
 use Rattle.cube_core.specs.declared.cell.CoreCell.{CoreCell}
 use Rattle.cube_journal.specs.declared.refusal.Refusal.TheVariants as refusal
@@ -30,6 +31,7 @@ use Rattle.session_snapshots.specs.KnownHolds.{HoldsWriter}
 use Rattle.linked_shards.specs.CellShards.{CoreShardStands}
 use Rattle.linked_shards.specs.declared.cell.CoreShard.{CoreShard}
 use Rattle.query_plan.proofs.FitConditions.{nothing}
+use Rattle.row_encoding.specs.CodedInserts.{HaveTextIn}
 use Rattle.session_batches.specs.PutRows.{HoldsAfterPut}
 use Rattle.session_batches.specs.declared.answers.PutEnd.{PutEnd}
 use Rattle.session_batches.specs.declared.answers.PutEnd.TheVariants as put
@@ -57,6 +59,24 @@ still-told own now place d more told = (
   told.0,
   subst (λ (l : List CoreEntry). IsToldOfCube l told.0 place d) more.1 (told-later own more.0 told.0 place d told.1),
 )
+
+-- The texts for which it has asked are those of its rows.
+pub its-texts : (own mid : List CoreEntry) (place : ℕ) (d : Decl) (s : Statement) {rows : List (List Value)}
+    → FitsCube d s → rows ≡ inserted_rows s
+    → ((cube dim : ℕ) (text : List ℕ) → HasAskedFor mid cube dim text
+    → HasAskedFor own cube dim text ⊎ ((cube ≡ place) × HaveTextIn rows dim text))
+    → (cube dim : ℕ) (text : List ℕ) → HasAskedFor mid cube dim text
+    → HasAskedFor own cube dim text ⊎ IsInsertText place d s cube dim text
+its-texts own mid place d s fits are asked cube dim text has =
+    elim (asked cube dim text has) [
+      | inl old ↦ inl old
+      | inr is ↦
+          inr (record {
+            here = is.0;
+            fits_it = fits;
+            has = subst (λ (rows : List (List Value)). HaveTextIn rows dim text) are is.1;
+          })
+    ]
 
 -- An INSERT that fails its tests is refused so.
 pub refused-unfit : (T : Type 0) (cells : List (CoreCell CoreShard)) (caller : ℕ) (now : List CoreEntry) (place : ℕ)

@@ -5,7 +5,7 @@ use Rattle.core_agreements.specs.PostsForOperations.{batches_posted}
 use Rattle.core_changes.proofs.EndedChanges.{IsPlainRefusal, misfit-is-plain, epoch-stays, nothing-stays, operations-stay, failed as change-failed, finished as change-finished, refused as change-refused, stopped as change-stopped}
 use Rattle.core_changes.specs.ChangesUnderWay.{HasBegunWith, HasChangedNothing, IsSameStatement}
 use Rattle.core_changes.specs.FinishedChanges.{HasFinished}
-use Rattle.core_inserts.specs.InsertEnds.{AnswersAsInsert, AnswersInsert, CanBeStored, HasBatch, IsPutFailure, IsRefusalOn, PutsByEnd, failure_refusal, posted_batches, without_memory, unfit, full}
+use Rattle.core_inserts.specs.InsertEnds.{IsInsertText, AnswersAsInsert, AnswersInsert, CanBeStored, HasBatch, IsPutFailure, IsRefusalOn, PutsByEnd, failure_refusal, posted_batches, without_memory, unfit, full}
 use Rattle.core_names.specs.NamesInTheEnd.{OpenWithNames}
 use Rattle.core_program.specs.CoreFits.{CoreEntry}
 use Rattle.core_states.specs.LeftBehind.{GoOnByCalls, IsPlainCall}
@@ -124,7 +124,8 @@ module _ (cells : List (CoreCell CoreShard)) (caller : ℕ) (old : CoreSession) 
       → LeavesForChange cells caller old.number old.statements s first own added → IsPrefix own now
       → Plain → IsSameStatement old new → Answered-so new Stopped
   stopped added new left more plain stays =
-      change-stopped cells caller old s first own now Puts Answers added new left more plain stays
+      change-stopped cells caller old s first own now (IsInsertText place d s) Puts Answers added new left more plain
+      stays
 
   module _ (writer : Snapshot) (writes : IsWriterFor (mode_of old.mode) writer)
       (counted : old.commits < old.statements) where
@@ -132,7 +133,7 @@ module _ (cells : List (CoreCell CoreShard)) (caller : ℕ) (old : CoreSession) 
     pub finished : (shards : ℕ) (batch : Batch) (new : CoreSession) → 1 ≤ shards
         → OpenWithNames FitsShard CoreShardStands ShardAnswerSays cells → IsToldOfCubeAt own place d
         → HasBatch cells caller own place d s batch
-        → HasBegunWith cells caller old s first own writer
+        → HasBegunWith cells caller old s first own (IsInsertText place d s) writer
         (AddsOperations place writer.epoch (batches_posted (posted_batches d shards place writer.epoch batch.rows)))
         → IsPrefix own now → Plain → new ≡ finished_session old → Holds new
         → HasFinished cells caller old writer own now
@@ -140,8 +141,8 @@ module _ (cells : List (CoreCell CoreShard)) (caller : ℕ) (old : CoreSession) 
     finished shards batch new some named told has begun more plain becomes holds f =
         let ended = committed_entries old.number old.statements (mode_of old.mode) writer ++ f.round in
         let batches = posted_batches d shards place writer.epoch batch.rows in
-        change-finished cells caller old s first own now Puts Answers writer writes counted new
-        (reply.Stored (length (inserted_rows s)) writer.epoch) begun.left more plain becomes holds f
+        change-finished cells caller old s first own now (IsInsertText place d s) Puts Answers writer writes counted new
+        (reply.Stored (length (inserted_rows s)) writer.epoch) begun.left begun.asks more plain becomes holds f
         (record {
           storable = batch-later cells caller own now place d s batch has more;
           batches = batches;
@@ -158,14 +159,15 @@ module _ (cells : List (CoreCell CoreShard)) (caller : ℕ) (old : CoreSession) 
     -- It fails.
     pub failed : (cause : AbortCause) (batch : Batch) (new : CoreSession) → IsPutFailure cause
         → HasBatch cells caller own place d s batch
-        → HasBegunWith cells caller old s first own writer (AddsAtEpoch writer.epoch)
+        → HasBegunWith cells caller old s first own (IsInsertText place d s) writer (AddsAtEpoch writer.epoch)
         → IsPrefix own now → Plain → new ≡ failed_session old → Holds new
         → LeavesOverShards cells caller old.number own now
         (failed_entries old.number old.statements writer cause)
         → Answered-so new (Replied (reply.Refused (failure_refusal cause)))
     failed cause batch new put has begun more plain becomes holds left =
-        change-failed cells caller old s first own now Puts Answers writer writes counted new
-        (reply.Refused (failure_refusal cause)) cause (put-fails cause put) begun.left more plain becomes holds left
+        change-failed cells caller old s first own now (IsInsertText place d s) Puts Answers writer writes counted new
+        (reply.Refused (failure_refusal cause)) cause (put-fails cause put) begun.left begun.asks more plain becomes
+        holds left
         (epoch-stays cells caller old.number first own now (failed_entries old.number old.statements writer cause) left
         writer.epoch begun.learns)
         (record {
@@ -176,14 +178,16 @@ module _ (cells : List (CoreCell CoreShard)) (caller : ℕ) (old : CoreSession) 
 
   -- It is refused before it has changed anything, or stops at that.
   pub refused : (why : Refusal) (answered : Answered) → old.commits < old.statements
-      → IsRefusalOn cells caller own place d s why → HasChangedNothing cells caller old s first own
+      → IsRefusalOn cells caller own place d s why
+      → HasChangedNothing cells caller old s first own (IsInsertText place d s)
       → IfReplied answered (λ said. said ≡ reply.Refused why)
       → IfReplied answered (λ said. LeavesOverShards cells caller old.number own now
       (entry.Refused old.number old.statements (code why) ∷ []))
       → OnStopped answered (LeavesOverShards cells caller old.number own now []) → Holds old
       → Answered-so old answered
   refused why answered counted right nothing is left stops holds =
-      change-refused cells caller old s first own now Puts Answers why answered counted nothing is left stops holds
+      change-refused cells caller old s first own now (IsInsertText place d s) Puts Answers why answered counted
+      nothing is left stops holds
       (λ leaves. nothing-stays cells caller old.number first own now
       (entry.Refused old.number old.statements (code why) ∷ []) leaves nothing.learns)
       (λ more. record {

@@ -1,25 +1,36 @@
 -- An INSERT that has ended is performed.
-use Rattle.std.proofs.Common.{◌≡◌, ◌∙◌, ℕ, ◌+◌, inl, List, [], ◌∷◌, map, None, refl, sym, ap, subst}
+use Rattle.std.proofs.Common.{◌≡◌, ◌∙◌, ℕ, ◌+◌, inl, List, [], ◌∷◌, length, map, None, refl, sym, ap, subst, arith}
+use Rattle.std.proofs.lemmas.Bool.{both_ways}
 use mathlib.Core.List.{IsPrefix}
 use Rattle.core_changes.proofs.CubesOfChanges.{IsOnRecord, fits-in as cube-fits, meets as cube-met}
-use Rattle.core_inserts.specs.InsertEnds.{AnswersInsert, CanBeStored, HasInserted, HasPutBatches, InsertsRows, PutsByEnd}
+use Rattle.core_changes.proofs.OfferedTexts.{IsOtherReply, asks-for-offered, offered-there}
+use Rattle.core_inserts.specs.InsertEnds.{AnswersInsert, CanBeStored, HasInserted, HasPutBatches, InsertsRows, IsInsertText, IsPutFailure, PutsByEnd, failure_refusal}
+use Rattle.core_inserts.proofs.EndedInserts.{is-plain}
 use Rattle.core_inserts.proofs.StepsOfInserts.{IsInsert, changes-rows, failed-answer, insert-of, put-done, refused-answer, stored-answer}
 use Rattle.core_agreements.specs.PostsForOperations.{batches_posted}
 use Rattle.core_events.specs.Events.{Opening, CoreEvent}
 use Rattle.core_names.specs.NamesInTheEnd.{MayLeaveNames}
 use Rattle.core_states.specs.CorePasts.{CorePast}
 use Rattle.core_program.specs.CoreFits.{CoreEntry}
+use Rattle.core_program.specs.Knowing.{IsSessionOf}
 use Rattle.core_records.specs.CoreRecords.{RunScripts, names_left, record_of}
 use Rattle.core_states.specs.declared.session.CoreSession.{CoreSession}
 use Rattle.cube_core.specs.declared.cell.CoreCell.{CoreCell}
+use Rattle.aosi_desk.specs.Desks.{is_cube_code}
+use Rattle.cube_journal.specs.Refusals.{code}
+use Rattle.cube_journal.specs.declared.journal_entry.AbortCause.{AbortCause}
+use Rattle.cube_journal.specs.declared.journal_entry.AbortCause.TheVariants as abort
 use Rattle.cube_journal.specs.declared.journal_entry.JournalEntry.{JournalEntry}
 use Rattle.cube_journal.specs.declared.journal_entry.JournalEntry.TheVariants as entry
+use Rattle.cube_journal.specs.declared.refusal.Refusal.{Refusal}
 use Rattle.cube_journal.specs.declared.reply.Reply.{Reply}
+use Rattle.cube_journal.specs.declared.reply.Reply.TheVariants as reply
 use Rattle.cube_language.specs.Misfits.{FitsCube}
 use Rattle.cube_language.specs.declared.decl.Decl.{Decl}
 use Rattle.cube_language.specs.declared.statement.Statement.{Statement}
+use Rattle.cube_language.specs.declared.statement.Statement.TheVariants.{Insert}
 use Rattle.cube_run.specs.LoadedRows.{first_without_place, row_of_values}
-use Rattle.cube_run.specs.RunRecords.{Missing, Says}
+use Rattle.cube_run.specs.RunRecords.{Missing, RunRecord, Says}
 use Rattle.cube_run.specs.RunText.{IsReply}
 use Rattle.cube_run.specs.SessionSteps.{SessionStep}
 use Rattle.cube_run.specs.StepOutcomes.{refused_by_mode}
@@ -31,14 +42,36 @@ use Rattle.core_changes.proofs.AnsweredSteps.{done-by, failed-by}
 use Rattle.core_changes.proofs.ChangeCalls.{by-more-calls, by-plain-calls}
 use Rattle.core_changes.proofs.OperationsAdded.{epoch-then-epoch, none-at-epoch, none-then-none, none-then-some, plain-none}
 use Rattle.core_changes.specs.ChangeEnds.{ChangeEnd, Finished, Failed, RefusedBefore, IsWriterFor, MayEndSo, counted_session}
-use Rattle.core_changes.specs.ChangesInRuns.{HasEndedSo, InRunsAfterChange, IsRunAfterChange, IsStepOfChange, PostsByEnd, entries_of_change}
+use Rattle.core_changes.specs.ChangesInRuns.{AsksForItsTexts, HasEndedSo, InRunsAfterChange, IsRunAfterChange, IsStepOfChange, PostsByEnd, entries_of_change}
+use Rattle.final_names.specs.StepTexts.{HasTextFor}
 use Rattle.posted_pasts.specs.DoneChanges.{HasPutRows}
+use Rattle.row_encoding.specs.CodedInserts.{HaveTextIn}
 use Rattle.session_replies.specs.Modes.{mode_of}
 use Rattle.session_replies.specs.RowSteps.{FitsItsCube, final_names}
 use Rattle.session_replies.specs.StepParts.{IsStep}
 use Rattle.shard_events.specs.ShardsInRuns.{FitsShard, ShardAnswerSays}
 use Rattle.shard_statements.specs.OverShards.{LeavesOverShards}
 use Rattle.statement_check.specs.OwnParts.{inserted_rows}
+
+same-refusal : (a b : Refusal) → reply.Refused a ≡ reply.Refused b → a ≡ b
+same-refusal a b same = cc
+
+stored-refused : (count epoch : ℕ) (r : Refusal) → reply.Stored count epoch ≡ reply.Refused r → ⊥
+stored-refused count epoch r same = cc
+
+failure-other : (cause : AbortCause) → IsPutFailure cause → code (failure_refusal cause) ≡ 2 → ⊥
+failure-other abort.NoMemory put two = omega (arith, two)
+failure-other (abort.ShardFull shard rows) put two = omega (arith, two)
+failure-other abort.Asked put two = absurd put
+failure-other abort.EndOfScript put two = absurd put
+failure-other abort.TooManyRejected put two = absurd put
+failure-other abort.ReadFault put two = absurd put
+
+-- A text of one of its rows.
+text-of : (run : RunRecord) (step : SessionStep) (d : Decl) (dim : ℕ) (text : List ℕ) (s : Statement) → InsertsRows s
+    → HaveTextIn (inserted_rows s) dim text → HasTextFor run step d dim text s
+text-of run step d dim text (Insert cube rows) inserts has = has
+text-of run step d dim text s inserts has = absurd inserts
 
 module _ (cells : List (CoreCell CoreShard)) (caller : ℕ) (old : CoreSession) (s : Statement)
     (mid now : List CoreEntry) (place : ℕ) (d : Decl) where
@@ -147,17 +180,49 @@ module _ (cells : List (CoreCell CoreShard)) (caller : ℕ) (old : CoreSession) 
         IsStep step (mode_of old.mode) (Says s) (entry.Refused step.session step.number k ∷ [])) is.number at.parts)
         lets at.lets (meets end past o given events step run at))
 
-    pub has-ended : (new : CoreSession) (said : Reply) → refused_by_mode (mode_of old.mode) s ≡ None
+    -- ---- what it asks for
+
+    -- It is not answered that there is no such cube.
+    other-answer : (end : ChangeEnd) (said : Reply) → AnswersInsert cells caller now place d s end said
+        → IsOtherReply said
+    other-answer (Finished writer round) said is r refuses two =
+        stored-refused (length (inserted_rows s)) writer.epoch r (sym is ∙ refuses)
+    other-answer (Failed writer cause) said is r refuses two =
+        failure-other cause is.put (ap code (same-refusal (failure_refusal cause) r (sym is.is ∙ refuses)) ∙ two)
+    other-answer (RefusedBefore n) said is r refuses two =
+        both_ways (is_cube_code (code is.why)) (is-plain cells caller now place d s is.why is.right).cubes
+        (ap is_cube_code (ap code (same-refusal is.why r (sym is.is ∙ refuses)) ∙ two))
+
+    asks-its-texts : (new : CoreSession) (said : Reply) → refused_by_mode (mode_of old.mode) s ≡ None
+        → LeavesOverShards cells caller old.number own mid []
+        → (h : HasInserted cells caller (counted_session old) s mid now place d new said)
+        → AsksForItsTexts s Missing old h.ended cells caller own now
+    asks-its-texts new said lets found h =
+        asks-for-offered s Missing old h.ended cells caller own mid now (IsInsertText place d s) h.left.more found
+        h.asks
+        (λ past o given events step run at among cube dim e dimension text has is.
+        offered-there s Missing old h.ended cells caller own now place d past o given events step run at among
+        (meets h.ended past o given events step run at) said cube dim e dimension text (changes-rows s ins) lets
+        (fits-in h.ended past o given events step is.fits_it run at)
+        (answers-by-end h.ended said lets h.may h.posts h.answers past o given events step run at)
+        (other-answer h.ended said h.answers) is.here has
+        (text-of (record_of o given events) step d dim text s inserts is.has))
+
+    pub has-ended : (new : CoreSession) (said : Reply)
+        → IsSessionOf FitsShard CoreShardStands ShardAnswerSays cells old.number
+        → refused_by_mode (mode_of old.mode) s ≡ None
         → LeavesOverShards cells caller old.number own mid []
         → (h : HasInserted cells caller (counted_session old) s mid now place d new said)
         → HasEndedSo s Missing old h.ended cells caller own now new said
-    has-ended new said lets found h = record {
+    has-ended new said of_run lets found h = record {
+      session = of_run;
       changes = changes-rows s ins;
       may = h.may;
       left =
           by-more-calls cells caller old.number (old.statements + 1) s own mid now [] (entries_of_change old h.ended)
           (by-plain-calls cells caller old.number (old.statements + 1) s own mid [] found) h.left;
       becomes = h.becomes;
+      asks = asks-its-texts new said lets found h;
       posts = posts-by-end h.ended found h.left.more h.may h.posts;
       answers = answers-by-end h.ended said lets h.may h.posts h.answers;
     }

@@ -31,6 +31,7 @@ use Rattle.inserted_rows.specs.RowsInTheEnd.{HoldsInTheEnd, IsBatchOfInsert}
 use Rattle.linked_shards.specs.declared.cell.CoreShard.{CoreShard}
 use Rattle.core_changes.specs.ChangeEnds.{ChangeEnd, Finished, Failed, RefusedBefore}
 use Rattle.posted_pasts.specs.PostsAdded.{AddsAtEpoch, AddsNoOperation, AddsOperations, batches_among}
+use Rattle.row_encoding.specs.CodedInserts.{HaveTextIn}
 use Rattle.session_batches.specs.RowPosts.{row_posts}
 use Rattle.session_batches.specs.declared.answers.PutEnd.{PutEnd}
 use Rattle.session_batches.specs.declared.answers.PutEnd.TheVariants as put
@@ -76,6 +77,12 @@ pub data IsRefusalOn (cells : List (CoreCell CoreShard)) (caller : ℕ) (now : L
   full : (text : List ℕ) → FitsCube d s
       → HoldsInTheEnd cells caller now place (λ lists. first_without_place d lists (inserted_rows s) ≡ Some text)
       → IsRefusalOn cells caller now place d s (refusal.DictionaryFull text)
+
+-- A text for a dimension of its cube, which an INSERT that fits it has in one of its rows.
+pub record IsInsertText (place : ℕ) (d : Decl) (s : Statement) (cube dim : ℕ) (text : List ℕ) : Type 0 where
+  pub here : cube ≡ place
+  pub fits_it : FitsCube d s
+  pub has : HaveTextIn (inserted_rows s) dim text
 
 module _ (cells : List (CoreCell CoreShard)) (caller : ℕ) where
   module _ (now : List CoreEntry) (place : ℕ) (d : Decl) (s : Statement) where
@@ -129,8 +136,10 @@ module _ (cells : List (CoreCell CoreShard)) (caller : ℕ) where
 
     -- The counted INSERT has ended, and is answered by its end; and so it is where it is answered.
     abbrev pub HasInserted : CoreSession → Reply → Type 0
-    HasInserted new said = HasEnded cells caller old s own now PutsByEnd (AnswersInsert now place d s) new said
+    HasInserted new said = HasEnded cells caller old s own now (IsInsertText place d s) PutsByEnd
+        (AnswersInsert now place d s) new said
 
     abbrev pub AnswersAsInsert : CoreSession → Answered → Type 0
     AnswersAsInsert new answered =
-        HasAnswered cells caller old s own now PutsByEnd (AnswersInsert now place d s) new answered
+        HasAnswered cells caller old s own now (IsInsertText place d s) PutsByEnd (AnswersInsert now place d s) new
+        answered

@@ -1,7 +1,7 @@
 //! An INSERT that found its cube is bound to it.
 ghost use Rattle.std.specs.Prelude.{◌≡◌, ◌+◌, ◌≤◌, List};
 ghost use Rattle.core_changes.specs.ChangesUnderWay.{HasChangedNothing, MayChange};
-ghost use Rattle.core_inserts.specs.InsertEnds.{AnswersAsInsert, IsRefusalOn, misfit_refusal};
+ghost use Rattle.core_inserts.specs.InsertEnds.{AnswersAsInsert, IsInsertText, IsRefusalOn, misfit_refusal};
 ghost use Rattle.core_program.specs.CoreFits.{CoreEntry};
 ghost use Rattle.cube_language.specs.Misfits.{FitsCube};
 ghost use Rattle.inserted_rows.specs.RowsInTheEnd.{AreEncodedRows, IsToldOfCubeAt};
@@ -11,7 +11,7 @@ ghost use Rattle.turn_board.specs.Passes.{callers_of};
 
 use crate::putting::insert_batch;
 use board_callers::CellCaller;
-use core_names::{names_calls_are_plain, names_calls_keep_what_is_held};
+use core_names::names_calls_keep_what_is_held;
 use core_program::CoreSize;
 use core_states::{CoreSession, refuse_plainly};
 use cube_journal::Refusal;
@@ -50,7 +50,7 @@ pub(crate) fn refuse_insert<R: Wait, P: CellCaller<ShardCells>>(
     ensures others { P.others caller.new ≡ P.others caller.old }
     ensures answered { (first : List CoreEntry)
         → HasChangedNothing (P.opening caller.old) (P.number caller.old) session.now statement.now
-        first (P.own caller.old)
+        first (P.own caller.old) (IsInsertText place decl.now statement.now)
         → AnswersAsInsert (P.opening caller.old) (P.number caller.old) session.now statement.now first
         (P.own caller.new) place decl.now session.now result }
 {
@@ -80,7 +80,7 @@ pub(crate) fn refuse_bound<R: Wait, P: CellCaller<ShardCells>>(
     ensures others { P.others caller.new ≡ P.others caller.old }
     ensures answered { (first : List CoreEntry)
         → HasChangedNothing (P.opening caller.old) (P.number caller.old) session.now statement.now
-        first (P.own caller.old)
+        first (P.own caller.old) (IsInsertText place cube.now statement.now)
         → AnswersAsInsert (P.opening caller.old) (P.number caller.old) session.now statement.now first
         (P.own caller.new) place cube.now session.now result }
 {
@@ -117,7 +117,7 @@ fn insert_encoded<R: Wait, P: CellCaller<ShardCells>>(
     ensures others { P.others caller.new ≡ P.others caller.old }
     ensures answered { (first : List CoreEntry)
         → HasChangedNothing (P.opening caller.old) (P.number caller.old) session.old statement.now
-        first (P.own caller.old)
+        first (P.own caller.old) (IsInsertText place cube.now statement.now)
         → AnswersAsInsert (P.opening caller.old) (P.number caller.old) session.old statement.now first
         (P.own caller.new) place cube.now session.new result }
 {
@@ -162,7 +162,6 @@ fn insert_fitting<R: Wait, P: CellCaller<ShardCells>>(
     ensures answered { AnswersAsInsert (P.opening caller.old) (P.number caller.old) session.old
         statement.now (P.own caller.old) (P.own caller.new) place cube.now session.new result }
 {
-    names_calls_are_plain::<CoreShard>();
     names_calls_keep_what_is_held::<CoreShard>();
     told_texts_stay_told();
     let number = session.number;

@@ -5,6 +5,7 @@ ghost use Rattle.core_changes.specs.ChangesUnderWay.{HasBegunWith};
 ghost use Rattle.core_inserts.specs.InsertEnds.{
   AnswersAsInsert,
   HasBatch,
+  IsInsertText,
   IsPutFailure,
   failure_refusal,
   posted_batches,
@@ -76,7 +77,8 @@ pub(crate) fn finish_insert<R: Wait, P: CellCaller<ShardCells>>(
         → HasBatch (P.opening caller.old) (P.number caller.old) (P.own caller.old) place cube.now
         statement.now batch
         → HasBegunWith (P.opening caller.old) (P.number caller.old) session.old statement.now first
-        (P.own caller.old) writer.now (AddsOperations place writer.now.epoch (batches_posted
+        (P.own caller.old) (IsInsertText place cube.now statement.now) writer.now
+        (AddsOperations place writer.now.epoch (batches_posted
         (posted_batches cube.now size.now.shards place writer.now.epoch batch.rows)))
         → AnswersAsInsert (P.opening caller.old) (P.number caller.old) session.old statement.now first
         (P.own caller.new) place cube.now session.new result }
@@ -132,7 +134,8 @@ pub(crate) fn fail_insert<R: Wait, P: CellCaller<ShardCells>>(
         → HasBatch (P.opening caller.old) (P.number caller.old) (P.own caller.old) place cube.now
         statement.now batch
         → HasBegunWith (P.opening caller.old) (P.number caller.old) session.old statement.now first
-        (P.own caller.old) writer.now (AddsAtEpoch writer.now.epoch)
+        (P.own caller.old) (IsInsertText place cube.now statement.now) writer.now
+        (AddsAtEpoch writer.now.epoch)
         → AnswersAsInsert (P.opening caller.old) (P.number caller.old) session.old statement.now first
         (P.own caller.new) place cube.now session.new result }
 {

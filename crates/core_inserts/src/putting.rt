@@ -1,10 +1,11 @@
 //! The rows of an INSERT are put on their shards, by the writer of the change.
-ghost use Rattle.std.specs.Prelude.{◌≡◌, ◌+◌, ◌<◌, ◌≤◌, [], IfNone, IfSome, List};
+ghost use Rattle.std.specs.Prelude.{◌≡◌, ◌+◌, ◌<◌, ◌≤◌, IfNone, IfSome, List};
 ghost use Rattle.core_agreements.specs.PostsForOperations.{batches_posted};
 ghost use Rattle.core_changes.specs.ChangesUnderWay.{HasBegunWith, HasChangedNothing, MayChange};
 ghost use Rattle.core_inserts.specs.InsertEnds.{
   AnswersAsInsert,
   HasBatch,
+  IsInsertText,
   IsPutFailure,
   cause_of_put,
   posted_batches,
@@ -13,7 +14,7 @@ ghost use Rattle.core_program.specs.CoreFits.{CoreEntry};
 ghost use Rattle.inserted_rows.specs.RowsInTheEnd.{AreToldRows, IsToldOfCubeAt};
 ghost use Rattle.session_snapshots.specs.KnownHolds.{HoldsWriter};
 ghost use Rattle.linked_shards.specs.CellShards.{CoreShardStands};
-ghost use Rattle.core_changes.specs.CallsOfChanges.{LeavesForChange};
+ghost use Rattle.core_changes.specs.CallsOfChanges.{LeavesByJobs};
 ghost use Rattle.core_changes.specs.ChangeEnds.{IsWriterFor};
 ghost use Rattle.posted_pasts.specs.PostsAdded.{AddsAtEpoch, AddsNoOperation, AddsOperations, LearnsThat};
 ghost use Rattle.scripted_pasts.specs.Served.{IsServed};
@@ -80,8 +81,8 @@ fn failure_of_put<R: Wait, P: CellCaller<ShardCells>>(
     ensures opening { P.opening caller.new ≡ P.opening caller.old }
     ensures number { P.number caller.new ≡ P.number caller.old }
     ensures others { P.others caller.new ≡ P.others caller.old }
-    ensures left { LeavesForChange (P.opening caller.old) (P.number caller.old) session number
-        statement.now (P.own caller.old) (P.own caller.new) [] }
+    ensures left { LeavesByJobs (P.opening caller.old) (P.number caller.old) session number
+        statement.now (P.own caller.old) (P.own caller.new) }
     ensures operations { IfNone result (LearnsThat FitsShard CoreShardStands ShardAnswerSays
         (AddsOperations place writer.now.epoch (batches_posted
         (posted_batches cube.now size.now.shards place writer.now.epoch rows.rows)))
@@ -134,7 +135,7 @@ fn insert_by<R: Wait, P: CellCaller<ShardCells>>(
     ensures others { P.others caller.new ≡ P.others caller.old }
     ensures answered { (first : List CoreEntry)
         → HasBegunWith (P.opening caller.old) (P.number caller.old) session.old statement.now first
-        (P.own caller.old) writer.now AddsNoOperation
+        (P.own caller.old) (IsInsertText place cube.now statement.now) writer.now AddsNoOperation
         → AnswersAsInsert (P.opening caller.old) (P.number caller.old) session.old statement.now first
         (P.own caller.new) place cube.now session.new result }
 {
@@ -180,7 +181,7 @@ pub(crate) fn insert_batch<R: Wait, P: CellCaller<ShardCells>>(
     ensures others { P.others caller.new ≡ P.others caller.old }
     ensures answered { (first : List CoreEntry)
         → HasChangedNothing (P.opening caller.old) (P.number caller.old) session.old statement.now
-        first (P.own caller.old)
+        first (P.own caller.old) (IsInsertText place cube.now statement.now)
         → AnswersAsInsert (P.opening caller.old) (P.number caller.old) session.old statement.now first
         (P.own caller.new) place cube.now session.new result }
 {

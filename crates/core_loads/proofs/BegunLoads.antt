@@ -1,15 +1,16 @@
 -- A counted LOAD may change rows, has read its file, and has put its records by a writer.
-use Rattle.std.proofs.Common.{◌≡◌, ℕ, false, inl, inr, List, [], None, Result, refl, sym, subst}
+use Rattle.std.proofs.Common.{◌≡◌, ℕ, false, inl, inr, List, [], None, Result, refl, sym, subst, append-nil}
 use Rattle.std.proofs.lemmas.Option.{none-some}
 use mathlib.Core.List.{IsPrefix}
-use Rattle.core_changes.proofs.BegunChanges.{begun-at-epoch, begun-with-operations}
-use Rattle.core_changes.proofs.OperationsAdded.{none-at-epoch}
+use Rattle.core_changes.proofs.ChangeCalls.{by-more-calls}
+use Rattle.core_changes.proofs.OperationsAdded.{epoch-then-epoch, none-at-epoch, none-then-some}
 use Rattle.core_changes.specs.CallsOfChanges.{IsCallOfChange, LeavesForChange}
 use Rattle.core_changes.specs.ChangeEnds.{begun_entries}
 use Rattle.core_changes.specs.ChangesUnderWay.{HasBegunWith, HasChangedNothing}
 use Rattle.core_agreements.specs.PostsForOperations.{batches_posted}
 use Rattle.core_loads.proofs.StepsOfLoads.{load-of}
-use Rattle.core_loads.specs.LoadEnds.{HoldsOfRecords}
+use Rattle.core_loads.proofs.TextsOfLoads.{asks-as, of-none}
+use Rattle.core_loads.specs.LoadEnds.{HoldsOfRecords, NoText}
 use Rattle.core_loads.specs.ShelfLoads.{CountsLoad, IsAnsweredFor, IsFileRead, LoadsRows, ShelfSeen}
 use Rattle.core_names.proofs.GivenCodes.{still-told as numbers-told}
 use Rattle.core_names.specs.CoreEncoders.{MayAskForCodes}
@@ -20,6 +21,7 @@ use Rattle.core_states.specs.declared.session.CoreSession.{CoreSession}
 use Rattle.csv_load.specs.FileRecords.{RecordFields}
 use Rattle.csv_load.specs.Loads.{BeginsLoad, LoadState}
 use Rattle.cube_core.specs.declared.cell.CoreCell.{CoreCell}
+use Rattle.cube_journal.specs.declared.journal_entry.JournalEntry.{JournalEntry}
 use Rattle.cube_journal.specs.declared.refusal.Refusal.TheVariants as refusal
 use Rattle.cube_journal.specs.declared.reply.Reply.{Reply}
 use Rattle.cube_journal.specs.declared.reply.Reply.TheVariants as reply
@@ -36,6 +38,8 @@ use Rattle.cube_run.specs.StepOutcomes.{refused_by_mode}
 use Rattle.cube_values.specs.declared.row.CodedRow.{CodedRow}
 use Rattle.cube_values.specs.declared.row.Row.{Row}
 use Rattle.cube_values.specs.declared.snapshot.Snapshot.{Snapshot}
+use Rattle.final_names.proofs.AskingOnly.{only-then}
+use Rattle.final_names.specs.AskedTexts.{AsksOnly}
 use Rattle.inserted_rows.specs.RowsInTheEnd.{HoldsInTheEnd, IsToldOfCubeAt}
 use Rattle.known_cubes.proofs.ToldCubes.{told-later}
 use Rattle.known_cubes.specs.KnownCubes.{IsToldOfCube}
@@ -92,15 +96,22 @@ texts-still-told own now place dims known more told = record {
 -- ---- the records are put
 
 module _ (cells : List (CoreCell CoreShard)) (caller : ℕ) (old : CoreSession) (s : Statement)
-    (first own now : List CoreEntry) (writer : Snapshot) where
+    (first own now : List CoreEntry) (IsText : ℕ → ℕ → List ℕ → Type 0) (writer : Snapshot) where
+  abbrev Asks : (ℕ → ℕ → List ℕ → Type 0) → List CoreEntry → List CoreEntry → Type 0
+  Asks Is from to = LearnsThat FitsShard CoreShardStands ShardAnswerSays (AsksOnly Is) cells caller old.number from to
+
+  none-yet : Asks NoText first own → Asks IsText first own
+  none-yet = asks-as NoText IsText (of-none IsText) cells caller old.number first own
+
   -- In a transaction that is open a change has begun when nothing is changed.
-  pub begun-inside : mode_of old.mode ≡ Open writer → HasChangedNothing cells caller old s first own
-      → HasBegunWith cells caller old s first own writer (AddsAtEpoch writer.epoch)
+  pub begun-inside : mode_of old.mode ≡ Open writer → HasChangedNothing cells caller old s first own NoText
+      → HasBegunWith cells caller old s first own IsText writer (AddsAtEpoch writer.epoch)
   begun-inside is nothing = record {
     left =
         subst (λ (m : Mode). LeavesForChange cells caller old.number old.statements s first own
         (begun_entries old.number old.statements m writer)) (sym is) nothing.left;
     learns = none-at-epoch cells caller old.number writer.epoch first own nothing.learns;
+    asks = none-yet nothing.asks;
   }
 
   module _ (place : ℕ) (goes : GoesOnLoading cells caller old.number place writer.epoch own now) where
@@ -116,20 +127,44 @@ module _ (cells : List (CoreCell CoreShard)) (caller : ℕ) (old : CoreSession) 
           });
     }
 
-    module _ (begun : HasBegunWith cells caller old s first own writer AddsNoOperation) where
-      pub loading-at-epoch : HasBegunWith cells caller old s first now writer (AddsAtEpoch writer.epoch)
-      loading-at-epoch =
-          begun-at-epoch cells caller old s first own now writer begun loading-leaves
-          (nothing-else cells caller old.number place writer.epoch own now goes)
+    module _ (begun : HasBegunWith cells caller old s first own NoText writer AddsNoOperation)
+        (asked : Asks IsText own now) where
+      abbrev began : List JournalEntry
+      began = begun_entries old.number old.statements (mode_of old.mode) writer
+
+      still-begun : LeavesForChange cells caller old.number old.statements s first now began
+      still-begun =
+          subst (λ (es : List JournalEntry).
+          LeavesForChange cells caller old.number old.statements s first now es) (append-nil began)
+          (by-more-calls cells caller old.number old.statements s first own now began [] begun.left loading-leaves)
+
+      then-asks : Asks IsText first now
+      then-asks =
+          only-then FitsShard CoreShardStands ShardAnswerSays cells caller old.number IsText first own now goes.more
+          (none-yet begun.asks) asked
+
+      pub loading-at-epoch : HasBegunWith cells caller old s first now IsText writer (AddsAtEpoch writer.epoch)
+      loading-at-epoch = record {
+        left = still-begun;
+        learns =
+            epoch-then-epoch cells caller old.number writer.epoch first own now goes.more
+            (none-at-epoch cells caller old.number writer.epoch first own begun.learns)
+            (nothing-else cells caller old.number place writer.epoch own now goes);
+        asks = then-asks;
+      }
 
       pub loading-batches : (batches : List (List CodedRow))
           → LearnsThat FitsShard CoreShardStands ShardAnswerSays
           (AddsOperations place writer.epoch (batches_posted batches)) cells caller old.number own now
-          → HasBegunWith cells caller old s first now writer
+          → HasBegunWith cells caller old s first now IsText writer
           (AddsOperations place writer.epoch (batches_posted batches))
-      loading-batches batches posted =
-          begun-with-operations cells caller old s first own now writer begun loading-leaves place
-          (batches_posted batches) posted
+      loading-batches batches posted = record {
+        left = still-begun;
+        learns =
+            none-then-some cells caller old.number place writer.epoch (batches_posted batches) first own now goes.more
+            begun.learns posted;
+        asks = then-asks;
+      }
 
 -- What is so of the records at which a load looks is so of those of its file.
 pub of-records : (cells : List (CoreCell CoreShard)) (caller : ℕ) (now : List CoreEntry) (place : ℕ) (d : Decl)

@@ -7,7 +7,8 @@ use Rattle.core_changes.specs.ChangeEnds.{ChangeEnd, IsWriterFor, committed_entr
 use Rattle.core_changes.specs.CallsOfChanges.{LeavesForChange}
 use Rattle.core_changes.specs.ChangesUnderWay.{HasBegunWith, HasChangedNothing, IsSameStatement}
 use Rattle.core_changes.specs.FinishedChanges.{HasFinished}
-use Rattle.core_loads.specs.LoadEnds.{AnswersAsLoad, AnswersByEnd, FailsBy, HoldsOfRecords, IsRefusalOf, LoadsByEnd}
+use Rattle.core_loads.specs.LoadEnds.{AnswersAsLoad, AnswersByEnd, FailsBy, HoldsOfRecords, IsFileText, IsRefusalOf, LoadsByEnd, NoText}
+use Rattle.core_loads.proofs.TextsOfLoads.{asks-as, file-text-later, of-none}
 use Rattle.core_loads.specs.ShelfLoads.{allowed_loaded}
 use Rattle.core_program.specs.CoreFits.{CoreEntry}
 use Rattle.core_states.specs.LeftBehind.{GoOnByCalls, IsPlainCall}
@@ -30,11 +31,12 @@ use Rattle.cube_run.specs.SessionStates.{Mode}
 use Rattle.cube_values.specs.declared.row.CodedRow.{CodedRow}
 use Rattle.cube_values.specs.declared.row.Row.{Row}
 use Rattle.cube_values.specs.declared.snapshot.Snapshot.{Snapshot}
+use Rattle.final_names.specs.AskedTexts.{AsksOnly}
 use Rattle.inserted_rows.proofs.NamesAtEnd.{left-later}
 use Rattle.linked_shards.specs.CellShards.{CoreShardStands}
 use Rattle.linked_shards.specs.declared.cell.CoreShard.{CoreShard}
 use Rattle.loaded_batches.specs.LoadEnds.{StandForRecords}
-use Rattle.posted_pasts.specs.PostsAdded.{AddsAtEpoch, AddsOperations}
+use Rattle.posted_pasts.specs.PostsAdded.{AddsAtEpoch, AddsOperations, LearnsThat}
 use Rattle.row_encoding.specs.declared.load.BadRecords.{BadRecords}
 use Rattle.session_desk.specs.Executed.{IfReplied, OnStopped}
 use Rattle.session_desk.specs.declared.answered.Answered.{Answered}
@@ -77,6 +79,17 @@ module _ (cells : List (CoreCell CoreShard)) (caller : ℕ) (own now : List Core
 
 module _ (cells : List (CoreCell CoreShard)) (caller : ℕ) (old : CoreSession) (s : Statement) (file : LoadedFile)
     (first own now : List CoreEntry) (place : ℕ) (d : Decl) where
+  abbrev TextAt : List CoreEntry → ℕ → ℕ → List ℕ → Type 0
+  TextAt calls = IsFileText cells caller calls place d (allowed_loaded s) file
+
+  later-asks : IsPrefix own now
+      → LearnsThat FitsShard CoreShardStands ShardAnswerSays (AsksOnly (TextAt own)) cells caller old.number first own
+      → LearnsThat FitsShard CoreShardStands ShardAnswerSays (AsksOnly (TextAt now)) cells caller old.number first own
+  later-asks more =
+      asks-as (TextAt own) (TextAt now) (file-text-later cells caller place d (allowed_loaded s) file own now more)
+      cells
+      caller old.number first own
+
   abbrev Posts : ChangeEnd → Type 0
   Posts = LoadsByEnd cells caller old s file first now place d
 
@@ -98,7 +111,7 @@ module _ (cells : List (CoreCell CoreShard)) (caller : ℕ) (old : CoreSession) 
       → LeavesForChange cells caller old.number old.statements s first own added → IsPrefix own now
       → Plain → IsSameStatement old new → Answered-so new Stopped
   stopped added new left more plain stays =
-      change-stopped cells caller old s first own now Posts Answers added new left more plain stays
+      change-stopped cells caller old s first own now (TextAt now) Posts Answers added new left more plain stays
 
   module _ (writer : Snapshot) (writes : IsWriterFor (mode_of old.mode) writer)
       (counted : old.commits < old.statements) where
@@ -106,7 +119,7 @@ module _ (cells : List (CoreCell CoreShard)) (caller : ℕ) (old : CoreSession) 
     pub finished : (rows : ℕ) (bad : BadRecords) (batches : List (List CodedRow)) (new : CoreSession)
         → HoldsOfRecords cells caller own place d (allowed_loaded s) file (λ lists looked.
         StandForRecords d lists (allowed_loaded s) looked batches rows bad)
-        → HasBegunWith cells caller old s first own writer
+        → HasBegunWith cells caller old s first own (TextAt own) writer
         (AddsOperations place writer.epoch (batches_posted batches))
         → IsPrefix own now → Plain → new ≡ finished_session old → Holds new
         → HasFinished cells caller old writer own now
@@ -117,8 +130,9 @@ module _ (cells : List (CoreCell CoreShard)) (caller : ℕ) (old : CoreSession) 
         records-later cells caller own now place d (allowed_loaded s) file (mode_of old.mode) writer
         (λ lists looked. StandForRecords d lists (allowed_loaded s) looked batches rows bad) more told
         in
-        change-finished cells caller old s first own now Posts Answers writer writes counted new
-        (reply.Loaded rows bad.count bad.first writer.epoch) begun.left more plain becomes holds f
+        change-finished cells caller old s first own now (TextAt now) Posts Answers writer writes counted new
+        (reply.Loaded rows bad.count bad.first writer.epoch) begun.left (later-asks more begun.asks) more plain
+        becomes holds f
         (record {
           batches = batches;
           posted =
@@ -135,15 +149,16 @@ module _ (cells : List (CoreCell CoreShard)) (caller : ℕ) (old : CoreSession) 
     -- It fails.
     pub failed : (cause : AbortCause) (why : Refusal) (new : CoreSession)
         → FailsBy cells caller own place d (allowed_loaded s) file (mode_of old.mode) writer cause why
-        → HasBegunWith cells caller old s first own writer (AddsAtEpoch writer.epoch)
+        → HasBegunWith cells caller old s first own (TextAt own) writer (AddsAtEpoch writer.epoch)
         → IsPrefix own now → Plain → new ≡ failed_session old → Holds new
         → LeavesOverShards cells caller old.number own now
         (failed_entries old.number old.statements writer cause)
         → Answered-so new (Replied (reply.Refused why))
     failed cause why new fails begun more plain becomes holds left =
-        change-failed cells caller old s first own now Posts Answers writer writes counted new (reply.Refused why) cause
+        change-failed cells caller old s first own now (TextAt now) Posts Answers writer writes counted new
+        (reply.Refused why) cause
         (it-fails cells caller own now place d (allowed_loaded s) file (mode_of old.mode) writer cause why fails)
-        begun.left more plain becomes holds left
+        begun.left (later-asks more begun.asks) more plain becomes holds left
         (epoch-stays cells caller old.number first own now (failed_entries old.number old.statements writer cause) left
         writer.epoch begun.learns)
         (record {
@@ -156,14 +171,19 @@ module _ (cells : List (CoreCell CoreShard)) (caller : ℕ) (old : CoreSession) 
 
   -- It is refused before it has changed anything, or stops at that.
   pub refused : (why : Refusal) (answered : Answered) → old.commits < old.statements
-      → IsRefusalOf (mode_of old.mode) file why → HasChangedNothing cells caller old s first own
+      → IsRefusalOf (mode_of old.mode) file why → HasChangedNothing cells caller old s first own NoText
       → IfReplied answered (λ said. said ≡ reply.Refused why)
       → IfReplied answered (λ said. LeavesOverShards cells caller old.number own now
       (entry.Refused old.number old.statements (code why) ∷ []))
       → OnStopped answered (LeavesOverShards cells caller old.number own now []) → Holds old
       → Answered-so old answered
   refused why answered counted right nothing is left stops holds =
-      change-refused cells caller old s first own now Posts Answers why answered counted nothing is left stops holds
+      change-refused cells caller old s first own now (TextAt now) Posts Answers why answered counted
+      (record {
+        left = nothing.left;
+        learns = nothing.learns;
+        asks = asks-as NoText (TextAt now) (of-none (TextAt now)) cells caller old.number first own nothing.asks;
+      }) is left stops holds
       (λ leaves. nothing-stays cells caller old.number first own now
       (entry.Refused old.number old.statements (code why) ∷ []) leaves nothing.learns)
       (λ more. record { why = why; right = right; number = refl; is = refl })

@@ -2,3 +2,4 @@ pub mod BegunLoads
 pub mod EndedLoads
 pub mod LoadsInRuns
 pub mod StepsOfLoads
+pub mod TextsOfLoads

@@ -1,15 +1,17 @@
 -- A LOAD that has ended is performed, with its file.
-use Rattle.std.proofs.Common.{◌≡◌, ◌∙◌, ℕ, ◌+◌, ◌≤◌, ◌<◌, inl, List, [], ◌∷◌, None, Result, refl, sym, subst}
+use Rattle.std.proofs.Common.{◌≡◌, ◌∙◌, ℕ, ◌+◌, ◌≤◌, ◌<◌, inl, List, [], ◌∷◌, None, Result, refl, sym, ap, subst, arith}
 use mathlib.Core.List.{IsPrefix}
 use Rattle.core_agreements.specs.PostsForOperations.{batches_posted}
 use Rattle.core_changes.proofs.AnsweredSteps.{done-by, failed-by, no-memory-answered}
 use Rattle.core_changes.proofs.ChangeCalls.{by-more-calls, by-plain-calls}
+use Rattle.core_changes.proofs.OfferedTexts.{IsOtherReply, asks-for-offered, offered-there}
 use Rattle.core_changes.proofs.CubesOfChanges.{IsOnRecord, fits-in as cube-fits, meets as cube-met}
 use Rattle.core_changes.proofs.OperationsAdded.{epoch-then-epoch, none-at-epoch, none-then-none, none-then-some, plain-none}
 use Rattle.core_changes.specs.ChangeEnds.{ChangeEnd, Finished, Failed, RefusedBefore, IsWriterFor, MayEndSo, counted_session}
-use Rattle.core_changes.specs.ChangesInRuns.{HasEndedSo, InRunsAfterChange, IsRunAfterChange, IsStepOfChange, PostsByEnd, entries_of_change}
+use Rattle.core_changes.specs.ChangesInRuns.{AsksForItsTexts, HasEndedSo, InRunsAfterChange, IsRunAfterChange, IsStepOfChange, PostsByEnd, entries_of_change}
 use Rattle.core_loads.proofs.StepsOfLoads.{IsLoad, changes-rows, fits-any, full-answer, gives-records, load-of, loaded-answer, put-done, refused-answer, rejected-answer, unread-answer}
-use Rattle.core_loads.specs.LoadEnds.{AnswersByEnd, FailsBy, HasLoaded, HasLoadedBatches, IsOfBytes, LoadsByEnd, looked_in}
+use Rattle.core_loads.proofs.TextsOfLoads.{text-of}
+use Rattle.core_loads.specs.LoadEnds.{AnswersByEnd, FailsBy, HasLoaded, HasLoadedBatches, IsFileText, IsOfBytes, IsRefusalOf, LoadsByEnd, looked_in, without_memory, absent, too_long, unread}
 use Rattle.core_loads.specs.ShelfLoads.{LoadsRows, allowed_loaded}
 use Rattle.core_events.specs.Events.{Opening, CoreEvent}
 use Rattle.core_names.specs.NamesInTheEnd.{MayLeaveNames}
@@ -19,6 +21,7 @@ use Rattle.core_records.specs.CoreRecords.{RunScripts, names_left, record_of}
 use Rattle.core_states.specs.declared.session.CoreSession.{CoreSession}
 use Rattle.condition_spans.specs.Codes.{lists_at}
 use Rattle.cube_core.specs.declared.cell.CoreCell.{CoreCell}
+use Rattle.cube_journal.specs.Refusals.{code}
 use Rattle.cube_journal.specs.declared.journal_entry.AbortCause.{AbortCause}
 use Rattle.cube_journal.specs.declared.journal_entry.AbortCause.TheVariants as abort
 use Rattle.cube_journal.specs.declared.journal_entry.JournalEntry.{JournalEntry}
@@ -33,6 +36,7 @@ use Rattle.cube_language.specs.declared.statement.Statement.{Statement}
 use Rattle.cube_run.specs.LoadedRows.{rows_among}
 use Rattle.cube_run.specs.RunRecords.{LoadedFile, Says}
 use Rattle.cube_run.specs.RunText.{IsReply}
+use Rattle.cube_run.specs.SessionStates.{Mode}
 use Rattle.cube_run.specs.SessionSteps.{SessionStep}
 use Rattle.cube_run.specs.StepOutcomes.{refused_by_mode}
 use Rattle.cube_values.specs.declared.row.Row.{Row}
@@ -41,11 +45,43 @@ use Rattle.found_cubes.specs.CubesOnRecord.{HasCubeAt}
 use Rattle.linked_shards.specs.CellShards.{CoreShardStands}
 use Rattle.linked_shards.specs.declared.cell.CoreShard.{CoreShard}
 use Rattle.posted_pasts.specs.DoneChanges.{HasPutRows}
+use Rattle.scripted_pasts.specs.Served.{IsServed}
 use Rattle.session_replies.specs.Modes.{mode_of}
 use Rattle.session_replies.specs.RowSteps.{FitsItsCube, GivesRecords}
 use Rattle.session_replies.specs.StepParts.{IsStep}
 use Rattle.shard_events.specs.ShardsInRuns.{FitsShard, ShardAnswerSays}
 use Rattle.shard_statements.specs.OverShards.{LeavesOverShards}
+
+-- ---- no refusal of a LOAD that found its cube is that there is no such cube
+
+same-refusal : (a b : Refusal) → reply.Refused a ≡ reply.Refused b → a ≡ b
+same-refusal a b same = cc
+
+loaded-refused : (said : Reply) (rows rejected epoch : ℕ) (first : _) (r : Refusal)
+    → said ≡ reply.Loaded rows rejected first epoch → said ≡ reply.Refused r → ⊥
+loaded-refused said rows rejected epoch first r is other = cc
+
+other-refusal : (mode : Mode) (file : LoadedFile) (r : Refusal) → IsRefusalOf mode file r → code r ≡ 2 → ⊥
+other-refusal mode file r without_memory two = omega (arith, two)
+other-refusal mode file r (absent missing) two = omega (arith, two)
+other-refusal mode file r (too_long size large) two = omega (arith, two)
+other-refusal mode file r (unread idle) two = omega (arith, two)
+
+other-so : (a b : Refusal) → a ≡ b → (code b ≡ 2 → ⊥) → code a ≡ 2 → ⊥
+other-so a b same other two = other (sym (ap code same) ∙ two)
+
+module _ (cells : List (CoreCell CoreShard)) (caller : ℕ) (now : List CoreEntry) (place : ℕ) (d : Decl) (allowed : ℕ)
+    (file : LoadedFile) (mode : Mode) (writer : Snapshot) where
+  other-failure : (cause : AbortCause) (r : Refusal) → FailsBy cells caller now place d allowed file mode writer cause r
+      → code r ≡ 2 → ⊥
+  other-failure abort.NoMemory r fails = other-so r refusal.NoMemory fails (λ two. omega (arith, two))
+  other-failure (abort.ShardFull shard rows) r fails =
+      other-so r (refusal.ShardFull shard rows) fails.0 (λ two. omega (arith, two))
+  other-failure abort.TooManyRejected r fails =
+      other-so r (refusal.TooManyRejected fails.0 allowed) fails.1 (λ two. omega (arith, two))
+  other-failure abort.ReadFault r fails = other-so r refusal.ReadFault fails.0 (λ two. omega (arith, two))
+  other-failure abort.Asked r fails = absurd fails
+  other-failure abort.EndOfScript r fails = absurd fails
 
 module _ (cells : List (CoreCell CoreShard)) (caller : ℕ) (old : CoreSession) (s : Statement) (file : LoadedFile)
     (mid now : List CoreEntry) (place : ℕ) (d : Decl) where
@@ -198,17 +234,49 @@ module _ (cells : List (CoreCell CoreShard)) (caller : ℕ) (old : CoreSession) 
         IsStep step (mode_of old.mode) (Says s) (entry.Refused step.session step.number k ∷ [])) is.number at.parts)
         lets at.file_is (fits-in end past o given events step run at))
 
-    pub has-ended : (new : CoreSession) (said : Reply) → refused_by_mode (mode_of old.mode) s ≡ None
+    -- ---- what it asks for
+
+    other-answer : (end : ChangeEnd) (said : Reply)
+        → AnswersByEnd cells caller (counted_session old) s file mid now place d end said → IsOtherReply said
+    other-answer (Finished writer round) said is r refuses two =
+        loaded-refused said is.rows is.bad.count writer.epoch is.bad.first r is.is refuses
+    other-answer (Failed writer cause) said is r refuses two =
+        other-failure cells caller now place d (allowed_loaded s) file (mode_of old.mode) writer cause is.why is.fails
+        (ap code (same-refusal is.why r (sym is.is ∙ refuses)) ∙ two)
+    other-answer (RefusedBefore n) said is r refuses two =
+        other-refusal (mode_of old.mode) file is.why is.right
+        (ap code (same-refusal is.why r (sym is.is ∙ refuses)) ∙ two)
+
+    asks-its-texts : (new : CoreSession) (said : Reply) → refused_by_mode (mode_of old.mode) s ≡ None
+        → LeavesOverShards cells caller old.number own mid []
+        → (h : HasLoaded cells caller (counted_session old) s file mid now place d new said)
+        → AsksForItsTexts s file old h.ended cells caller own now
+    asks-its-texts new said lets found h =
+        asks-for-offered s file old h.ended cells caller own mid now
+        (IsFileText cells caller now place d (allowed_loaded s) file) h.left.more found h.asks
+        (λ past o given events step run at among cube dim e dimension text has is.
+        offered-there s file old h.ended cells caller own now place d past o given events step run at among
+        (meets h.ended past o given events step run at) said cube dim e dimension text (changes-rows s load) lets
+        (fits-in h.ended past o given events step run at)
+        (answers-by-end h.ended said lets h.may h.answers past o given events step run at)
+        (other-answer h.ended said h.answers) is.of_load.here has
+        (text-of cells caller now (record_of o given events) step s place d file cube dim text loads
+        (meets h.ended past o given events step run at) at.file_is (leaves h.ended past o given events run) is))
+
+    pub has-ended : (new : CoreSession) (said : Reply) {shards : ℕ} → IsServed cells caller old.number shards
+        → refused_by_mode (mode_of old.mode) s ≡ None
         → LeavesOverShards cells caller old.number own mid []
         → (h : HasLoaded cells caller (counted_session old) s file mid now place d new said)
         → HasEndedSo s file old h.ended cells caller own now new said
-    has-ended new said lets found h = record {
+    has-ended new said served lets found h = record {
+      session = served.is_session;
       changes = changes-rows s load;
       may = h.may;
       left =
           by-more-calls cells caller old.number (old.statements + 1) s own mid now [] (entries_of_change old h.ended)
           (by-plain-calls cells caller old.number (old.statements + 1) s own mid [] found) h.left;
       becomes = h.becomes;
+      asks = asks-its-texts new said lets found h;
       posts = posts-by-end h.ended found h.left.more h.may h.posts;
       answers = answers-by-end h.ended said lets h.may h.answers;
     }

@@ -26,10 +26,12 @@ use Rattle.cube_values.specs.declared.row.CodedRow.{CodedRow}
 use Rattle.cube_values.specs.declared.row.Row.{Row}
 use Rattle.cube_values.specs.declared.snapshot.Snapshot.{Snapshot}
 use Rattle.csv_load.specs.FileRecords.{records_of}
+use Rattle.csv_load.specs.Loads.{LoadState}
 use Rattle.inserted_rows.specs.RowsInTheEnd.{HoldsInTheEnd}
 use Rattle.linked_shards.specs.declared.cell.CoreShard.{CoreShard}
 use Rattle.core_changes.specs.ChangeEnds.{ChangeEnd, Finished, Failed, RefusedBefore}
 use Rattle.loaded_batches.specs.LoadEnds.{HaveFewBad, HaveManyBad, StandForRecords}
+use Rattle.loaded_batches.specs.LoadTexts.{IsLoadText}
 use Rattle.loaded_files.specs.LoadedFiles.{loaded_file}
 use Rattle.outside.specs.Given.{whole}
 use Rattle.posted_pasts.specs.PostsAdded.{AddsAtEpoch, AddsNoOperation, AddsOperations}
@@ -48,6 +50,10 @@ looked_in d allowed bytes lists = records_looked_at allowed (final_records d lis
 abbrev pub IsOfBytes : LoadedFile → List ℕ → Type 0
 IsOfBytes file bytes = file ≡ loaded_file (whole bytes)
 
+-- No text: for none a LOAD has asked before it looks at records.
+abbrev pub NoText : ℕ → ℕ → List ℕ → Type 0
+NoText cube dim text = ⊥
+
 -- A LOAD is refused before it has changed anything for want of memory, since its file is not there or is too long, or,
 -- where its session has no transaction, since the file cannot be read.
 pub data IsRefusalOf (mode : Mode) (file : LoadedFile) : Refusal → Type 0 where
@@ -65,6 +71,14 @@ pub record IsRefusedOf (mode : Mode) (file : LoadedFile) (n : ℕ) (said : Reply
 
 module _ (cells : List (CoreCell CoreShard)) (caller : ℕ) where
   module _ (now : List CoreEntry) (place : ℕ) (d : Decl) (allowed : ℕ) (file : LoadedFile) where
+    -- A text for a dimension of its cube, in a record of its file at which the LOAD looks in each run that goes on.
+    pub record IsFileText (cube dim : ℕ) (text : List ℕ) : Type 0 where
+      pub bytes : List ℕ
+      pub file_is : IsOfBytes file bytes
+      pub load : LoadState
+      pub all : load.left ≡ records_of bytes
+      pub of_load : IsLoadText cells caller place d now allowed load cube dim text
+
     -- This holds of the records at which the LOAD looks, in each run that goes on.
     pub record HoldsOfRecords (Holds : List (List (List ℕ)) → List (Result Row BadRow) → Type 0) : Type 0 where
       pub bytes : List ℕ
@@ -128,10 +142,16 @@ module _ (cells : List (CoreCell CoreShard)) (caller : ℕ) where
 
       -- The counted LOAD has ended with this file, and is answered by its end; and so it is where it is answered.
       abbrev pub HasLoaded : CoreSession → Reply → Type 0
-      HasLoaded new said = HasEnded cells caller old s own now LoadsByEnd AnswersByEnd new said
+      HasLoaded new said =
+          HasEnded cells caller old s own now (IsFileText now place d (allowed_loaded s) file) LoadsByEnd AnswersByEnd
+          new
+          said
 
       abbrev pub AnswersAsLoad : CoreSession → Answered → Type 0
-      AnswersAsLoad new answered = HasAnswered cells caller old s own now LoadsByEnd AnswersByEnd new answered
+      AnswersAsLoad new answered =
+          HasAnswered cells caller old s own now (IsFileText now place d (allowed_loaded s) file) LoadsByEnd
+          AnswersByEnd
+          new answered
 
   -- It has so answered with a file, which is the one that was read of the shelf, unless it is refused unread.
   pub record AnswersFromShelf (seen : ShelfSeen) (old : CoreSession) (s : Statement) (own now : List CoreEntry)

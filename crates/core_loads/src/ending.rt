@@ -3,7 +3,7 @@ ghost use Rattle.std.specs.Prelude.{◌≡◌, ◌+◌, ◌<◌, ◌≤◌, List
 ghost use mathlib.Core.List.{IsPrefix};
 ghost use Rattle.core_agreements.specs.PostsForOperations.{batches_posted};
 ghost use Rattle.core_changes.specs.ChangesUnderWay.{HasBegunWith};
-ghost use Rattle.core_loads.specs.LoadEnds.{AnswersAsLoad, FailsBy, HoldsOfRecords};
+ghost use Rattle.core_loads.specs.LoadEnds.{AnswersAsLoad, FailsBy, HoldsOfRecords, IsFileText};
 ghost use Rattle.core_loads.specs.ShelfLoads.{IsOfRecords, allowed_loaded};
 ghost use Rattle.core_program.specs.CoreFits.{CoreEntry};
 ghost use Rattle.cube_journal.specs.declared.reply.Reply.TheVariants as reply;
@@ -71,7 +71,9 @@ pub(crate) fn finish_load<R: Wait, P: CellCaller<ShardCells>>(
         (allowed_loaded statement.now) file (λ lists looked.
         StandForRecords cube.now lists (allowed_loaded statement.now) looked batches rows bad)
         → HasBegunWith (P.opening caller.old) (P.number caller.old) session.old statement.now first
-        (P.own caller.old) writer.now (AddsOperations place writer.now.epoch (batches_posted batches))
+        (P.own caller.old) (IsFileText (P.opening caller.old) (P.number caller.old) (P.own caller.old)
+        place cube.now (allowed_loaded statement.now) file) writer.now
+        (AddsOperations place writer.now.epoch (batches_posted batches))
         → AnswersAsLoad (P.opening caller.old) (P.number caller.old) session.old statement.now file first
         (P.own caller.new) place cube.now session.new result }
 {
@@ -123,7 +125,8 @@ pub(crate) fn fail_load<R: Wait, P: CellCaller<ShardCells>>(
         → FailsBy (P.opening caller.old) (P.number caller.old) (P.own caller.old) place cube.now
         (allowed_loaded statement.now) file (mode_of session.old.mode) writer.now cause refusal
         → HasBegunWith (P.opening caller.old) (P.number caller.old) session.old statement.now first
-        (P.own caller.old) writer.now (AddsAtEpoch writer.now.epoch)
+        (P.own caller.old) (IsFileText (P.opening caller.old) (P.number caller.old) (P.own caller.old)
+        place cube.now (allowed_loaded statement.now) file) writer.now (AddsAtEpoch writer.now.epoch)
         → AnswersAsLoad (P.opening caller.old) (P.number caller.old) session.old statement.now file first
         (P.own caller.new) place cube.now session.new result }
 {

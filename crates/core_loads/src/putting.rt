@@ -2,7 +2,7 @@
 ghost use Rattle.std.specs.Prelude.{◌≡◌, ◌+◌, ◌<◌, ◌≤◌, ℕ, List};
 ghost use mathlib.Core.List.{IsPrefix};
 ghost use Rattle.core_changes.specs.ChangesUnderWay.{HasBegunWith, HasChangedNothing, MayChange};
-ghost use Rattle.core_loads.specs.LoadEnds.{AnswersAsLoad};
+ghost use Rattle.core_loads.specs.LoadEnds.{AnswersAsLoad, NoText};
 ghost use Rattle.core_loads.specs.ShelfLoads.{IsOfRecords, allowed_loaded};
 ghost use Rattle.core_names.specs.CoreEncoders.{MayAskForCodes};
 ghost use Rattle.core_program.specs.CoreFits.{CoreEntry};
@@ -10,6 +10,7 @@ ghost use Rattle.csv_load.specs.Loads.{BeginsLoad, LoadState};
 ghost use Rattle.session_snapshots.specs.KnownHolds.{HoldsWriter};
 ghost use Rattle.linked_shards.specs.CellShards.{CoreShardStands};
 ghost use Rattle.loaded_batches.specs.LoadEnds.{HasEndedSo, HoldsAfterLoad};
+ghost use Rattle.loaded_batches.specs.LoadTexts.{AsksForSuch};
 ghost use Rattle.loaded_batches.specs.LoadingCalls.{GoesOnLoading};
 ghost use Rattle.loaded_files.specs.LoadedFiles.{loaded_file};
 ghost use Rattle.core_changes.specs.ChangeEnds.{IsWriterFor};
@@ -74,9 +75,11 @@ fn end_load<R: Wait, P: CellCaller<ShardCells>>(
     ensures answered { (first begun : List CoreEntry) (load : LoadState) (bytes : List ℕ)
         → BeginsLoad load cube.now bytes
         → HasBegunWith (P.opening caller.old) (P.number caller.old) session.old statement.now first begun
-        writer.now AddsNoOperation
+        NoText writer.now AddsNoOperation
         → GoesOnLoading (P.opening caller.old) (P.number caller.old) session.old.number place
         writer.now.epoch begun (P.own caller.old)
+        → AsksForSuch (P.opening caller.old) (P.number caller.old) place cube.now session.old.number
+        allowed load begun (P.own caller.old)
         → HasEndedSo (P.opening caller.old) (P.number caller.old) session.old.number place writer.now
         cube.now allowed load begun (P.own caller.old) ended
         → AnswersAsLoad (P.opening caller.old) (P.number caller.old) session.old statement.now
@@ -150,7 +153,7 @@ fn load_by<R: Wait, P: CellCaller<ShardCells>>(
     ensures said { IfReplied result IsOfRecords }
     ensures answered { (first : List CoreEntry) (bytes : List ℕ) → BeginsLoad records cube.now bytes
         → HasBegunWith (P.opening caller.old) (P.number caller.old) session.old statement.now first
-        (P.own caller.old) writer.now AddsNoOperation
+        (P.own caller.old) NoText writer.now AddsNoOperation
         → AnswersAsLoad (P.opening caller.old) (P.number caller.old) session.old statement.now
         (loaded_file (whole bytes)) first (P.own caller.new) place cube.now session.new result }
 {
@@ -199,7 +202,7 @@ pub(crate) fn load_records<R: Wait, P: CellCaller<ShardCells>>(
     ensures said { IfReplied result IsOfRecords }
     ensures answered { (first : List CoreEntry) (bytes : List ℕ) → BeginsLoad records cube.now bytes
         → HasChangedNothing (P.opening caller.old) (P.number caller.old) session.old statement.now
-        first (P.own caller.old)
+        first (P.own caller.old) NoText
         → AnswersAsLoad (P.opening caller.old) (P.number caller.old) session.old statement.now
         (loaded_file (whole bytes)) first (P.own caller.new) place cube.now session.new result }
 {

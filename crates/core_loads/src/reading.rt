@@ -1,7 +1,7 @@
 //! The file of a LOAD that found its cube is read, and its records are loaded.
 ghost use Rattle.std.specs.Prelude.{◌≡◌, ◌+◌, ◌≤◌, Err, List};
 ghost use Rattle.core_changes.specs.ChangesUnderWay.{HasChangedNothing, MayChange};
-ghost use Rattle.core_loads.specs.LoadEnds.{AnswersAsLoad, AnswersFromShelf};
+ghost use Rattle.core_loads.specs.LoadEnds.{AnswersAsLoad, AnswersFromShelf, NoText};
 ghost use Rattle.core_loads.specs.ShelfLoads.{
   IsAnsweredFor,
   LoadsRows,
@@ -67,7 +67,7 @@ fn refuse_unread<R: Wait, P: CellCaller<ShardCells>>(
     ensures said { IfReplied result (λ said. said ≡ reply.Refused refusal.ReadFault) }
     ensures answered { (first : List CoreEntry) (file : LoadedFile)
         → HasChangedNothing (P.opening caller.old) (P.number caller.old) session.old statement.now
-        first (P.own caller.old)
+        first (P.own caller.old) NoText
         → AnswersAsLoad (P.opening caller.old) (P.number caller.old) session.old statement.now file first
         (P.own caller.new) place cube.now session.new result }
 {
@@ -114,7 +114,7 @@ fn refuse_file<R: Wait, P: CellCaller<ShardCells>>(
     ensures answered { (first : List CoreEntry) (given : Given)
         → ShowsLoad cube.now given (Err (Fault fault))
         → HasChangedNothing (P.opening caller.old) (P.number caller.old) session.old statement.now
-        first (P.own caller.old)
+        first (P.own caller.old) NoText
         → AnswersAsLoad (P.opening caller.old) (P.number caller.old) session.old statement.now
         (loaded_file given) first (P.own caller.new) place cube.now session.new result }
 {

@@ -1,7 +1,7 @@
 //! A LOAD that found its cube is refused before it has changed anything.
 ghost use Rattle.std.specs.Prelude.{◌≡◌, ◌≢◌, ℕ, false, List};
 ghost use Rattle.core_changes.specs.ChangesUnderWay.{HasChangedNothing, MayChange};
-ghost use Rattle.core_loads.specs.LoadEnds.{AnswersAsLoad, IsRefusalOf};
+ghost use Rattle.core_loads.specs.LoadEnds.{AnswersAsLoad, IsRefusalOf, NoText};
 ghost use Rattle.core_program.specs.CoreFits.{CoreEntry};
 ghost use Rattle.cube_journal.specs.Refusals.{code};
 ghost use Rattle.aosi_desk.specs.Desks.{is_cube_code};
@@ -44,7 +44,7 @@ pub(crate) fn refuse_load<R: Wait, P: CellCaller<ShardCells>>(
     ensures answered { (first : List CoreEntry) (file : LoadedFile) (place : ℕ) (d : Decl)
         → IsRefusalOf (mode_of session.now.mode) file refusal
         → HasChangedNothing (P.opening caller.old) (P.number caller.old) session.now statement.now
-        first (P.own caller.old)
+        first (P.own caller.old) NoText
         → AnswersAsLoad (P.opening caller.old) (P.number caller.old) session.now statement.now file first
         (P.own caller.new) place d session.now result }
 {

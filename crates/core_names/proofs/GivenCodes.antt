@@ -75,7 +75,14 @@ pub asked-one-more : (caller : ℕ) {E : Type 0} (own now : List CoreEntry) (pla
 asked-one-more caller own now place dim shape text came whole p k t has =
     let e = encode_entry caller place dim shape text came in
     elim (Contains-push_cases own e has.entry (subst (λ (l : List CoreEntry). Contains l has.entry) whole has.among)) [
-      | inl old ↦ inl (record { entry = has.entry; among = old; shape = has.shape; asks = has.asks })
+      | inl old ↦ inl (record {
+        entry = has.entry;
+        among = old;
+        shape = has.shape;
+        code = has.code;
+        asks = has.asks;
+        told = has.told;
+      })
       | inr new ↦
           let is : call.Names (names.Encode place dim shape text) ≡ call.Names (names.Encode p k has.shape t) = ap (λ (x : CoreEntry). x.call) new ∙ has.asks in
           let same_place : p ≡ place = cc in

@@ -10,6 +10,7 @@ use Rattle.core_cells.specs.declared.names.NamesAnswer.TheVariants as told
 use Rattle.core_cells.specs.declared.names.NamesCall.{NamesCall}
 use Rattle.core_cells.specs.declared.names.NamesCall.TheVariants as names
 use Rattle.core_program.specs.CoreFits.{CoreEntry}
+use Rattle.cube_core.specs.declared.cell.CoreAnswer.TheVariants as answer
 use Rattle.cube_core.specs.declared.cell.CoreCall.TheVariants as call
 
 -- The names answer a code, or are out of memory.
@@ -34,9 +35,25 @@ pub record GoOnByNames (caller : ℕ) (own now : List CoreEntry) : Type 0 where
   pub whole : now ≡ own ++ added
   pub only : AllByRecursion (IsNamesEntry caller) added
 
--- One of the own calls asks for the code of a text in a dimension.
+-- A call of the caller's that copies names.
+pub record IsCopyEntry (caller : ℕ) (e : CoreEntry) : Type 0 where
+  pub place : ℕ
+  pub dim : ℕ
+  pub from : ℕ
+  pub said : NamesAnswer
+  pub is : e ≡ names_entry caller (names.CopyFrom place dim from) said
+
+-- Its own calls go on by calls that copy names alone.
+pub record GoOnByCopies (caller : ℕ) (own now : List CoreEntry) : Type 0 where
+  pub added : List CoreEntry
+  pub whole : now ≡ own ++ added
+  pub only : AllByRecursion (IsCopyEntry caller) added
+
+-- One of the own calls asks for the code of a text in a dimension, and is told it.
 pub record HasAskedFor (own : List CoreEntry) (place dim : ℕ) (text : List ℕ) : Type 0 where
   pub entry : CoreEntry
   pub among : Contains own entry
   pub shape : CubeShape
+  pub code : Code
   pub asks : entry.call ≡ call.Names (names.Encode place dim shape text)
+  pub told : entry.answer ≡ answer.Names (told.Coded code)

@@ -9,7 +9,8 @@ ghost use Rattle.cube_values.specs.declared.row.CodedRow.{CodedRow};
 ghost use Rattle.core_program.specs.Knowing.{IsClientOf, Knows};
 ghost use Rattle.core_events.specs.Clients.{state_from_calls};
 ghost use Rattle.core_events.specs.Fitting.{AreToldNames};
-ghost use Rattle.core_names.specs.AskedNames.{GoOnByNames};
+ghost use Rattle.core_names.specs.AskedNames.{GoOnByCopies, GoOnByNames};
+ghost use Rattle.core_names.specs.CallsOnNames.{LeavesByNames};
 ghost use Rattle.core_names.specs.KnownNumbers.{AreNumbersTold, HasToldNumber, TextsByDim};
 ghost use Rattle.core_names.specs.NamesInTheEnd.{MayLeaveNames};
 ghost use Rattle.core_states.specs.CorePasts.{CorePast};
@@ -38,10 +39,14 @@ pub fn names_calls_keep_what_is_held<S: LinkedShard>()
         → OwnCallsLeave S.fits S.stands S.says cells caller session now entries }
 {}
 
-/// Calls on the names alone are plain calls, which leave nothing behind them.
-pub fn names_calls_are_plain<S: LinkedShard>()
-    ensures { (cells : List (CoreCell S)) (caller session : ℕ) (own now : List CoreEntry)
+/// Calls on the names alone leave no entries, and those that copy names are plain calls, which leave
+/// nothing behind them.
+pub fn names_calls_leave_no_entries<S: LinkedShard>()
+    ensures names { (cells : List (CoreCell S)) (caller session : ℕ) (own now : List CoreEntry)
         → IsClientOf S.fits S.stands S.says cells caller session → GoOnByNames caller own now
+        → LeavesByNames S.fits S.stands S.says cells caller session own now }
+    ensures copies { (cells : List (CoreCell S)) (caller session : ℕ) (own now : List CoreEntry)
+        → IsClientOf S.fits S.stands S.says cells caller session → GoOnByCopies caller own now
         → LeavesBehind S.fits S.stands S.says cells caller session own now [] }
 {}
 

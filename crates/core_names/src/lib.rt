@@ -10,7 +10,7 @@ mod rows;
 pub use cube_texts::CubeTexts;
 pub use encoder::CoreNames;
 pub use law::{
-    given_numbers_may_be_put, known_numbers_stay_told, names_calls_are_plain,
-    names_calls_keep_what_is_held, runs_may_leave_their_names,
+    given_numbers_may_be_put, known_numbers_stay_told, names_calls_keep_what_is_held,
+    names_calls_leave_no_entries, runs_may_leave_their_names,
 };
 pub use rows::encode_rows_by_caller;

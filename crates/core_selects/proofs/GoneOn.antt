@@ -10,8 +10,8 @@ use Rattle.cube_core.specs.Links.{AreEventsOf}
 use Rattle.core_cells.specs.declared.desk.DeskAnswer.TheVariants as answer
 use Rattle.core_cells.specs.declared.desk.DeskCall.TheVariants as call
 use Rattle.core_events.specs.Clients.{calls_of, state_from_calls}
-use Rattle.core_names.proofs.PlainNames.{left-by-names}
-use Rattle.core_names.specs.AskedNames.{GoOnByNames}
+use Rattle.core_names.proofs.PlainNames.{left-by-copies}
+use Rattle.core_names.specs.AskedNames.{GoOnByCopies}
 use Rattle.core_program.proofs.KnownCalls.{earlier-run, go-on-from}
 use Rattle.cube_core.specs.BoardCells.{IsEntryEvent}
 use Rattle.core_program.specs.CoreFits.{CoreEntry, FitsOwnCalls}
@@ -66,11 +66,11 @@ module _ (cells : List (CoreCell CoreShard)) (caller session : ℕ) where
   }
 
   module _ (acts : IsClientOf FitsShard CoreShardStands ShardAnswerSays cells caller session) (own now : List CoreEntry) where
-    pub holding-names : GoOnByNames caller own now
+    pub holding-names : GoOnByCopies caller own now
         → HoldsTheSame FitsShard CoreShardStands ShardAnswerSays session cells caller own cells caller now
         → GoesOnHolding cells caller session own now
     holding-names asks same = record {
-      left = left-by-names FitsShard CoreShardStands ShardAnswerSays cells caller session acts own now asks;
+      left = left-by-copies FitsShard CoreShardStands ShardAnswerSays cells caller session acts own now asks;
       same = same;
     }
 

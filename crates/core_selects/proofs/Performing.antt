@@ -2,7 +2,7 @@
 use Rattle.std.proofs.Common.{◌≡◌, ◌∙◌, ℕ, ◌+◌, false, List, [], ◌∷◌, ◌++◌, Option, refl, sym, ap, subst, append_assoc, append-nil, length-append}
 use Rattle.std.specs.List.{AllByRecursion}
 use mathlib.Core.List.{IsPrefix}
-use Rattle.core_selects.proofs.ReadingKinds.{reads-post-none, reads-speak}
+use Rattle.core_selects.proofs.ReadingKinds.{reads-ask-none, reads-post-none, reads-speak}
 use Rattle.core_selects.specs.ReadingCalls.{GoesOnByReading, IsReadingCall}
 use Rattle.core_cubes.proofs.CallsGoOn.{go-on-as}
 use Rattle.core_events.specs.Clients.{calls_of}
@@ -17,7 +17,7 @@ use Rattle.core_records.specs.CoreRecords.{RunScripts, record_of}
 use Rattle.core_records.specs.ScriptedCalls.{SpeaksByScript}
 use Rattle.core_states.proofs.Growing.{IsStepOf, grown}
 use Rattle.core_states.proofs.LeftCalls.{all-of-both, longer-front}
-use Rattle.core_states.specs.LeftBehind.{AddsCalls, AddsEntries}
+use Rattle.core_states.specs.LeftBehind.{AddsCalls, AddsEntries, AsksForNone}
 use Rattle.core_states.specs.StandingInCore.{state_of_session}
 use Rattle.core_states.specs.declared.session.CoreSession.{CoreSession}
 use Rattle.cube_core.specs.declared.cell.CoreCell.{CoreCell}
@@ -35,6 +35,8 @@ use Rattle.linked_shards.specs.declared.cell.CoreShard.{CoreShard}
 use Rattle.played_scripts.specs.PlayedRuns.{AreNumbered}
 use Rattle.posted_pasts.proofs.AddedCalls.{without-changes}
 use Rattle.posted_pasts.proofs.DoneSteps.{by-no-change}
+use Rattle.final_names.proofs.NamesMore.{none-more, with-statement as names-with-statement}
+use Rattle.final_names.proofs.StepsNamed.{nothing-named}
 use Rattle.posted_pasts.proofs.PostsMore.{with-calls, with-statement}
 use Rattle.posted_pasts.specs.PostsAdded.{AddsNoOperation, LearnsThat, PostsNoChange}
 use Rattle.posted_pasts.specs.PostsBehind.{PostsStandBehind}
@@ -154,6 +156,19 @@ module _ (cells : List (CoreCell CoreShard)) (caller : ℕ) where
           posts =
               subst (λ (next : SessionState). PostsStandBehind FitsShard CoreShardStands ShardAnswerSays cells caller
               old.number (OpensForScripts (every_of old)) after now next) (sym (h.becomes watch)) posted;
+          names =
+              names-with-statement FitsShard CoreShardStands ShardAnswerSays cells caller old.number
+              (OpensForScripts (every_of old)) past after state (Says s) added turn one own now h.more st.posts.becomes
+              (none-more FitsShard CoreShardStands ShardAnswerSays cells caller old.number
+              (OpensForScripts (every_of old)) after own now
+              (go-on-as FitsShard CoreShardStands ShardAnswerSays cells caller old.number (IsReadingCall old.number)
+              AsksForNone own now
+              (reads-ask-none old.number) h.calls))
+              (λ o given events from also.
+              nothing-named (record_of o given events) (last_step old.number after state (Says s) added)
+              (by-no-change (record_of o given events) (last_step old.number after state (Says s) added) s refl
+              no_change))
+              st.names;
           speaks = reads-spoken cells caller old.number past.sentences (Says s) own now h.more h.calls st.speaks;
         };
         file = tt;

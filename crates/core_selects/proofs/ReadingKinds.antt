@@ -3,10 +3,10 @@ use Rattle.std.proofs.Common.{ℕ, List}
 use Rattle.aosi_desk.specs.declared.cube.CubeFound.TheVariants.{Found, Unknown}
 use Rattle.core_selects.specs.ReadingCalls.{IsReadingCall}
 use Rattle.core_cubes.specs.StatementCalls.{IsCallFor}
-use Rattle.core_events.specs.Events.{OpenWrite, OpenRead, Commit, AbortEnd, CloseRead, TakeNote, CreateCube, FindCube, CubesFrom, CountersNow, RoundOpen, RoundClose, StoreFailed, ClientCall, OnDesk, OnNames, Post, Fetch, CloseMail, NoChange}
+use Rattle.core_events.specs.Events.{OpenWrite, OpenRead, Commit, AbortEnd, CloseRead, TakeNote, CreateCube, FindCube, CubesFrom, CountersNow, RoundOpen, RoundClose, StoreFailed, Encode, FindName, CopyFrom, ClientCall, OnDesk, OnNames, Post, Fetch, CloseMail, NoChange}
 use Rattle.core_events.specs.Jobs.{Append, DropBox, Scan, Delta, Rollback, Purge, CopyRound, Flush}
 use Rattle.core_records.specs.ScriptedCalls.{SpeaksByScript}
-use Rattle.core_states.specs.LeftBehind.{IsPlainCall}
+use Rattle.core_states.specs.LeftBehind.{AsksForNone, IsPlainCall}
 use Rattle.cube_language.specs.declared.statement.Statement.{Statement}
 use Rattle.cube_run.specs.RunRecords.{Sentence}
 use Rattle.posted_pasts.specs.PostsAdded.{PostsNoChange}
@@ -27,7 +27,9 @@ plain-reads session (OnDesk (CountersNow counters)) plain = tt
 plain-reads session (OnDesk (RoundOpen answer)) plain = tt
 plain-reads session (OnDesk (RoundClose epoch end)) plain = tt
 plain-reads session (OnDesk (StoreFailed failed)) plain = tt
-plain-reads session (OnNames c) plain = tt
+plain-reads session (OnNames (Encode cube dim name code)) plain = absurd plain
+plain-reads session (OnNames (FindName cube dim name number)) plain = tt
+plain-reads session (OnNames (CopyFrom cube dim from names)) plain = tt
 plain-reads session (Post mail (Append cube epoch rows)) plain = absurd plain
 plain-reads session (Post mail (DropBox cube epoch box)) plain = absurd plain
 plain-reads session (Post mail (Scan query s)) plain = tt
@@ -39,6 +41,16 @@ plain-reads session (Post mail Flush) plain = tt
 plain-reads session (Fetch mail said) plain = tt
 plain-reads session (CloseMail mail) plain = tt
 plain-reads session NoChange plain = tt
+
+pub reads-ask-none : (session : ℕ) (c : ClientCall) → IsReadingCall session c → AsksForNone c
+reads-ask-none session (OnNames (Encode cube dim name code)) reads = absurd reads
+reads-ask-none session (OnNames (FindName cube dim name number)) reads = tt
+reads-ask-none session (OnNames (CopyFrom cube dim from names)) reads = tt
+reads-ask-none session (OnDesk c) reads = tt
+reads-ask-none session (Post mail job) reads = tt
+reads-ask-none session (Fetch mail said) reads = tt
+reads-ask-none session (CloseMail mail) reads = tt
+reads-ask-none session NoChange reads = tt
 
 pub reads-post-none : (session : ℕ) (c : ClientCall) → IsReadingCall session c → PostsNoChange c
 reads-post-none session (OnDesk c) reads = tt

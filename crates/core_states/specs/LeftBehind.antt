@@ -8,7 +8,7 @@ use Rattle.cube_core.specs.Links.{AreEventsOf}
 use Rattle.cube_core.specs.BoardCells.{IsEntryEvent}
 use Rattle.core_program.specs.Knowing.{IsLaterRun}
 use Rattle.core_events.specs.Clients.{calls_of}
-use Rattle.core_events.specs.Events.{Opening, OpenRead, CloseRead, CreateCube, FindCube, ClientCall, OnDesk, Post, CoreEvent}
+use Rattle.core_events.specs.Events.{Opening, OpenRead, CloseRead, CreateCube, FindCube, Encode, ClientCall, OnDesk, OnNames, Post, CoreEvent}
 use Rattle.core_events.specs.Jobs.{CoreJob, Append, DropBox, JobOutcome}
 use Rattle.core_events.specs.ShardView.{ShardView}
 use Rattle.core_states.specs.OwnCalls.{OwnCallsLeave}
@@ -24,12 +24,19 @@ LeavesReaders (OnDesk (OpenRead holder statement epoch)) = ⊥
 LeavesReaders (OnDesk (CloseRead holder statement)) = ⊥
 LeavesReaders call = Unit {0}
 
--- A call that posts neither rows nor a deletion, by which no cube is made or missed, and no reader opened or closed.
+-- A call that asks for the code of no text.
+abbrev pub AsksForNone : ClientCall → Type 0
+AsksForNone (OnNames (Encode cube dim name code)) = ⊥
+AsksForNone call = Unit {0}
+
+-- A call that posts neither rows nor a deletion, by which no cube is made or missed, no text is given a code, and no
+-- reader opened or closed.
 abbrev pub IsPlainCall : ClientCall → Type 0
 IsPlainCall (OnDesk (CreateCube statement decl answer)) = ⊥
 IsPlainCall (OnDesk (FindCube statement name Unknown)) = ⊥
 IsPlainCall (OnDesk (OpenRead holder statement epoch)) = ⊥
 IsPlainCall (OnDesk (CloseRead holder statement)) = ⊥
+IsPlainCall (OnNames (Encode cube dim name code)) = ⊥
 IsPlainCall (Post mail (Append cube epoch rows)) = ⊥
 IsPlainCall (Post mail (DropBox cube epoch box)) = ⊥
 IsPlainCall call = Unit {0}

@@ -1,7 +1,7 @@
 -- While names are copied a session's holders keep what they hold.
 use Rattle.std.proofs.Common.{◌≡◌, ℕ, List, []}
-use Rattle.core_names.proofs.PlainNames.{left-by-names}
-use Rattle.core_names.specs.AskedNames.{GoOnByNames}
+use Rattle.core_names.proofs.PlainNames.{left-by-copies}
+use Rattle.core_names.specs.AskedNames.{GoOnByCopies}
 use Rattle.core_program.specs.CoreFits.{CoreEntry}
 use Rattle.core_program.specs.Knowing.{IsClientOf}
 use Rattle.cube_core.specs.declared.cell.CoreCell.{CoreCell}
@@ -23,7 +23,7 @@ module _ (cells there : List (CoreCell CoreShard)) (caller number session : ℕ)
       (plain-are-own FitsShard CoreShardStands ShardAnswerSays cells caller session own now left.plain))
 
 pub names-left : (cells : List (CoreCell CoreShard)) (caller session : ℕ) (own now : List CoreEntry)
-    → IsClientOf FitsShard CoreShardStands ShardAnswerSays cells caller session → GoOnByNames caller own now
+    → IsClientOf FitsShard CoreShardStands ShardAnswerSays cells caller session → GoOnByCopies caller own now
     → LeavesOverShards cells caller session own now []
 names-left cells caller session own now acts asks =
-    left-by-names FitsShard CoreShardStands ShardAnswerSays cells caller session acts own now asks
+    left-by-copies FitsShard CoreShardStands ShardAnswerSays cells caller session acts own now asks

@@ -2,7 +2,7 @@
 use Rattle.std.proofs.Common.{◌≡◌, ◌∙◌, ℕ, ◌+◌, false, List, [], ◌∷◌, ◌++◌, Option, refl, sym, ap, subst, append_assoc, append-nil, length-append}
 use Rattle.std.specs.List.{AllByRecursion}
 use mathlib.Core.List.{IsPrefix}
-use Rattle.core_watches.proofs.WatchingKinds.{watches-post-none, watches-speak}
+use Rattle.core_watches.proofs.WatchingKinds.{watches-ask-none, watches-post-none, watches-speak}
 use Rattle.core_watches.specs.WatchingCalls.{GoesOnByWatching, IsWatchingCall, LeavesByWatching}
 use Rattle.core_cubes.proofs.CallsGoOn.{go-on-as}
 use Rattle.core_events.specs.Clients.{calls_of}
@@ -17,7 +17,7 @@ use Rattle.core_records.specs.CoreRecords.{RunScripts, record_of}
 use Rattle.core_records.specs.ScriptedCalls.{SpeaksByScript}
 use Rattle.core_states.proofs.Growing.{IsStepOf, grown}
 use Rattle.core_states.proofs.LeftCalls.{all-of-both, longer-front}
-use Rattle.core_states.specs.LeftBehind.{AddsCalls}
+use Rattle.core_states.specs.LeftBehind.{AddsCalls, AsksForNone}
 use Rattle.core_states.specs.StandingInCore.{state_of_session}
 use Rattle.core_states.specs.declared.session.CoreSession.{CoreSession}
 use Rattle.cube_core.specs.declared.cell.CoreCell.{CoreCell}
@@ -35,6 +35,8 @@ use Rattle.linked_shards.specs.declared.cell.CoreShard.{CoreShard}
 use Rattle.played_scripts.specs.PlayedRuns.{AreNumbered}
 use Rattle.posted_pasts.proofs.AddedCalls.{without-changes}
 use Rattle.posted_pasts.proofs.DoneSteps.{by-no-change}
+use Rattle.final_names.proofs.NamesMore.{none-more, with-statement as names-with-statement}
+use Rattle.final_names.proofs.StepsNamed.{nothing-named}
 use Rattle.posted_pasts.proofs.PostsMore.{with-calls, with-statement}
 use Rattle.posted_pasts.specs.PostsAdded.{AddsNoOperation, LearnsThat, PostsNoChange}
 use Rattle.posted_pasts.specs.PostsBehind.{PostsStandBehind}
@@ -152,6 +154,20 @@ module _ (cells : List (CoreCell CoreShard)) (caller : ℕ) where
           posts =
               subst (λ (next : SessionState). PostsStandBehind FitsShard CoreShardStands ShardAnswerSays cells caller
               old.number (OpensForScripts (every_of old)) after now next) (sym (h.becomes)) posted;
+          names =
+              names-with-statement FitsShard CoreShardStands ShardAnswerSays cells caller old.number
+              (OpensForScripts (every_of old)) past after state (Says s) added turn one own now h.left.more
+              st.posts.becomes
+              (none-more FitsShard CoreShardStands ShardAnswerSays cells caller old.number
+              (OpensForScripts (every_of old)) after own now
+              (go-on-as FitsShard CoreShardStands ShardAnswerSays cells caller old.number IsWatchingCall AsksForNone
+              own now
+              watches-ask-none h.left.calls))
+              (λ o given events from also.
+              nothing-named (record_of o given events) (last_step old.number after state (Says s) added)
+              (by-no-change (record_of o given events) (last_step old.number after state (Says s) added) s refl
+              no_change))
+              st.names;
           speaks = watches-spoken cells caller old.number past.sentences (Says s) own now h.left.more h.left.calls st.speaks;
         };
         file = tt;

@@ -1,11 +1,11 @@
 -- Plain calls are such by which a session watches. These post no change, and speak by every script.
-use Rattle.std.proofs.Common.{ℕ, List, []}
+use Rattle.std.proofs.Common.{List}
 use Rattle.aosi_desk.specs.declared.cube.CubeFound.TheVariants.{Found, Unknown}
 use Rattle.core_watches.specs.WatchingCalls.{IsWatchingCall}
-use Rattle.core_events.specs.Events.{OpenWrite, OpenRead, Commit, AbortEnd, CloseRead, TakeNote, CreateCube, FindCube, CubesFrom, CountersNow, RoundOpen, RoundClose, StoreFailed, ClientCall, OnDesk, OnNames, Post, Fetch, CloseMail, NoChange}
+use Rattle.core_events.specs.Events.{OpenWrite, OpenRead, Commit, AbortEnd, CloseRead, TakeNote, CreateCube, FindCube, CubesFrom, CountersNow, RoundOpen, RoundClose, StoreFailed, Encode, FindName, CopyFrom, ClientCall, OnDesk, OnNames, Post, Fetch, CloseMail, NoChange}
 use Rattle.core_events.specs.Jobs.{Append, DropBox, Scan, Delta, Rollback, Purge, CopyRound, Flush}
 use Rattle.core_records.specs.ScriptedCalls.{SpeaksByScript}
-use Rattle.core_states.specs.LeftBehind.{IsPlainCall}
+use Rattle.core_states.specs.LeftBehind.{AsksForNone, IsPlainCall}
 use Rattle.cube_run.specs.RunRecords.{Sentence}
 use Rattle.posted_pasts.specs.PostsAdded.{PostsNoChange}
 
@@ -24,7 +24,9 @@ plain-watches (OnDesk (CountersNow counters)) plain = tt
 plain-watches (OnDesk (RoundOpen answer)) plain = tt
 plain-watches (OnDesk (RoundClose epoch end)) plain = tt
 plain-watches (OnDesk (StoreFailed failed)) plain = tt
-plain-watches (OnNames c) plain = tt
+plain-watches (OnNames (Encode cube dim name code)) plain = absurd plain
+plain-watches (OnNames (FindName cube dim name number)) plain = tt
+plain-watches (OnNames (CopyFrom cube dim from names)) plain = tt
 plain-watches (Post mail (Append cube epoch rows)) plain = absurd plain
 plain-watches (Post mail (DropBox cube epoch box)) plain = absurd plain
 plain-watches (Post mail (Scan query s)) plain = tt
@@ -36,6 +38,16 @@ plain-watches (Post mail Flush) plain = tt
 plain-watches (Fetch mail said) plain = tt
 plain-watches (CloseMail mail) plain = tt
 plain-watches NoChange plain = tt
+
+pub watches-ask-none : (c : ClientCall) → IsWatchingCall c → AsksForNone c
+watches-ask-none (OnNames (Encode cube dim name code)) watches = absurd watches
+watches-ask-none (OnNames (FindName cube dim name number)) watches = tt
+watches-ask-none (OnNames (CopyFrom cube dim from names)) watches = tt
+watches-ask-none (OnDesk c) watches = tt
+watches-ask-none (Post mail job) watches = tt
+watches-ask-none (Fetch mail said) watches = tt
+watches-ask-none (CloseMail mail) watches = tt
+watches-ask-none NoChange watches = tt
 
 pub watches-post-none : (c : ClientCall) → IsWatchingCall c → PostsNoChange c
 watches-post-none (OnDesk c) watches = tt

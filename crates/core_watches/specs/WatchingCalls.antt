@@ -3,7 +3,7 @@
 use Rattle.std.specs.Prelude.{ℕ, List}
 use mathlib.Core.List.{IsPrefix}
 use Rattle.aosi_desk.specs.declared.cube.CubeFound.TheVariants.{Unknown}
-use Rattle.core_events.specs.Events.{CreateCube, FindCube, ClientCall, OnDesk, Post}
+use Rattle.core_events.specs.Events.{CreateCube, FindCube, Encode, ClientCall, OnDesk, OnNames, Post}
 use Rattle.core_events.specs.Jobs.{Append, DropBox}
 use Rattle.core_program.specs.CoreFits.{CoreEntry}
 use Rattle.core_states.specs.LeftBehind.{AddsEntries, GoOnByCalls}
@@ -13,10 +13,11 @@ use Rattle.linked_shards.specs.CellShards.{CoreShardStands}
 use Rattle.shard_events.specs.ShardsInRuns.{FitsShard, ShardAnswerSays}
 use Rattle.linked_shards.specs.declared.cell.CoreShard.{CoreShard}
 
--- A call that posts neither rows nor a deletion, and by which no cube is made or missed.
+-- A call that posts neither rows nor a deletion, and by which no cube is made or missed and no text given a code.
 abbrev pub IsWatchingCall : ClientCall → Type 0
 IsWatchingCall (OnDesk (CreateCube statement decl answer)) = ⊥
 IsWatchingCall (OnDesk (FindCube statement name Unknown)) = ⊥
+IsWatchingCall (OnNames (Encode cube dim name code)) = ⊥
 IsWatchingCall (Post mail (Append cube epoch rows)) = ⊥
 IsWatchingCall (Post mail (DropBox cube epoch box)) = ⊥
 IsWatchingCall call = Unit {0}

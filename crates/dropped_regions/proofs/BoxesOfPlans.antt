@@ -1,5 +1,5 @@
 -- The span of a plan, with right codes, is the box of its DELETE.
-use Rattle.std.proofs.Common.{◌≡◌, ◌∙◌, ℕ, ◌⊎◌, inl, inr, List, [], ◌∷◌, Option, length, sym, ap, subst}
+use Rattle.std.proofs.Common.{◌≡◌, ◌∙◌, ℕ, List, [], ◌∷◌, Option, length, sym, ap, subst}
 use Rattle.std.specs.Prelude.{IfOk, Ok, Err, Result}
 use mathlib.Core.List.{IsPrefix}
 use Rattle.condition_spans.specs.CodedConditions.{coded_conditions}

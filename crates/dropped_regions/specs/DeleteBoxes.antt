@@ -22,12 +22,18 @@ use Rattle.cube_values.specs.declared.operation.Region.{Region}
 use Rattle.cube_values.specs.declared.span.Span.{Span}
 use Rattle.known_cubes.specs.KnownCubes.{IsToldOfCube}
 use Rattle.query_plan.specs.Ties.{TakesRegion}
-use Rattle.row_encoding.specs.CodedTexts.{HavePlaces}
+use Rattle.row_encoding.specs.CodedTexts.{ComparesWith, HavePlaces}
 use Rattle.row_encoding.specs.FinalCodes.{InTheEnd}
 
 -- The region of a cube that a DELETE is about.
 abbrev pub deleted_region : Decl → Statement → Region
 deleted_region d s = resolved_region d (conds_of s)
+
+-- A text for a dimension of its cube, with which a DELETE that fits it compares.
+pub record IsDeleteText (place : ℕ) (d : Decl) (s : Statement) (cube dim : ℕ) (text : List ℕ) : Type 0 where
+  pub here : cube ≡ place
+  pub fits_it : FitsCube d s
+  pub has : ComparesWith (deleted_region d s).conditions dim text
 
 -- One of the own calls told of the cube at a place, by whatever name.
 abbrev pub IsToldOfPlace : List CoreEntry → ℕ → Decl → Type 0

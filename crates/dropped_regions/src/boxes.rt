@@ -5,9 +5,8 @@ ghost use Rattle.cube_language.specs.Misfits.{HasMisfit};
 ghost use Rattle.cube_values.specs.Faults.{IfFault};
 ghost use Rattle.core_names.specs.AskedNames.{GoOnByNames, HasAskedFor};
 ghost use Rattle.core_names.specs.CoreEncoders.{MayAskForCodes};
-ghost use Rattle.dropped_regions.specs.DeleteBoxes.{IsBoxOf, deleted_region};
+ghost use Rattle.dropped_regions.specs.DeleteBoxes.{IsBoxOf, IsDeleteText};
 ghost use Rattle.query_plan.specs.Bindings.{DeletesRows, IsDropPlan};
-ghost use Rattle.row_encoding.specs.CodedTexts.{ComparesWith};
 
 use crate::codes::encode_conditions;
 use crate::plans::{plan_on, span_on};
@@ -47,7 +46,7 @@ fn box_of_plan<S: LinkedShard, R: Wait, P: CellCaller<CoreCells<S>>>(
     ensures asks { GoOnByNames (P.number caller.old) (P.own caller.old) (P.own caller.new) }
     ensures asked { (p k : ℕ) (t : List ℕ) → HasAskedFor (P.own caller.new) p k t
         → HasAskedFor (P.own caller.old) p k t
-        ⊎ ((p ≡ place) × ComparesWith (deleted_region cube.now statement.now).conditions k t) }
+        ⊎ IsDeleteText place cube.now statement.now p k t }
     ensures may { MayAskForCodes S.fits S.stands S.says (P.opening caller.new)
         (P.number caller.new) (P.own caller.new) session known.new place cube.now }
     ensures span { IfOk result (IsBoxOf S.fits S.stands S.says (P.opening caller.new)
@@ -87,7 +86,7 @@ pub fn box_of_delete<S: LinkedShard, R: Wait, P: CellCaller<CoreCells<S>>>(
     ensures asks { GoOnByNames (P.number caller.old) (P.own caller.old) (P.own caller.new) }
     ensures asked { (p k : ℕ) (t : List ℕ) → HasAskedFor (P.own caller.new) p k t
         → HasAskedFor (P.own caller.old) p k t
-        ⊎ ((p ≡ place) × ComparesWith (deleted_region cube.now statement.now).conditions k t) }
+        ⊎ IsDeleteText place cube.now statement.now p k t }
     ensures may { MayAskForCodes S.fits S.stands S.says (P.opening caller.new)
         (P.number caller.new) (P.own caller.new) session known.new place cube.now }
     ensures span { IfOk result (IsBoxOf S.fits S.stands S.says (P.opening caller.new)

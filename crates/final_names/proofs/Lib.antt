@@ -5,3 +5,6 @@ pub mod NamesMore
 pub mod StepsNamed
 pub mod TextsOffered
 pub mod NamesAtEnd
+pub mod AskedCalls
+pub mod AskingOnly
+pub mod StepsAmong

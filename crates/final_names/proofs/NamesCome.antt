@@ -25,7 +25,7 @@ use Rattle.final_names.specs.AskedTexts.{IsAskedForBy, IsAskedForIn}
 
 -- ---- what was asked for stays so
 
-behind-one : (call : ClientCall) (calls : List ClientCall) (cube dim : ℕ) (text : List ℕ)
+pub behind-one : (call : ClientCall) (calls : List ClientCall) (cube dim : ℕ) (text : List ℕ)
     → IsAskedForBy calls cube dim text → IsAskedForBy (call ∷ calls) cube dim text
 behind-one call calls cube dim text h = record {
   call = h.call;
@@ -48,7 +48,7 @@ asked-on o (By b call) es cube dim text h = record {
 asked-on o (At mail move) es cube dim text h =
     record { session = h.session; is_session = h.is_session; asked = h.asked }
 
-first-asks : (cube dim : ℕ) (text : List ℕ) (code : Code) (calls : List ClientCall)
+pub first-asks : (cube dim : ℕ) (text : List ℕ) (code : Code) (calls : List ClientCall)
     → IsAskedForBy (OnNames (Encode cube dim text code) ∷ calls) cube dim text
 first-asks cube dim text code calls = record {
   call = OnNames (Encode cube dim text code);

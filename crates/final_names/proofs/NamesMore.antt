@@ -13,7 +13,7 @@ use Rattle.core_program.specs.Knowing.{IsLaterRun}
 use Rattle.core_records.specs.CoreRecords.{RunScripts, record_of}
 use Rattle.core_states.proofs.LongerPasts.{run-before, same-step}
 use Rattle.core_states.specs.CorePasts.{CorePast, IsInTurn, IsOneMore, last_number, last_step, nothing_behind}
-use Rattle.core_states.specs.LeftBehind.{AddsCalls, GoOnByCalls}
+use Rattle.core_states.specs.LeftBehind.{AddsCalls, AsksForNone, GoOnByCalls}
 use Rattle.core_states.specs.RunsFrom.{IsRunFrom, RunClaim}
 use Rattle.cube_core.specs.BoardCells.{IsEntryEvent}
 use Rattle.cube_core.specs.Links.{AreEventsOf}
@@ -25,7 +25,7 @@ use Rattle.cube_run.specs.RunRecords.{Sentence}
 use Rattle.cube_run.specs.SessionStates.{SessionState, fresh_session}
 use Rattle.cube_run.specs.SessionSteps.{SessionStep, last_state, step_at, steps_of}
 use Rattle.final_names.specs.AskedTexts.{AsksForText, IsAskedForBy}
-use Rattle.final_names.specs.NamesBehind.{AskForMoreOffered, AsksForNone, AsksMoreOffered, NamesStandBehind}
+use Rattle.final_names.specs.NamesBehind.{AskForMoreOffered, AsksMoreOffered, NamesStandBehind}
 use Rattle.final_names.specs.NamesStand.{IsNamedStep, NamesStand}
 use Rattle.played_scripts.proofs.Steps.{steps_more}
 use Rattle.posted_pasts.specs.PostsBehind.{InEachRun, IsRunWithCalls}

@@ -3,7 +3,7 @@
 -- with it, as with prophecy variables (Abadi and Lamport, 1991).
 use Rattle.std.specs.Prelude.{◌⊎◌, ℕ, List}
 use Rattle.core_events.specs.Clients.{calls_of}
-use Rattle.core_events.specs.Events.{Opening, Encode, ClientCall, OnNames, CoreEvent}
+use Rattle.core_events.specs.Events.{Opening, CoreEvent}
 use Rattle.core_events.specs.Jobs.{CoreJob, JobOutcome}
 use Rattle.core_events.specs.ShardView.{ShardView}
 use Rattle.core_program.specs.CoreFits.{CoreEntry}
@@ -22,11 +22,6 @@ use Rattle.cube_run.specs.RunRecords.{RunRecord}
 use Rattle.final_names.specs.AskedTexts.{IsAskedForBy}
 use Rattle.final_names.specs.NamesStand.{NamesStand}
 use Rattle.posted_pasts.specs.PostsBehind.{IsRunWithCalls}
-
--- A call that asks for the code of no text.
-abbrev pub AsksForNone : ClientCall → Type 0
-AsksForNone (OnNames (Encode cube dim name code)) = ⊥
-AsksForNone call = Unit {0}
 
 module _ {S : Type 0} (fits : Opening → ℕ → ShardCall → Type 0) (stands : Opening → ℕ → ℕ → S → ShardView → Type 0)
     (says : CoreJob → ShardAnswer → JobOutcome → Type 0) where

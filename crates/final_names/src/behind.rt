@@ -6,11 +6,16 @@ ghost use mathlib.Core.List.{IsPrefix};
 ghost use Rattle.condition_spans.specs.Codes.{lists_at};
 ghost use Rattle.core_events.specs.Clients.{calls_of};
 ghost use Rattle.core_events.specs.Events.{CoreEvent, IsSession, Opening};
+ghost use Rattle.core_names.specs.AskedNames.{HasAskedFor};
 ghost use Rattle.core_program.specs.CoreFits.{CoreEntry};
+ghost use Rattle.core_program.specs.Knowing.{IsClientOf, IsLaterRun};
 ghost use Rattle.core_records.specs.CoreRecords.{RunScripts, record_of};
 ghost use Rattle.core_states.specs.CorePasts.{CorePast, IsInTurn, IsOneMore, last_step, nothing_behind};
 ghost use Rattle.core_states.specs.Endings.{HasEnded, IsScriptedHistory};
-ghost use Rattle.core_states.specs.LeftBehind.{GoOnByCalls};
+ghost use Rattle.core_states.specs.LeftBehind.{AsksForNone, GoOnByCalls};
+ghost use Rattle.core_states.specs.RunsFrom.{IsRunFrom};
+ghost use Rattle.cube_core.specs.BoardCells.{IsEntryEvent};
+ghost use Rattle.cube_core.specs.Links.{AreEventsOf};
 ghost use Rattle.cube_core.specs.declared.cell.CoreCell.{CoreCell};
 ghost use Rattle.cube_journal.specs.Refusals.{code};
 ghost use Rattle.cube_journal.specs.declared.journal_entry.JournalEntry.{JournalEntry};
@@ -32,7 +37,8 @@ ghost use Rattle.cube_run.specs.SessionSteps.{SessionStep, all_steps, last_state
 ghost use Rattle.cube_run.specs.StatementEntries.{is_change};
 ghost use Rattle.cube_run.specs.StepOutcomes.{refused_by_mode};
 ghost use Rattle.cube_values.specs.declared.row.CodedRow.{CodedRow};
-ghost use Rattle.final_names.specs.NamesBehind.{AskForMoreOffered, AsksForNone, NamesStandBehind};
+ghost use Rattle.final_names.specs.AskedTexts.{IsAskedForBy};
+ghost use Rattle.final_names.specs.NamesBehind.{AskForMoreOffered, NamesStandBehind};
 ghost use Rattle.final_names.specs.NamesStand.{IsNamedStep, NamesStand};
 ghost use Rattle.final_names.specs.StepTexts.{HasTextFor};
 ghost use Rattle.one_session.specs.Changes.{AreNamedApart};
@@ -92,6 +98,19 @@ pub fn steps_are_named()
         → IsNamedStep run step }
 {}
 
+/// The step of the statement that came last is one of each run of its session that goes on from there.
+pub fn last_steps_are_of_their_runs<S: LinkedShard>()
+    ensures { (cells : List (CoreCell S)) (caller session : ℕ) (before after : CorePast)
+        (state : SessionState) (sentence : Sentence) (added : List JournalEntry) → IsInTurn before
+        → IsOneMore before after sentence added → (o : Opening) (given : RunScripts)
+        (events : List CoreEvent) → IsSession o session
+        → IsRunFrom S.fits S.stands S.says cells caller session after o given events
+        → last_state fresh_session (steps_of (record_of o given events) session before.sentences)
+        ≡ state
+        → Contains (all_steps (record_of o given events))
+        (last_step session after state sentence added) }
+{}
+
 /// A change of rows that fits its cube, and is not told that there is no such cube, offers the texts that it has for
 /// the dimensions.
 pub fn changes_offer_their_texts()
@@ -103,6 +122,26 @@ pub fn changes_offer_their_texts()
         → ((r : Refusal) → said ≡ reply.Refused r → code r ≡ 2 → ⊥)
         → slice_get d.dims place ≡ Some dim → HasTextFor run step d place text s
         → Offers run d dim place text }
+{}
+
+/// In each run in which a session's own calls begin so, its own entries ask for the codes of just those texts
+/// for which
+/// its calls ask.
+pub fn entries_ask_as_calls<S: LinkedShard>()
+    ensures calls { (cells : List (CoreCell S)) (caller session : ℕ) (o : Opening)
+        (log : List CoreEntry) (run es : List CoreEvent) (own : List CoreEntry)
+        → IsClientOf S.fits S.stands S.says cells caller session
+        → IsLaterRun S.fits S.stands S.says cells o caller own log run
+        → AreEventsOf (IsEntryEvent S.fits S.stands S.says o) own es
+        → (place dim : ℕ) (text : List ℕ) → IsAskedForBy (calls_of session es) place dim text
+        → HasAskedFor own place dim text }
+    ensures entries { (cells : List (CoreCell S)) (caller session : ℕ) (o : Opening)
+        (log : List CoreEntry) (run es : List CoreEvent) (own : List CoreEntry)
+        → IsClientOf S.fits S.stands S.says cells caller session
+        → IsLaterRun S.fits S.stands S.says cells o caller own log run
+        → AreEventsOf (IsEntryEvent S.fits S.stands S.says o) own es
+        → (place dim : ℕ) (text : List ℕ) → HasAskedFor own place dim text
+        → IsAskedForBy (calls_of session es) place dim text }
 {}
 
 /// Where a session has played its script, whatever its replies are promised for, and names stand behind it, they stand

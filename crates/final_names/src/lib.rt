@@ -6,8 +6,8 @@ mod behind;
 mod law;
 
 pub use behind::{
-    changes_offer_their_texts, names_stand_at_the_beginning, names_stand_in_the_end, names_stay,
-    steps_are_named,
+    changes_offer_their_texts, entries_ask_as_calls, last_steps_are_of_their_runs,
+    names_stand_at_the_beginning, names_stand_in_the_end, names_stay, steps_are_named,
 };
 pub use law::{
     committed_rows_are_named, final_dictionaries_are_of_their_dimensions, kept_rows_are_named,

@@ -5,25 +5,26 @@ use Rattle.std.specs.List.Sorted.{IsPermutation}
 use Rattle.std.proofs.lemmas.List.{map-append}
 use Rattle.std.proofs.lemmas.List.Sorted.{IsPermutation-append, IsPermutation-append_comm, IsPermutation-refl, IsPermutation-trans}
 use mathlib.Core.List.{IsPrefix}
-use Rattle.core_agreements.specs.PostsForOperations.{StandForAll, batches_posted, rows_of_batches}
-use Rattle.core_events.specs.Events.{Opening, ClientCall}
+use Rattle.core_agreements.specs.PostsForOperations.{batches_posted, rows_of_batches}
+use Rattle.core_events.specs.Clients.{calls_of}
+use Rattle.core_events.specs.Events.{Opening, OnNames, NoChange, ClientCall}
 use Rattle.core_events.specs.Serial.{CubeOperation, PutRows}
 use Rattle.core_names.specs.AskedNames.{GoOnByNames}
+use Rattle.core_names.specs.CallsOnNames.{IsCallOnNames}
 use Rattle.core_names.proofs.PlainNames.{left-by-names}
 use Rattle.core_program.specs.CoreFits.{CoreEntry}
 use Rattle.core_program.specs.Knowing.{IsClientOf}
 use Rattle.core_serial.specs.OwnOperations.{operations_by_calls}
 use Rattle.core_states.proofs.LeftCalls.{all-of-both}
+use Rattle.core_states.specs.LeftBehind.{AddsCalls}
 use Rattle.cube_core.specs.declared.cell.CoreCell.{CoreCell}
-use Rattle.cube_language.specs.declared.decl.Decl.{Decl}
 use Rattle.cube_values.specs.declared.row.CodedRow.{CodedRow}
 use Rattle.cube_values.specs.declared.row.StoredRow.{StoredRow}
 use Rattle.linked_shards.specs.CellShards.{CoreShardStands}
 use Rattle.shard_events.specs.ShardsInRuns.{FitsShard, ShardAnswerSays}
 use Rattle.linked_shards.specs.declared.cell.CoreShard.{CoreShard}
-use Rattle.one_session.specs.Changes.{AllStandForValues, ComeFor}
-use Rattle.posted_pasts.proofs.AddedCalls.{plain-learns}
-use Rattle.posted_pasts.specs.PostsAdded.{AddsNoOperation, AddsOperations, LearnsThat, batches_among}
+use Rattle.posted_pasts.proofs.AddedCalls.{without-changes}
+use Rattle.posted_pasts.specs.PostsAdded.{AddsNoOperation, AddsOperations, LearnsThat, PostsNoChange, batches_among}
 use Rattle.query_plan.specs.Ties.{StandForValues, stored_for}
 use Rattle.cube_values.specs.declared.shape.CubeShape.{CubeShape}
 use Rattle.session_batches.specs.PutRows.{LearnsOfRows}
@@ -96,6 +97,12 @@ alike-both first second one two h k = λ d lists stored come.
 
 -- ---- what is posted
 
+names-post-none : (added : List ClientCall) → AllByRecursion IsCallOnNames added → AllByRecursion PostsNoChange added
+names-post-none [] each = tt
+names-post-none (OnNames event ∷ added) each = (tt, names-post-none added each.1)
+names-post-none (NoChange ∷ added) each = (tt, names-post-none added each.1)
+names-post-none (c ∷ added) each = absurd each.0
+
 module _ (cells : List (CoreCell CoreShard)) (caller session cube epoch : ℕ) where
   abbrev Posted : List CodedRow → List CoreEntry → List CoreEntry → Type 0
   Posted rows own now = ArePosted cells caller session cube epoch rows own now
@@ -125,7 +132,26 @@ module _ (cells : List (CoreCell CoreShard)) (caller session cube epoch : ℕ) w
         k.posted);
   }
 
-  -- Calls on the names before them add nothing.
+  -- Calls on the names add nothing.
+  names-add-none : IsClientOf FitsShard CoreShardStands ShardAnswerSays cells caller session
+      → (own mid : List CoreEntry)
+      → GoOnByNames caller own mid
+      → LearnsThat FitsShard CoreShardStands ShardAnswerSays AddsNoOperation cells caller session own mid
+  names-add-none acts own mid asks = λ o log run es later are.
+      let a : AddsCalls FitsShard CoreShardStands ShardAnswerSays IsCallOnNames o session own es =
+      (left-by-names FitsShard CoreShardStands ShardAnswerSays cells caller session acts own mid asks).calls o log run
+      es
+      later are
+      in
+      record {
+        before = a.before;
+        events = a.events;
+        adds =
+            coe 1 0 (i. AddsNoOperation session o (calls_of session a.before) (a.calls i))
+            (without-changes o session a.added (calls_of session a.before) (names-post-none a.added a.each));
+      }
+
+  -- Those before them do not.
   pub posted-behind-names : IsClientOf FitsShard CoreShardStands ShardAnswerSays cells caller session
       → (rows : List CodedRow) (own mid now : List CoreEntry) → IsPrefix mid now → GoOnByNames caller own mid
       → Posted rows mid now → Posted rows own now
@@ -136,9 +162,7 @@ module _ (cells : List (CoreCell CoreShard)) (caller session cube epoch : ℕ) w
         learns-both cells caller session AddsNoOperation (AddsOperations cube epoch (batches_posted h.batches))
         (AddsOperations cube epoch (batches_posted h.batches))
         (none-then session cube epoch (batches_posted h.batches)) own mid now goes
-        (plain-learns FitsShard CoreShardStands ShardAnswerSays cells caller session own mid
-        (left-by-names FitsShard CoreShardStands ShardAnswerSays cells caller session acts own mid asks).plain)
-        h.posted;
+        (names-add-none acts own mid asks) h.posted;
   }
 
   -- Rows that are put are posted, whatever comes of them.

@@ -1,6 +1,5 @@
 -- A load that has stopped: the records at which a LOAD looks, the rows among them and the bad ones.
-use Rattle.std.proofs.Common.{◌≡◌, ◌∙◌, ℕ, ◌+◌, ◌-◌, ◌<◌, ◌≤◌, suc, false, List, [], ◌∷◌, ◌++◌, length, map, All, Option, Some, None, Result, Ok, Err, slice_get, unwrap_or, get_or, refl, sym, ap, subst, arith, append-nil}
-use Rattle.std.specs.List.{cons_option, enumerate_from, filter_map}
+use Rattle.std.proofs.Common.{◌≡◌, ◌∙◌, ℕ, ◌+◌, ◌-◌, ◌≤◌, suc, false, List, [], ◌∷◌, ◌++◌, length, map, All, Option, Some, Result, Ok, Err, slice_get, unwrap_or, refl, sym, ap, subst, arith, append-nil}
 use Rattle.std.proofs.lemmas.List.{get_or_default, length-map}
 use Rattle.std.proofs.lemmas.Option.{slice_get-get_or}
 use Rattle.agg_fold.specs.Coded.{row_for}
@@ -16,11 +15,10 @@ use Rattle.core_records.specs.CoreRecords.{names_in, names_left}
 use Rattle.csv_load.specs.FileRecords.{RecordFields}
 use Rattle.csv_load.specs.Loads.{LoadState}
 use Rattle.cube_core.specs.declared.cell.CoreCell.{CoreCell}
-use Rattle.cube_journal.specs.declared.reply.Rejection.{Rejection}
 use Rattle.cube_language.specs.declared.bad_row.BadRow.{BadRow}
 use Rattle.cube_language.specs.declared.decl.Decl.{Decl}
 use Rattle.cube_language.specs.declared.decl.DimDecl.{DimDecl}
-use Rattle.cube_run.specs.LoadedRows.{records_looked_at, rejection_in, rejections_among, row_in, rows_among}
+use Rattle.cube_run.specs.LoadedRows.{records_looked_at, rejections_among, rows_among}
 use Rattle.cube_run.specs.RunTransactions.{rows_of_cube}
 use Rattle.cube_values.specs.declared.row.CodedRow.{CodedRow}
 use Rattle.cube_values.specs.declared.row.Row.{Row}

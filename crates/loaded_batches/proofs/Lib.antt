@@ -2,6 +2,7 @@ pub mod LoadingMoments
 pub mod AddedBatches
 pub mod JoinedBatches
 pub mod TakenRecords
+pub mod LookedAtTexts
 pub mod EndedRecords
 pub mod LeftByLoading
 pub mod LoadTurns

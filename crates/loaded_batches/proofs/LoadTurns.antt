@@ -16,7 +16,7 @@ use Rattle.linked_shards.specs.declared.cell.CoreShard.{CoreShard}
 use Rattle.row_encoding.specs.CodedInserts.{HasCoords}
 use Rattle.row_encoding.specs.declared.load.BadRecords.{BadRecords}
 use Rattle.shard_events.specs.ShardsInRuns.{FitsShard, ShardAnswerSays}
-use Rattle.loaded_batches.specs.LoadFronts.{EndsPut, HasPutAll, HasPutSoFar, HasTakenSoFar, HasTakenSome, IsAfterTurn}
+use Rattle.loaded_batches.specs.LoadFronts.{EndsPut, HasPutSoFar, HasTakenSoFar, HasTakenSome, IsAfterTurn}
 use Rattle.loaded_batches.specs.LoadingCalls.{ArePosted}
 use Rattle.loaded_batches.specs.declared.turns.LoadTurn.{LoadTurn}
 use Rattle.loaded_batches.specs.declared.turns.LoadTurn.TheVariants as turn

@@ -17,7 +17,7 @@ use Rattle.core_program.proofs.KnownCalls.{earlier-run, names-learn}
 use Rattle.core_program.specs.CoreFits.{CoreEntry}
 use Rattle.core_program.specs.Knowing.{IsClientOf, IsLaterRun}
 use Rattle.core_states.proofs.LeftCalls.{all-of-both, longer-front}
-use Rattle.core_states.specs.LeftBehind.{AddsCalls, GoOnByCalls}
+use Rattle.core_states.specs.LeftBehind.{AddsCalls, AsksForNone, GoOnByCalls}
 use Rattle.cube_core.specs.declared.cell.CoreCell.{CoreCell}
 use Rattle.cube_values.specs.declared.row.CodedRow.{CodedRow}
 use Rattle.cube_values.specs.declared.shape.CubeShape.{CubeShape}
@@ -45,6 +45,15 @@ group-loads cube epoch (NoChange ∷ calls) only posts = (tt, group-loads cube e
 group-loads cube epoch (OnDesk c ∷ calls) only posts = absurd only.0
 group-loads cube epoch (OnNames c ∷ calls) only posts = absurd only.0
 group-loads cube epoch (CloseMail mail ∷ calls) only posts = absurd only.0
+
+group-asks-none : (calls : List ClientCall) → AllByRecursion IsGroupCall calls → AllByRecursion AsksForNone calls
+group-asks-none [] only = tt
+group-asks-none (Post mail job ∷ calls) only = (tt, group-asks-none calls only.1)
+group-asks-none (Fetch mail outcome ∷ calls) only = (tt, group-asks-none calls only.1)
+group-asks-none (NoChange ∷ calls) only = (tt, group-asks-none calls only.1)
+group-asks-none (OnDesk c ∷ calls) only = absurd only.0
+group-asks-none (OnNames c ∷ calls) only = absurd only.0
+group-asks-none (CloseMail mail ∷ calls) only = absurd only.0
 
 -- The posts of rows are.
 posts-load : (sizes : List Size) (shards cube epoch : ℕ) (rows : List CodedRow) (ks : List ℕ)
@@ -199,3 +208,24 @@ module _ (cells : List (CoreCell CoreShard)) (caller session : ℕ) where
         loading-by-rows shards shape rows said own now more learns
     loading-by-put shards shape rows own now (Err e) more learns none =
         subst (λ (l : List CoreEntry). Loading own l) (sym none) (loading-none own)
+
+    -- Such a call asks for no text.
+    pub none-by-put : {E : Type 0} (shards : ℕ) (shape : CubeShape) (rows : List CodedRow) (own now : List CoreEntry)
+        (result : Result PutEnd E)
+        → IfOk result (λ said. LearnsOfRows cells caller session shards cube shape epoch rows said own now)
+        → OnErr result (now ≡ own) → GoOn AsksForNone own now
+    none-by-put shards shape rows own now (Ok said) learns none = λ o log run es later are.
+        let posts = row_posts shape.shape.sizes shards cube epoch rows in
+        let h : HasPut (shards_with_rows shape.shape.sizes shards rows) posts said o session own es =
+        learns o log run es later are
+        in
+        record {
+          before = h.before;
+          events = h.events;
+          added = h.added;
+          calls = h.past;
+          each = group-asks-none h.added h.only;
+        }
+    none-by-put shards shape rows own now (Err e) learns none =
+        subst (λ (l : List CoreEntry). GoOn AsksForNone own l) (sym none)
+        (λ o log run es later are. record { before = es; events = are; added = []; calls = refl; each = tt })

@@ -1,5 +1,5 @@
 -- The records that are left when a shard was full, batch by batch.
-use Rattle.std.proofs.Common.{◌≡◌, ◌∙◌, ◌≤◌, ℕ, List, [], length, refl, sym}
+use Rattle.std.proofs.Common.{◌≡◌, ◌∙◌, ◌-◌, ◌≤◌, ℕ, inl, List, [], length, refl, sym}
 use mathlib.Core.List.{IsPrefix}
 use Rattle.core_names.specs.AskedNames.{GoOnByNames}
 use Rattle.core_names.specs.StaysAsWhoAsks.{asks-both, asks-none}
@@ -14,7 +14,9 @@ use Rattle.row_encoding.specs.CodedLoads.{BatchHasEnded, LoadGoesOn}
 use Rattle.row_encoding.specs.declared.load.BadRecords.{BadRecords}
 use Rattle.row_encoding.specs.declared.load.BatchEnd.{BatchEnd}
 use Rattle.row_encoding.specs.declared.load.BatchEnd.TheVariants as batch_is
-use Rattle.loaded_batches.specs.LoadFronts.{HasTakenAll, HasTakenSoFar, HasTakenSome, HasTooManyBad, IsAfterRest, IsEndOfRest, TakesInTheEnd, end_of_rest}
+use Rattle.loaded_batches.specs.LoadFronts.{HasTakenAll, HasTakenSome, HasTooManyBad, IsAfterRest, IsEndOfRest, TakesInTheEnd, end_of_rest}
+use Rattle.loaded_batches.specs.LoadTexts.{HasAskedForSuch}
+use Rattle.loaded_batches.proofs.LookedAtTexts.{asked-both}
 use Rattle.loaded_batches.proofs.TakenRecords.{all-behind, batch-full, batch-last, batch-many, many-behind, some-behind, taken-none}
 
 -- Calls on the names go on from those before them.
@@ -25,6 +27,7 @@ more-by-names caller own now asks = (asks.added, sym asks.whole)
 pub record IsRestFront (cells : List (CoreCell CoreShard)) (caller place : ℕ) (d : Decl) (allowed : ℕ)
     (own now : List CoreEntry) (start load : LoadState) (before bad : BadRecords) (batch : Batch) : Type 0 where
   pub asks : GoOnByNames caller own now
+  pub asked : HasAskedForSuch cells caller place d (allowed - before.count) start own now
   pub some : HasTakenSome cells caller place d allowed now start load before bad
   pub cube : load.decl ≡ d
   pub dims : batch.dims ≡ length d.dims
@@ -44,6 +47,7 @@ module _ (cells : List (CoreCell CoreShard)) (caller place : ℕ) (d : Decl) (al
       → batch.width ≡ length d.metrics → Front own own load load bad bad batch
   rest-begins own load bad batch few counted cube dims width = record {
     asks = asks-none caller own;
+    asked = λ cube dim text has. inl has;
     some = record { rows = []; taken = taken-none cells caller place d allowed own load bad few counted };
     cube = cube;
     dims = dims;
@@ -54,15 +58,22 @@ module _ (cells : List (CoreCell CoreShard)) (caller place : ℕ) (d : Decl) (al
   module _ (own mid now : List CoreEntry) (start load next : LoadState) (before bad after : BadRecords)
       (batch rows : Batch) (ended : BatchEnd) (h : Front own mid start load before bad batch)
       (asks : GoOnByNames caller mid now) (goes : LoadGoesOn load next) (counted : after.count ≤ next.number)
+      (asked : HasAskedForSuch cells caller place d (allowed - bad.count) load mid now)
       (has_ended : BatchHasEnded allowed next after rows.rows ended)
       (takes : Takes now load next bad after rows.rows ended) where
     more : IsPrefix mid now
     more = more-by-names caller mid now asks
 
+    pub asked-more : HasAskedForSuch cells caller place d (allowed - before.count) start own now
+    asked-more =
+        asked-both cells caller place d allowed own mid now more start load before bad h.some.rows h.some.taken
+        h.asked asked
+
     pub rest-goes-on : ended ≡ batch_is.Full → rows.dims ≡ batch.dims → rows.width ≡ batch.width
         → Front own now start next before after rows
     rest-goes-on is dims width = record {
       asks = asks-both caller own mid now h.asks asks;
+      asked = asked-more;
       some =
           some-behind cells caller place d allowed mid now more start load next before bad after h.some.rows
           h.some.taken (record {

@@ -1,5 +1,5 @@
 -- Records that a load takes, one batch after the other, whatever names the dictionaries end with.
-use Rattle.std.proofs.Common.{◌≡◌, ◌∙◌, ℕ, ◌-◌, ◌≤◌, List, [], ◌++◌, Result, sym, ap}
+use Rattle.std.proofs.Common.{◌≡◌, ◌∙◌, ℕ, ◌-◌, ◌≤◌, List, [], ◌++◌, sym, ap}
 use mathlib.Core.List.{IsPrefix}
 use Rattle.condition_spans.specs.Codes.{lists_at}
 use Rattle.core_names.specs.NamesInTheEnd.{MayLeaveNames}
@@ -7,11 +7,9 @@ use Rattle.core_program.specs.CoreFits.{CoreEntry}
 use Rattle.csv_load.specs.FileRecords.{RecordFields}
 use Rattle.csv_load.specs.Loads.{LoadState}
 use Rattle.cube_core.specs.declared.cell.CoreCell.{CoreCell}
-use Rattle.cube_language.specs.declared.bad_row.BadRow.{BadRow}
 use Rattle.cube_language.specs.declared.decl.Decl.{Decl}
 use Rattle.cube_run.specs.LoadedRows.{records_looked_at}
 use Rattle.cube_values.specs.declared.row.CodedRow.{CodedRow}
-use Rattle.cube_values.specs.declared.row.Row.{Row}
 use Rattle.linked_shards.specs.CellShards.{CoreShardStands}
 use Rattle.shard_events.specs.ShardsInRuns.{FitsShard, ShardAnswerSays}
 use Rattle.linked_shards.specs.declared.cell.CoreShard.{CoreShard}
@@ -20,7 +18,7 @@ use Rattle.row_encoding.specs.CodedLoads.{BatchHasEnded, LoadGoesOn, TakesBatch,
 use Rattle.row_encoding.specs.declared.load.BadRecords.{BadRecords}
 use Rattle.row_encoding.specs.declared.load.BatchEnd.{BatchEnd}
 use Rattle.row_encoding.specs.declared.load.BatchEnd.TheVariants as batch_is
-use Rattle.loaded_batches.specs.LoadFronts.{HasTakenAll, HasTakenSoFar, HasTakenSome, HasTooManyBad, IsAfterRest, TakesInTheEnd}
+use Rattle.loaded_batches.specs.LoadFronts.{HasTakenAll, HasTakenSoFar, HasTakenSome, HasTooManyBad, TakesInTheEnd}
 use Rattle.loaded_batches.proofs.JoinedBatches.{batches_join, goes_both}
 use Rattle.loaded_batches.proofs.LoadingMoments.{later-before}
 

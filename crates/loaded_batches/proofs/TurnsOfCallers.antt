@@ -1,5 +1,5 @@
 -- A turn of a load by a caller whose opening and number stay: the claims of its calls, each over the caller as it then was.
-use Rattle.std.proofs.Common.{◌≡◌, ◌∙◌, ℕ, List}
+use Rattle.std.proofs.Common.{◌≡◌, ℕ, List}
 use Rattle.cube_core.specs.declared.cell.CoreCell.{CoreCell}
 use Rattle.linked_shards.specs.declared.cell.CoreShard.{CoreShard}
 

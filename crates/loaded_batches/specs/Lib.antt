@@ -1,3 +1,4 @@
 pub mod LoadingCalls
 pub mod LoadFronts
+pub mod LoadTexts
 pub mod LoadEnds

@@ -1,8 +1,9 @@
 //! The records of a file, one batch after the other.
 
-ghost use Rattle.std.specs.Prelude.{◌≡◌, ◌+◌, ◌≤◌, length, All, IfOk};
+ghost use Rattle.std.specs.Prelude.{◌≡◌, ◌+◌, ◌-◌, ◌≤◌, length, All, IfOk};
 ghost use Rattle.core_names.specs.CoreEncoders.{MayAskForCodes};
 ghost use Rattle.core_names.specs.KnownNumbers.{HasToldNumber};
+ghost use Rattle.core_states.specs.LeftBehind.{AsksForNone, GoOnByCalls};
 ghost use Rattle.job_groups.specs.AskedEach.{AreShardMails};
 ghost use Rattle.session_snapshots.specs.KnownHolds.{HoldsWriter};
 ghost use Rattle.linked_shards.specs.CellShards.{CoreShardStands};
@@ -11,6 +12,7 @@ ghost use Rattle.row_encoding.specs.CodedInserts.{HasCoords, HasNumbers};
 ghost use Rattle.session_groups.specs.ShardGroups.{HoldsOpenWriter};
 ghost use Rattle.turn_board.specs.Passes.{callers_of};
 ghost use Rattle.loaded_batches.specs.LoadFronts.{EndsPut, IsAfterTurn, IsAfterTurns, MayPutInto};
+ghost use Rattle.loaded_batches.specs.LoadTexts.{AsksForSuch};
 ghost use Rattle.loaded_batches.specs.LoadingCalls.{ArePosted, GoesOnLoading};
 
 use crate::putting::put_told;
@@ -65,6 +67,8 @@ fn put_turn<R: Wait, P: CellCaller<ShardCells>>(
     ensures others { P.others caller.new ≡ P.others caller.old }
     ensures goes { GoesOnLoading (P.opening caller.old) (P.number caller.old) session place
         writer.now.epoch (P.own caller.old) (P.own caller.new) }
+    ensures none { GoOnByCalls FitsShard CoreShardStands ShardAnswerSays (P.opening caller.old)
+        (P.number caller.old) session AsksForNone (P.own caller.old) (P.own caller.new) }
     ensures holds { HoldsOpenWriter (P.opening caller.new) (P.number caller.new) session
         (P.own caller.new) writer.now }
     ensures posted { IfOk result (λ turn. ArePosted (P.opening caller.old) (P.number caller.old)
@@ -117,6 +121,8 @@ fn load_turn<R: Wait, P: CellCaller<ShardCells>>(
     ensures others { P.others caller.new ≡ P.others caller.old }
     ensures goes { GoesOnLoading (P.opening caller.old) (P.number caller.old) session place
         writer.now.epoch (P.own caller.old) (P.own caller.new) }
+    ensures asked { AsksForSuch (P.opening caller.old) (P.number caller.old) place cube.now session
+        (allowed - bad.old.count) load.old (P.own caller.old) (P.own caller.new) }
     ensures may { MayAskForCodes FitsShard CoreShardStands ShardAnswerSays (P.opening caller.new)
         (P.number caller.new) (P.own caller.new) session known.new place cube.now }
     ensures holds { HoldsOpenWriter (P.opening caller.new) (P.number caller.new) session
@@ -185,6 +191,8 @@ pub(crate) fn load_turns<R: Wait, P: CellCaller<ShardCells>>(
     ensures others { P.others caller.new ≡ P.others caller.old }
     ensures goes { GoesOnLoading (P.opening caller.old) (P.number caller.old) session place
         writer.now.epoch (P.own caller.old) (P.own caller.new) }
+    ensures asked { AsksForSuch (P.opening caller.old) (P.number caller.old) place cube.now session
+        (allowed - bad.old.count) load.old (P.own caller.old) (P.own caller.new) }
     ensures may { MayAskForCodes FitsShard CoreShardStands ShardAnswerSays (P.opening caller.new)
         (P.number caller.new) (P.own caller.new) session known.new place cube.now }
     ensures holds { HoldsOpenWriter (P.opening caller.new) (P.number caller.new) session

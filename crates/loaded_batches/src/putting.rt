@@ -3,6 +3,7 @@
 ghost use Rattle.std.specs.Prelude.{◌≡◌, ◌+◌, ◌≤◌, length, All, IfOk, OnErr};
 ghost use Rattle.core_names.specs.KnownNumbers.{HasToldNumber};
 ghost use Rattle.cube_values.specs.Batches.{HasWidths};
+ghost use Rattle.core_states.specs.LeftBehind.{AsksForNone, GoOnByCalls};
 ghost use Rattle.job_groups.specs.AskedEach.{AreShardMails};
 ghost use Rattle.session_snapshots.specs.KnownHolds.{HoldsWriter};
 ghost use Rattle.linked_shards.specs.CellShards.{CoreShardStands};
@@ -65,6 +66,8 @@ pub(crate) fn put_told<R: Wait, P: CellCaller<ShardCells>>(
     ensures others { P.others caller.new ≡ P.others caller.old }
     ensures goes { GoesOnLoading (P.opening caller.old) (P.number caller.old) session place
         writer.now.epoch (P.own caller.old) (P.own caller.new) }
+    ensures none { GoOnByCalls FitsShard CoreShardStands ShardAnswerSays (P.opening caller.old)
+        (P.number caller.old) session AsksForNone (P.own caller.old) (P.own caller.new) }
     ensures holds { IfOk result (λ end. HoldsAfterPut (P.opening caller.new) (P.number caller.new)
         session (P.own caller.new) writer.now end) }
     ensures posted { IfOk result (λ end. ArePosted (P.opening caller.old) (P.number caller.old)

@@ -1,6 +1,6 @@
 //! All records of a file.
 
-ghost use Rattle.std.specs.Prelude.{◌≡◌, ◌+◌, ◌≤◌, IfOk};
+ghost use Rattle.std.specs.Prelude.{◌≡◌, ◌+◌, ◌-◌, ◌≤◌, IfOk};
 ghost use Rattle.core_names.specs.AskedNames.{GoOnByNames};
 ghost use Rattle.core_names.specs.CoreEncoders.{MayAskForCodes};
 ghost use Rattle.job_groups.specs.AskedEach.{AreShardMails};
@@ -11,6 +11,7 @@ ghost use Rattle.shard_events.specs.ShardsInRuns.{FitsShard, ShardAnswerSays};
 ghost use Rattle.turn_board.specs.Passes.{callers_of};
 ghost use Rattle.loaded_batches.specs.LoadEnds.{HasEndedSo, HoldsAfterLoad};
 ghost use Rattle.loaded_batches.specs.LoadFronts.{IsEndOfRest, end_of_rest};
+ghost use Rattle.loaded_batches.specs.LoadTexts.{AsksForSuch, HasAskedForSuch};
 ghost use Rattle.loaded_batches.specs.LoadingCalls.{GoesOnLoading};
 
 use crate::batches::load_turns;
@@ -81,6 +82,8 @@ fn refuse_full<R: Wait, P: CellCaller<ShardCells>>(
     ensures number { P.number caller.new ≡ P.number caller.old }
     ensures others { P.others caller.new ≡ P.others caller.old }
     ensures asks { GoOnByNames (P.number caller.old) (P.own caller.old) (P.own caller.new) }
+    ensures asked { HasAskedForSuch (P.opening caller.new) (P.number caller.new) place cube.now
+        (allowed - bad.old.count) load.old (P.own caller.old) (P.own caller.new) }
     ensures may { MayAskForCodes FitsShard CoreShardStands ShardAnswerSays (P.opening caller.new)
         (P.number caller.new) (P.own caller.new) session known.new place cube.now }
     ensures ended { IfOk result (IsEndOfRest (P.opening caller.new) (P.number caller.new) place
@@ -125,6 +128,8 @@ fn put_all<R: Wait, P: CellCaller<ShardCells>>(
     ensures others { P.others caller.new ≡ P.others caller.old }
     ensures goes { GoesOnLoading (P.opening caller.old) (P.number caller.old) session place
         writer.now.epoch (P.own caller.old) (P.own caller.new) }
+    ensures asked { AsksForSuch (P.opening caller.old) (P.number caller.old) place cube.now session
+        allowed records (P.own caller.old) (P.own caller.new) }
     ensures may { MayAskForCodes FitsShard CoreShardStands ShardAnswerSays (P.opening caller.new)
         (P.number caller.new) (P.own caller.new) session known.new place cube.now }
     ensures held { HoldsOpenWriter (P.opening caller.new) (P.number caller.new) session
@@ -158,7 +163,8 @@ fn put_all<R: Wait, P: CellCaller<ShardCells>>(
 /// Puts the rows among the records of a file on the shards of their bricks, batch by batch, at the epoch of the session's
 /// writer. The records are those at which a LOAD looks that allows so many bad ones: up to the one that is one too
 /// many, or all; also where a shard was full they are looked at to the end. A record is bad also where one of its
-/// texts finds no place in the dictionary of its dimension.
+/// texts finds no place in the dictionary of its dimension. The session asks for no text but those of such
+/// records.
 pub fn put_records<R: Wait, P: CellCaller<ShardCells>>(
     rt: &R,
     board: &Board<ShardCells>,
@@ -191,6 +197,8 @@ pub fn put_records<R: Wait, P: CellCaller<ShardCells>>(
     ensures others { P.others caller.new ≡ P.others caller.old }
     ensures goes { GoesOnLoading (P.opening caller.old) (P.number caller.old) session place
         writer.now.epoch (P.own caller.old) (P.own caller.new) }
+    ensures asked { AsksForSuch (P.opening caller.old) (P.number caller.old) place cube.now session
+        allowed records (P.own caller.old) (P.own caller.new) }
     ensures may { MayAskForCodes FitsShard CoreShardStands ShardAnswerSays (P.opening caller.new)
         (P.number caller.new) (P.own caller.new) session known.new place cube.now }
     ensures holds { HoldsAfterLoad (P.opening caller.new) (P.number caller.new) session writer.now

@@ -1,11 +1,12 @@
 //! The records that are left when a shard was full.
 
-ghost use Rattle.std.specs.Prelude.{◌≡◌, ◌≤◌, IfOk};
+ghost use Rattle.std.specs.Prelude.{◌≡◌, ◌-◌, ◌≤◌, IfOk};
 ghost use Rattle.core_names.specs.AskedNames.{GoOnByNames};
 ghost use Rattle.core_names.specs.CoreEncoders.{MayAskForCodes};
 ghost use Rattle.linked_shards.specs.CellShards.{CoreShardStands};
 ghost use Rattle.shard_events.specs.ShardsInRuns.{FitsShard, ShardAnswerSays};
 ghost use Rattle.loaded_batches.specs.LoadFronts.{IsAfterRest};
+ghost use Rattle.loaded_batches.specs.LoadTexts.{HasAskedForSuch};
 
 use crate::batches::MOST_BATCHES;
 use crate::taking::load_rows_by_caller;
@@ -47,6 +48,8 @@ pub(crate) fn take_rest<R: Wait, P: CellCaller<ShardCells>>(
     ensures number { P.number caller.new ≡ P.number caller.old }
     ensures others { P.others caller.new ≡ P.others caller.old }
     ensures asks { GoOnByNames (P.number caller.old) (P.own caller.old) (P.own caller.new) }
+    ensures asked { HasAskedForSuch (P.opening caller.new) (P.number caller.new) place cube.now
+        (allowed - bad.old.count) load.old (P.own caller.old) (P.own caller.new) }
     ensures may { MayAskForCodes FitsShard CoreShardStands ShardAnswerSays (P.opening caller.new)
         (P.number caller.new) (P.own caller.new) session known.new place cube.now }
     ensures rest { IfOk result (IsAfterRest (P.opening caller.new) (P.number caller.new) place

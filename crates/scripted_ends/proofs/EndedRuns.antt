@@ -22,9 +22,12 @@ use Rattle.cube_core.specs.declared.cell.CoreCell.{CoreCell}
 use Rattle.cube_core.specs.declared.shard.ShardAnswer.{ShardAnswer}
 use Rattle.cube_core.specs.declared.shard.ShardCall.{ShardCall}
 use Rattle.cube_journal.specs.declared.reply.Reply.{Reply}
-use Rattle.cube_run.specs.RunRecords.{LoadedFile, Missing, Sentence}
+use Rattle.cube_run.specs.RunRecords.{LoadedFile, Missing, Sentence, script_of}
 use Rattle.played_scripts.proofs.Played.{merge_of_played, text_of_played}
 use Rattle.played_scripts.specs.PlayedRuns.{HavePlayed}
+use Rattle.final_names.proofs.NamesAtEnd.{names-stand}
+use Rattle.final_names.proofs.NamesFit.{final-names-fit}
+use Rattle.final_names.specs.NamesStand.{NamesStand}
 use Rattle.posted_pasts.proofs.PostsAtEnd.{commits-stand}
 use Rattle.scripted_ends.proofs.EndedSessions.{AtTheEnd, at-the-end}
 use Rattle.scripted_ends.specs.PlayedHistories.{HaveAllPlayed, IsPlayedRun, IsRunOfHistory, of_session}
@@ -127,6 +130,15 @@ module _ {S : Type 0} (fits : Opening → ℕ → ShardCall → Type 0) (stands 
     pub scripted : IsScriptedRun o given events
     scripted = record { run = h.is_run; follow = follow; opens = h.cubes; commits = commits }
 
+    -- Each session's calls and statements fit the dictionaries in the end.
+    names : (session : ℕ) → IsSession o session → NamesStand (record_of o given events) session
+        (script_of (record_of o given events) session) (calls_of session events)
+    names session is_session =
+        names-stand fits stands says cells o given log (OpensForScripts given.round_every)
+        (IsRunOfScripts given.round_every) events session (of_session replies session) history
+        (ended session is_session) is_session (record { opens = h.cubes; every_is = refl })
+        (ends session is_session).end.names
+
     pub have-played : HavePlayed (record_of o given events) replies
     have-played =
         run-played fits stands says cells o given log (IsRunOfScripts given.round_every) events history replies
@@ -147,6 +159,7 @@ module _ {S : Type 0} (fits : Opening → ℕ → ShardCall → Type 0) (stands 
       merge = merge_of_played (record_of o given events) replies have-played;
       text = text_of_played (record_of o given events) replies have-played;
       names = names-end o given events h.is_run follow h.cubes.names;
+      fit = final-names-fit o given events scripted names;
     }
 
   -- The files that the sessions had are given to them.

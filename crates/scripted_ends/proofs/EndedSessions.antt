@@ -20,10 +20,12 @@ use Rattle.cube_run.specs.RunRecords.{Sentence}
 use Rattle.cube_run.specs.SessionStates.{KeptWatch, SessionState}
 use Rattle.cube_run.specs.StatementEntries.{script_end}
 use Rattle.played_scripts.specs.Promises.{IsPlayed}
+use Rattle.final_names.proofs.NamesMore.{with-calls as names-with-calls}
+use Rattle.final_names.specs.NamesBehind.{NamesStandBehind}
 use Rattle.posted_pasts.proofs.PostsMore.{with-calls}
 use Rattle.posted_pasts.specs.PostsBehind.{PostsStandBehind}
 use Rattle.scripted_ends.specs.EndedScripts.{EndsScript, HasPlayedToTheEnd}
-use Rattle.scripted_pasts.proofs.QuietLearns.{quiet-learns}
+use Rattle.scripted_pasts.proofs.QuietLearns.{quiet-asks, quiet-learns}
 use Rattle.scripted_pasts.proofs.SpokenMore.{quiet-calls-speak}
 use Rattle.scripted_pasts.specs.BehindScripts.{StandsForScript}
 use Rattle.scripted_pasts.specs.Performed.{every_of}
@@ -50,6 +52,8 @@ module _ {S : Type 0} (fits : Opening → ℕ → ShardCall → Type 0) (stands 
         past.sentences past replies state
     pub posts : PostsStandBehind fits stands says cells caller session (OpensForScripts every) past (past.own ++ ending)
         state
+    pub names : NamesStandBehind fits stands says cells caller session (OpensForScripts every) past
+        (past.own ++ ending)
     pub speaks : SpeakBySentences fits stands says cells caller session past.sentences (past.own ++ ending)
     pub files : AreKnownFiles IsFile script replies past.files
 
@@ -86,6 +90,11 @@ module _ {S : Type 0} (fits : Opening → ℕ → ShardCall → Type 0) (stands 
             h.past (begins.1 i) state)
             (with-calls fits stands says cells caller last.number (OpensForScripts (every_of last)) h.past own now
             state e.more (quiet-learns fits stands says cells caller last.number own now e.calls) b.posts);
+        names =
+            coe 1 0 (i. NamesStandBehind fits stands says cells caller last.number (OpensForScripts (every_of last))
+            h.past (begins.1 i))
+            (names-with-calls fits stands says cells caller last.number (OpensForScripts (every_of last)) h.past own now
+            e.more (quiet-asks fits stands says cells caller last.number own now e.calls) b.names);
         speaks =
             coe 1 0 (i. SpeakBySentences fits stands says cells caller last.number h.past.sentences (begins.1 i))
             (quiet-calls-speak fits stands says cells caller last.number h.past.sentences own now e.more e.calls

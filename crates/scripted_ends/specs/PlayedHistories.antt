@@ -17,6 +17,7 @@ use Rattle.cube_core.specs.declared.shard.ShardAnswer.{ShardAnswer}
 use Rattle.cube_core.specs.declared.shard.ShardCall.{ShardCall}
 use Rattle.cube_journal.specs.WholeText.{whole_text}
 use Rattle.cube_journal.specs.declared.reply.Reply.{Reply}
+use Rattle.cube_run.specs.FinalNames.{FinalNamesFit}
 use Rattle.cube_run.specs.Merge.{IsMerge}
 use Rattle.cube_run.specs.RunRecords.{IsLegalRun, Sentence}
 use Rattle.cube_run.specs.RunText.{IsText}
@@ -52,7 +53,7 @@ module _ {S : Type 0} (fits : Opening → ℕ → ShardCall → Type 0) (stands 
 -- The run on record has these scripts, the files that each session had, and a round after so many commits. Each session
 -- follows its script, and its posts stand for what its statements did. Every statement of every script has its
 -- reply, so the journal is a legal merge of the scripts, and the text is that of these replies and of the journal. The
--- dictionaries begin with those of the opening.
+-- dictionaries begin with those of the opening, and fit the run.
 pub record IsPlayedRun (IsFile : ℕ → FileClaim) (every : ℕ) (scripts : List (List Sentence)) (replies : List (List Reply))
     (o : Opening) (events : List CoreEvent) : Type 0 where
   pub given : RunScripts
@@ -66,3 +67,4 @@ pub record IsPlayedRun (IsFile : ℕ → FileClaim) (every : ℕ) (scripts : Lis
   pub merge : IsMerge (record_of o given events)
   pub text : IsText (record_of o given events) (whole_text o.safe replies (journal_of o events))
   pub names : EndsWithMore (record_of o given events) (record_of o given events).kept_names
+  pub fit : FinalNamesFit (record_of o given events)

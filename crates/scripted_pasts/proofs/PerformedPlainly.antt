@@ -1,7 +1,7 @@
 -- A statement that does nothing to rows, by calls that add no operation, is performed.
 use Rattle.std.proofs.Common.{◌≡◌, ℕ, ◌+◌, List, [], ◌∷◌, ◌++◌, Option, sym, subst}
 use mathlib.Core.List.{IsPrefix}
-use Rattle.core_cubes.proofs.CallsForStatements.{no-operation, plain-for}
+use Rattle.core_cubes.proofs.CallsForStatements.{no-operation, plain-asks, plain-for}
 use Rattle.core_cubes.proofs.CallsGoOn.{go-on-as}
 use Rattle.core_cubes.specs.ExecutedWatched.{ExecutesWatched}
 use Rattle.core_cubes.specs.StatementCalls.{IsCallFor}
@@ -12,7 +12,7 @@ use Rattle.core_states.specs.CorePasts.{CorePast, IsOneMore, last_number, last_s
 use Rattle.core_program.specs.CoreFits.{CoreEntry}
 use Rattle.core_records.specs.CoreRecords.{record_of}
 use Rattle.core_states.specs.ExecutedInCore.{ExecutesInCore, HasExecutedInCore}
-use Rattle.core_states.specs.LeftBehind.{GoOnByCalls, IsPlainCall}
+use Rattle.core_states.specs.LeftBehind.{AsksForNone, GoOnByCalls, IsPlainCall}
 use Rattle.core_states.specs.StandingInCore.{StandsInCore, state_of_session}
 use Rattle.core_states.specs.declared.session.CoreSession.{CoreSession}
 use Rattle.cube_core.specs.declared.cell.CoreCell.{CoreCell}
@@ -25,6 +25,8 @@ use Rattle.cube_run.specs.RunRecords.{LoadedFile, RunRecord, Sentence, Says}
 use Rattle.cube_run.specs.RunText.{IsReply}
 use Rattle.cube_run.specs.SessionStates.{KeptWatch, SessionState, session_after}
 use Rattle.cube_run.specs.SessionSteps.{SessionStep}
+use Rattle.final_names.proofs.NamesMore.{none-more, with-statement as names-with-statement}
+use Rattle.final_names.proofs.StepsNamed.{nothing-named}
 use Rattle.posted_pasts.proofs.AddedCalls.{plain-learns}
 use Rattle.posted_pasts.proofs.DoneSteps.{by-no-change, by-no-statement, by-reply}
 use Rattle.posted_pasts.proofs.PostsMore.{with-calls, with-statement}
@@ -60,12 +62,13 @@ module _ {S : Type 0} (fits : Opening → ℕ → ShardCall → Type 0) (stands 
         → next ≡ session_after state sentence added → IsPrefix own now
         → StandsInCore fits stands says cells caller session now after
         → LearnsThat fits stands says AddsNoOperation cells caller session own now
+        → GoOnByCalls fits stands says cells caller session AsksForNone own now
         → SpeakBySentences fits stands says cells caller session after.sentences now
         → InEachRun fits stands says cells caller session (OpensForScripts every) after (λ run. HasNoOperation run step)
         → InEachRun fits stands says cells caller session (IsRunOfScripts every) after (λ run. IsReply run step said)
         → StandsForScript fits stands says cells caller session own every past state
         → HasPerformed fits stands says cells caller session every IsFile past state sentence own now next said
-    performed IsFile file becomes more there learns speak none answers b = record {
+    performed IsFile file becomes more there learns asks speak none answers b = record {
       after = after;
       added = added;
       more = m;
@@ -80,6 +83,12 @@ module _ {S : Type 0} (fits : Opening → ℕ → ShardCall → Type 0) (stands 
             added b.stands_there.turn m now none
             (with-calls fits stands says cells caller session (OpensForScripts every) past own now state more learns
             b.posts));
+        names =
+            names-with-statement fits stands says cells caller session (OpensForScripts every) past after state sentence
+            added b.stands_there.turn m own now more b.posts.becomes
+            (none-more fits stands says cells caller session (OpensForScripts every) after own now asks)
+            (λ o given events from also.
+            nothing-named (record_of o given events) step (none o given events from also)) b.names;
         speaks = speak;
       };
       file = file;
@@ -90,14 +99,15 @@ module _ {S : Type 0} (fits : Opening → ℕ → ShardCall → Type 0) (stands 
   executed-performs : (session every : ℕ) (past : CorePast) (state next : SessionState) (sentence : Sentence)
       (own now : List CoreEntry) (said : Reply) → ChangesNoRows sentence said
       → LearnsThat fits stands says AddsNoOperation cells caller session own now
+      → GoOnByCalls fits stands says cells caller session AsksForNone own now
       → ((after : List Sentence) → after ≡ past.sentences ++ sentence ∷ []
       → SpeakBySentences fits stands says cells caller session after now)
       → StandsForScript fits stands says cells caller session own every past state
       → HasExecutedInCore fits stands says cells caller session every past state sentence own now next said
       → HasPerformed fits stands says cells caller session every WhateverFile past state sentence own now next said
-  executed-performs session every past state next sentence own now said none learns speak b x =
+  executed-performs session every past state next sentence own now said none learns asks speak b x =
       performed session every past x.after state next sentence x.added own now said x.more WhateverFile tt x.becomes
-      x.goes_on x.stands_then learns (speak x.after.sentences x.more.sentences)
+      x.goes_on x.stands_then learns asks (speak x.after.sentences x.more.sentences)
       (λ o given events from also.
       nothing-done (record_of o given events) (last_step session x.after state sentence x.added) said none
       (x.answers o given events from also.every_is))
@@ -117,6 +127,7 @@ module _ {S : Type 0} (fits : Opening → ℕ → ShardCall → Type 0) (stands 
       in
       executed-performs old.number (every_of old) past (state_of_session old watch) (state_of_session new watch)
       sentence own now said none (plain-learns fits stands says cells caller old.number own now goes)
+      (go-on-as fits stands says cells caller old.number IsPlainCall AsksForNone own now plain-asks goes)
       (λ after is.
       plain-calls-speak fits stands says cells caller old.number past.sentences after sentence own now is x.goes_on goes
       b.speaks)
@@ -138,6 +149,8 @@ module _ {S : Type 0} (fits : Opening → ℕ → ShardCall → Type 0) (stands 
       (kind-learns fits stands says cells caller old.number (IsCallFor (old.statements + 1) s) own now
       (λ o added before each cube epoch.
       no-operation o old.number cube epoch (old.statements + 1) s added before each) goes)
+      (go-on-as fits stands says cells caller old.number (IsCallFor (old.statements + 1) s) AsksForNone own now
+      (λ c call. call.asks) goes)
       (λ after is.
       statement-calls-speak fits stands says cells caller old.number past.sentences after s old.statements own now
       counted is x.goes_on goes b.speaks)

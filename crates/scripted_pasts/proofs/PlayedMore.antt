@@ -23,8 +23,9 @@ use Rattle.cube_run.specs.RunRecords.{LoadedFile, Sentence}
 use Rattle.cube_run.specs.SessionStates.{KeptWatch, SessionState, fresh_session}
 use Rattle.played_scripts.proofs.Played.{nothing_played, one_more_played}
 use Rattle.played_scripts.specs.Promises.{IsExecuted, IsPlayed}
+use Rattle.final_names.proofs.NamesMore.{nothing-named, with-calls as names-with-calls}
 use Rattle.posted_pasts.proofs.PostsMore.{nothing-posted, with-calls}
-use Rattle.scripted_pasts.proofs.QuietLearns.{quiet-learns}
+use Rattle.scripted_pasts.proofs.QuietLearns.{quiet-asks, quiet-learns}
 use Rattle.scripted_pasts.proofs.SpokenMore.{no-calls-speak, quiet-calls-speak}
 use Rattle.scripted_pasts.specs.BehindScripts.{StandsForScript}
 use Rattle.scripted_pasts.specs.Performed.{HasPerformed, Performs, every_of}
@@ -72,6 +73,7 @@ module _ {S : Type 0} (fits : Opening → ℕ → ShardCall → Type 0) (stands 
       leaves = none-left fits stands says cells caller session;
     };
     posts = nothing-posted fits stands says cells caller session (OpensForScripts every);
+    names = nothing-named fits stands says cells caller session (OpensForScripts every);
     speaks = no-calls-speak fits stands says cells caller session [];
   }
 
@@ -199,6 +201,9 @@ module _ {S : Type 0} (fits : Opening → ℕ → ShardCall → Type 0) (stands 
     posts =
         with-calls fits stands says cells caller session (OpensForScripts every) past own now state left.more
         (quiet-learns fits stands says cells caller session own now left.calls) b.posts;
+    names =
+        names-with-calls fits stands says cells caller session (OpensForScripts every) past own now left.more
+        (quiet-asks fits stands says cells caller session own now left.calls) b.names;
     speaks = quiet-calls-speak fits stands says cells caller session past.sentences own now left.more left.calls
         b.speaks;
   }

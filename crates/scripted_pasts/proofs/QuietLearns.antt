@@ -4,6 +4,7 @@ use Rattle.std.specs.List.{AllByRecursion}
 use Rattle.core_program.specs.ClientCalls.{desk_entry}
 use Rattle.core_cells.specs.declared.desk.DeskAnswer.TheVariants as answer
 use Rattle.core_cells.specs.declared.desk.DeskCall.TheVariants as desk
+use Rattle.core_cubes.proofs.CallsForStatements.{plain-asks}
 use Rattle.core_cubes.proofs.CallsGoOn.{adds-by-call, go-on-as, go-on-by-call, go-on-then}
 use Rattle.core_events.specs.Events.{Opening, ClientCall, OnDesk, OnNames, Post, Fetch, CloseMail, NoChange}
 use Rattle.core_events.specs.Jobs.{CoreJob, Append, DropBox, Scan, Delta, Rollback, Purge, CopyRound, Flush, JobOutcome}
@@ -16,7 +17,7 @@ use Rattle.core_records.specs.ScriptedCalls.{SpeaksByScript}
 use Rattle.core_serial.specs.OwnOperations.{operations_by_calls}
 use Rattle.core_states.proofs.PlainCalls.{speak-by-script}
 use Rattle.core_states.proofs.LeftCalls.{longer-front}
-use Rattle.core_states.specs.LeftBehind.{AddsCalls, GoOnByCalls, IsPlainCall, LeavesBehind}
+use Rattle.core_states.specs.LeftBehind.{AddsCalls, AsksForNone, GoOnByCalls, IsPlainCall, LeavesBehind}
 use Rattle.cube_core.specs.declared.cell.CoreCell.{CoreCell}
 use Rattle.cube_core.specs.declared.shard.ShardAnswer.{ShardAnswer}
 use Rattle.cube_core.specs.declared.shard.ShardCall.{ShardCall}
@@ -45,6 +46,7 @@ plain-posts NoChange plain = tt
 pub plain-is-quiet : (c : ClientCall) → IsPlainCall c → IsQuietCall c
 plain-is-quiet c plain = record {
   posts = plain-posts c plain;
+  asks = plain-asks c plain;
   speaks = λ script. (speak-by-script script (c ∷ []) [] (plain, tt) tt).0;
 }
 
@@ -83,6 +85,12 @@ module _ {S : Type 0} (fits : Opening → ℕ → ShardCall → Type 0) (stands 
       kind-learns IsQuietCall own now
       (λ o added past each. without-changes o session added past (each-posts added each)) goes
 
+  pub quiet-asks : (own now : List CoreEntry)
+      → GoOnByCalls fits stands says cells caller session IsQuietCall own now
+      → GoOnByCalls fits stands says cells caller session AsksForNone own now
+  quiet-asks own now goes =
+      go-on-as fits stands says cells caller session IsQuietCall AsksForNone own now (λ c quiet. quiet.asks) goes
+
   abbrev Quietly : List CoreEntry → List CoreEntry → List JournalEntry → Type 0
   Quietly own now added = LeavesQuietly fits stands says cells caller session own now added
 
@@ -108,7 +116,7 @@ module _ {S : Type 0} (fits : Opening → ℕ → ShardCall → Type 0) (stands 
         calls =
             go-on-by-call fits stands says cells caller session acts own (own ++ close ∷ [])
             (desk.CloseRead holder statement) answer.Done refl IsQuietCall
-            (λ k. record { posts = tt; speaks = λ script. tt });
+            (λ k. record { posts = tt; asks = tt; speaks = λ script. tt });
       }
 
   pub quietly-then : (own mid now : List CoreEntry) (added more : List JournalEntry) → Quietly own mid added

@@ -11,6 +11,7 @@ use Rattle.cube_core.specs.declared.cell.CoreCell.{CoreCell}
 use Rattle.cube_core.specs.declared.shard.ShardAnswer.{ShardAnswer}
 use Rattle.cube_core.specs.declared.shard.ShardCall.{ShardCall}
 use Rattle.cube_run.specs.SessionStates.{SessionState}
+use Rattle.final_names.specs.NamesBehind.{NamesStandBehind}
 use Rattle.posted_pasts.specs.PostsBehind.{PostsStandBehind}
 use Rattle.scripted_pasts.specs.ScriptClaims.{OpensForScripts}
 use Rattle.scripted_pasts.specs.SpokenCalls.{SpeakBySentences}
@@ -19,8 +20,10 @@ module _ {S : Type 0} (fits : Opening → ℕ → ShardCall → Type 0) (stands 
     (says : CoreJob → ShardAnswer → JobOutcome → Type 0) (cells : List (CoreCell S)) (caller session : ℕ)
     (own : List CoreEntry) where
   -- It stands behind the session as it is by its own calls: these have left its entries, their posts stand for what its
-  -- statements have done, and they speak by them. Rounds follow after so many commits.
+  -- statements have done, the names for whose codes they ask fit these, and they speak by them. Rounds follow after so
+  -- many commits.
   pub record StandsForScript (every : ℕ) (past : CorePast) (state : SessionState) : Type 0 where
     pub stands_there : StandsInCore fits stands says cells caller session own past
     pub posts : PostsStandBehind fits stands says cells caller session (OpensForScripts every) past own state
+    pub names : NamesStandBehind fits stands says cells caller session (OpensForScripts every) past own
     pub speaks : SpeakBySentences fits stands says cells caller session past.sentences own

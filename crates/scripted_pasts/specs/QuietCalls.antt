@@ -1,4 +1,4 @@
--- Calls that change no rows and speak of no cube.
+-- Calls that change no rows, speak of no cube, and ask for no text's code.
 -- Source: this project's own.
 use Rattle.std.specs.Prelude.{ℕ, List}
 use mathlib.Core.List.{IsPrefix}
@@ -7,7 +7,7 @@ use Rattle.core_events.specs.Jobs.{CoreJob, JobOutcome}
 use Rattle.core_events.specs.ShardView.{ShardView}
 use Rattle.core_program.specs.CoreFits.{CoreEntry}
 use Rattle.core_records.specs.ScriptedCalls.{SpeaksByScript}
-use Rattle.core_states.specs.LeftBehind.{AddsEntries, GoOnByCalls}
+use Rattle.core_states.specs.LeftBehind.{AddsEntries, AsksForNone, GoOnByCalls}
 use Rattle.cube_core.specs.declared.cell.CoreCell.{CoreCell}
 use Rattle.cube_core.specs.declared.shard.ShardAnswer.{ShardAnswer}
 use Rattle.cube_core.specs.declared.shard.ShardCall.{ShardCall}
@@ -15,10 +15,11 @@ use Rattle.cube_journal.specs.declared.journal_entry.JournalEntry.{JournalEntry}
 use Rattle.cube_run.specs.RunRecords.{Sentence}
 use Rattle.posted_pasts.specs.PostsAdded.{PostsNoChange}
 
--- A call that posts neither rows nor a deletion, and that speaks by whatever script there is. Plain calls are such, and
--- so are those that open or close a reader.
+-- A call that posts neither rows nor a deletion, that asks for the code of no text, and that speaks by whatever script
+-- there is. Plain calls are such, and so are those that open or close a reader.
 pub record IsQuietCall (call : ClientCall) : Type 0 where
   pub posts : PostsNoChange call
+  pub asks : AsksForNone call
   pub speaks : (script : List Sentence) → SpeaksByScript script call
 
 module _ {S : Type 0} (fits : Opening → ℕ → ShardCall → Type 0) (stands : Opening → ℕ → ℕ → S → ShardView → Type 0)

@@ -3,12 +3,12 @@ use Rattle.std.proofs.lemmas.Option.{slice_get-get_or}
 use Rattle.core_names.proofs.GivenCodes.{moved}
 use Rattle.copied_names.specs.CopiedNames.{MayCopyCube}
 use Rattle.copied_names.proofs.CopiedLists.{asks-more, first-all, first-next, first-none, still-may}
-use Rattle.core_names.specs.StaysAsWhoAsks.{asks-none}
+use Rattle.core_names.proofs.PlainNames.{copies-none}
 use Rattle.copied_names.proofs.cube_names.copy_dims.Goals as goal
 
 pub returns-in_err-dims-clause-asks : goal.returns-in_err-dims-clause-asks
 returns-in_err-dims-clause-asks g c =
-    asks-none (g.P.CellCaller.number c.args.caller.now) (g.P.CellCaller.own c.args.caller.now)
+    copies-none (g.P.CellCaller.number c.args.caller.now) (g.P.CellCaller.own c.args.caller.now)
 
 pub dims-init : goal.dims-init
 dims-init g c = (

@@ -1,4 +1,5 @@
 use Rattle.core_names.proofs.GivenCodes.{moved}
+use Rattle.core_names.proofs.PlainNames.{copies-are-names}
 use Rattle.session_snapshots.specs.KnownHolds.{HoldsTheSame}
 use Rattle.copied_names.proofs.CopiedLists.{between-result, distinct-result}
 use Rattle.copied_names.proofs.cube_names.copy_names_of_cube.Goals as goal
@@ -11,7 +12,8 @@ returns-in_err-lists-clause-holds g c =
     let now = g.P.CellCaller.own c.copy_dims.new.caller in
     moved (λ x n. HoldsTheSame g.S.LinkedShard.fits g.S.LinkedShard.stands g.S.LinkedShard.says c.args.session cells caller own x n now)
     cells (g.P.CellCaller.opening c.copy_dims.new.caller) caller (g.P.CellCaller.number c.copy_dims.new.caller) c.copy_dims.ensures.opening c.copy_dims.ensures.number
-    (c.names_calls_keep_what_is_held.ensures.holds cells caller c.args.session own now c.requires.may.client c.copy_dims.ensures.asks)
+    (c.names_calls_keep_what_is_held.ensures.holds cells caller c.args.session own now c.requires.may.client
+    (copies-are-names caller own now c.copy_dims.ensures.asks))
 
 pub returns-clause-holds : goal.returns-clause-holds
 returns-clause-holds g c =
@@ -21,7 +23,8 @@ returns-clause-holds g c =
     let now = g.P.CellCaller.own c.copy_dims.new.caller in
     moved (λ x n. HoldsTheSame g.S.LinkedShard.fits g.S.LinkedShard.stands g.S.LinkedShard.says c.args.session cells caller own x n now)
     cells (g.P.CellCaller.opening c.copy_dims.new.caller) caller (g.P.CellCaller.number c.copy_dims.new.caller) c.copy_dims.ensures.opening c.copy_dims.ensures.number
-    (c.names_calls_keep_what_is_held.ensures.holds cells caller c.args.session own now c.requires.may.client c.copy_dims.ensures.asks)
+    (c.names_calls_keep_what_is_held.ensures.holds cells caller c.args.session own now c.requires.may.client
+    (copies-are-names caller own now c.copy_dims.ensures.asks))
 
 pub returns-clause-copied : goal.returns-clause-copied
 returns-clause-copied g c =

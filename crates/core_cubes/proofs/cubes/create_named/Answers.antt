@@ -44,7 +44,7 @@ returns-in-Some-clause-calls g c =
     session.number c.requires.client (g.P.CellCaller.own c.args.caller.now) (g.P.CellCaller.own c.create_cube.new.caller)
     (call.CreateCube session.number (session.statements + 1) c.args.decl) (answer.Created c.in-Some.made)
     c.in-Some.ensures.own (IsCallFor (session.statements + 1) (CreateCube c.args.decl))
-    (λ k. record { speaks = (refl, refl); posts = tt; readers = tt })
+    (λ k. record { speaks = (refl, refl); posts = tt; asks = tt; readers = tt })
 
 pub returns-in-Some-clause-more : goal.returns-in-Some-clause-more
 returns-in-Some-clause-more g c =

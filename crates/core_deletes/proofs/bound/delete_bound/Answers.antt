@@ -3,6 +3,7 @@ use Rattle.core_changes.proofs.BegunChanges.{nothing-yet}
 use Rattle.core_deletes.proofs.BegunDeletes.{may-ask}
 use Rattle.core_deletes.specs.DeleteEnds.{AnswersAsDelete}
 use Rattle.cube_language.specs.declared.decl.Decl.{Decl}
+use Rattle.dropped_regions.specs.DeleteBoxes.{IsDeleteText}
 use Rattle.core_deletes.proofs.bound.delete_bound.Goals as goal
 
 pub delete_knowing-requires-clause-asks : goal.delete_knowing-requires-clause-asks
@@ -28,4 +29,5 @@ returns-in-Err-clause-answered g c =
     let s = c.args.statement.now in
     subst (λ (d : Decl). AnswersAsDelete cells caller session s own now c.args.place d session c.refuse_delete.result)
     c.decl-decl.ensures.decl
-    (c.refuse_delete.ensures.answered own (nothing-yet cells caller session s own))
+    (c.refuse_delete.ensures.answered own
+    (nothing-yet cells caller session s (IsDeleteText c.args.place (c.decl-decl.result.now) s) own))

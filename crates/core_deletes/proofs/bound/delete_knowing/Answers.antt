@@ -1,6 +1,7 @@
 use Rattle.core_changes.proofs.BegunChanges.{may-still, nothing-by-names}
 use Rattle.core_changes.specs.ChangesUnderWay.{HasChangedNothing, MayChange}
 use Rattle.core_deletes.specs.DeleteEnds.{AnswersAsDelete}
+use Rattle.dropped_regions.specs.DeleteBoxes.{IsDeleteText}
 use Rattle.core_deletes.proofs.bound.delete_knowing.Goals as goal
 
 pub delete_box-requires-clause-may : goal.delete_box-requires-clause-may
@@ -28,9 +29,10 @@ returns-in-Ok-clause-answered g c =
     coe 0 1 (i. AnswersAsDelete (did.opening i) (did.number i) session s (own old) (own c.delete_box.new.caller) c.args.place
     c.args.cube.now c.delete_box.new.session c.delete_box.result)
     (c.delete_box.ensures.answered (own old)
-    (coe 1 0 (i. HasChangedNothing (did.opening i) (did.number i) session s (own old) mid)
+    (coe 1 0 (i. HasChangedNothing (did.opening i) (did.number i) session s (own old) mid
+    (IsDeleteText c.args.place c.args.cube.now s))
     (nothing-by-names (g.P.CellCaller.opening old) (g.P.CellCaller.number old) c.args.size.now.shards session (own old) mid
-    c.requires.may did.asks s)))
+    c.requires.may did.asks s (IsDeleteText c.args.place c.args.cube.now s) did.asked)))
 
 pub refuse_delete-requires-in-Err-NoMemory-clause-may : goal.refuse_delete-requires-in-Err-NoMemory-clause-may
 refuse_delete-requires-in-Err-NoMemory-clause-may g c =
@@ -54,9 +56,10 @@ returns-in-Err-Fault-clause-answered g c =
     coe 0 1 (i. AnswersAsDelete (did.opening i) (did.number i) session s (own old) (own c.refuse_delete.new.caller)
     c.args.place (c.decl-decl.ensures.decl i) session c.refuse_delete.result)
     (c.refuse_delete.ensures.answered (own old)
-    (coe 1 0 (i. HasChangedNothing (did.opening i) (did.number i) session s (own old) mid)
+    (coe 1 0 (i. HasChangedNothing (did.opening i) (did.number i) session s (own old) mid
+    (IsDeleteText c.args.place (c.decl-decl.ensures.decl i) s))
     (nothing-by-names (g.P.CellCaller.opening old) (g.P.CellCaller.number old) c.args.size.now.shards session (own old) mid
-    c.requires.may did.asks s)))
+    c.requires.may did.asks s (IsDeleteText c.args.place c.args.cube.now s) did.asked)))
 
 pub returns-in-Err-NoMemory-clause-answered : goal.returns-in-Err-NoMemory-clause-answered
 returns-in-Err-NoMemory-clause-answered g c =
@@ -69,6 +72,7 @@ returns-in-Err-NoMemory-clause-answered g c =
     coe 0 1 (i. AnswersAsDelete (did.opening i) (did.number i) session s (own old) (own c.refuse_delete-in-Err-NoMemory.new.caller)
     c.args.place (c.decl-decl-in-Err-NoMemory.ensures.decl i) session c.refuse_delete-in-Err-NoMemory.result)
     (c.refuse_delete-in-Err-NoMemory.ensures.answered (own old)
-    (coe 1 0 (i. HasChangedNothing (did.opening i) (did.number i) session s (own old) mid)
+    (coe 1 0 (i. HasChangedNothing (did.opening i) (did.number i) session s (own old) mid
+    (IsDeleteText c.args.place (c.decl-decl-in-Err-NoMemory.ensures.decl i) s))
     (nothing-by-names (g.P.CellCaller.opening old) (g.P.CellCaller.number old) c.args.size.now.shards session (own old) mid
-    c.requires.may did.asks s)))
+    c.requires.may did.asks s (IsDeleteText c.args.place c.args.cube.now s) did.asked)))

@@ -2,7 +2,7 @@ use Rattle.std.proofs.Common.{inl, refl, sym, subst}
 use Rattle.cube_language.specs.declared.decl.Decl.{Decl}
 use Rattle.core_changes.proofs.BegunChanges.{nothing-yet}
 use Rattle.core_deletes.specs.DeleteEnds.{AnswersAsDelete}
-use Rattle.dropped_regions.specs.DeleteBoxes.{IsToldOfPlace}
+use Rattle.dropped_regions.specs.DeleteBoxes.{IsDeleteText, IsToldOfPlace}
 use Rattle.core_deletes.proofs.deletes.delete_found.Goals as goal
 
 pub delete_bound-requires-clause-told : goal.delete_bound-requires-clause-told
@@ -25,4 +25,5 @@ returns-in-Err-clause-answered g c =
     let old = c.args.caller.now in
     let own = g.P.CellCaller.own old in
     c.refuse_delete.ensures.answered own
-    (nothing-yet (g.P.CellCaller.opening old) (g.P.CellCaller.number old) c.args.session.now c.args.statement.now own)
+    (nothing-yet (g.P.CellCaller.opening old) (g.P.CellCaller.number old) c.args.session.now c.args.statement.now
+    (IsDeleteText c.args.cube.now.place c.args.cube.now.decl c.args.statement.now) own)

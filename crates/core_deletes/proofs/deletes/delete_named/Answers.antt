@@ -5,6 +5,7 @@ use Rattle.core_changes.specs.ChangesUnderWay.{IsSameStatement}
 use Rattle.core_deletes.proofs.BegunDeletes.{is-active}
 use Rattle.core_deletes.proofs.DeletesInRuns.{has-ended}
 use Rattle.core_deletes.specs.DeleteEnds.{AnswersAsDelete, AnswersDelete, DropsByEnd}
+use Rattle.dropped_regions.specs.DeleteBoxes.{IsDeleteText}
 use Rattle.core_states.specs.StandingInCore.{HoldsForMode}
 use Rattle.core_states.specs.declared.session.CoreSession.{CoreSession}
 use Rattle.cube_run.specs.RunRecords.{Missing}
@@ -56,7 +57,7 @@ returns-in-Ok-clause-readers g c =
     let new = c.delete_found.new.session in
     let s = c.args.statement.now in
     let cube = c.in-Ok.cube in
-    found-leaves-watch cells caller WhateverFile session s (own old) mid now
+    found-leaves-watch cells caller WhateverFile session s (own old) mid now (IsDeleteText cube.place cube.decl s)
     (DropsByEnd cells caller (counted_session session) s mid now cube.place cube.decl) (AnswersDelete cube.decl s) new
     c.delete_found.result c.in-Ok.ensures.found
     (coe 0 1 (i. AnswersAsDelete (did.opening i) (did.number i) (c.in-Ok.ensures.counted i) s mid now cube.place cube.decl
@@ -76,7 +77,7 @@ returns-in-Ok-clause-stopped g c =
     let s = c.args.statement.now in
     let cube = c.in-Ok.cube in
     stopped-any c.delete_found.result
-    (found-front cells caller WhateverFile session s (own old) mid now
+    (found-front cells caller WhateverFile session s (own old) mid now (IsDeleteText cube.place cube.decl s)
     (DropsByEnd cells caller (counted_session session) s mid now cube.place cube.decl) (AnswersDelete cube.decl s) new
     c.delete_found.result c.in-Ok.ensures.found
     (coe 0 1 (i. AnswersAsDelete (did.opening i) (did.number i) (c.in-Ok.ensures.counted i) s mid now cube.place cube.decl
@@ -96,7 +97,7 @@ returns-in-Ok-clause-holds g c =
     let cube = c.in-Ok.cube in
     coe 1 0 (i. IfReplied c.delete_found.result (λ said. HoldsForMode FitsShard CoreShardStands ShardAnswerSays
     (last.opening i) (last.number i) new.number now (mode_of new.mode)))
-    (found-holds cells caller WhateverFile session s mid now
+    (found-holds cells caller WhateverFile session s mid now (IsDeleteText cube.place cube.decl s)
     (DropsByEnd cells caller (counted_session session) s mid now cube.place cube.decl) (AnswersDelete cube.decl s) new
     c.delete_found.result
     (coe 0 1 (i. AnswersAsDelete cells caller (c.in-Ok.ensures.counted i) s mid now cube.place cube.decl new
@@ -120,7 +121,7 @@ returns-in-Ok-clause-performed g c =
     coe 0 1 (i. AnswersAsDelete (did.opening i) (did.number i) (c.in-Ok.ensures.counted i) s mid now cube.place cube.decl
     new c.delete_found.result) c.delete_found.ensures.answered
     in
-    found-performed cells caller WhateverFile session s (own old) mid now
+    found-performed cells caller WhateverFile session s (own old) mid now (IsDeleteText cube.place cube.decl s)
     (DropsByEnd cells caller (counted_session session) s mid now cube.place cube.decl) (AnswersDelete cube.decl s) new
     c.delete_found.result
     (λ said h.
@@ -130,7 +131,7 @@ returns-in-Ok-clause-performed g c =
     c.found_cubes_are_on_record.ensures cells caller session.number (session.statements + 1) (own old) mid now
     c.args.name.now cube.place cube.decl past o given log events step s c.in-Ok.ensures.stands answered.more there below
     later follow apart same_session same_number c.requires.needs)
-    c.requires.deletes new said c.requires.may c.in-Ok.ensures.found h))
+    c.requires.deletes new said c.requires.served c.requires.may c.in-Ok.ensures.found h))
     answered
 
 pub returns-in-Err-clause-readers : goal.returns-in-Err-clause-readers

@@ -4,7 +4,7 @@ use Rattle.core_deletes.proofs.BegunDeletes.{still-told}
 use Rattle.core_changes.specs.ChangesUnderWay.{HasBegunWith, HasChangedNothing}
 use Rattle.core_deletes.specs.DeleteEnds.{AnswersAsDelete}
 use Rattle.dropped_regions.proofs.BoxesOfPlans.{box-later}
-use Rattle.dropped_regions.specs.DeleteBoxes.{IsBoxOf}
+use Rattle.dropped_regions.specs.DeleteBoxes.{IsBoxOf, IsDeleteText}
 use Rattle.linked_shards.specs.CellShards.{CoreShardStands}
 use Rattle.posted_pasts.specs.PostsAdded.{AddsNoOperation}
 use Rattle.scripted_pasts.specs.Served.{IsServed}
@@ -60,9 +60,10 @@ returns-in-Ok-clause-answered g c = λ first nothing.
     coe 0 1 (i. AnswersAsDelete (did.opening i) (did.number i) session s first (own c.delete_by.new.caller) c.args.place
     c.args.cube.now c.delete_by.new.session c.delete_by.result)
     (c.delete_by.ensures.answered first
-    (coe 1 0 (i. HasBegunWith (did.opening i) (did.number i) session s first mid writer AddsNoOperation)
-    (has-begun (g.P.CellCaller.opening old) (g.P.CellCaller.number old) session s first (own old) mid writer nothing
-    c.in-Ok.ensures.left)))
+    (coe 1 0 (i. HasBegunWith (did.opening i) (did.number i) session s first mid
+    (IsDeleteText c.args.place c.args.cube.now s) writer AddsNoOperation)
+    (has-begun (g.P.CellCaller.opening old) (g.P.CellCaller.number old) session s
+    (IsDeleteText c.args.place c.args.cube.now s) first (own old) mid writer nothing c.in-Ok.ensures.left)))
 
 pub refuse_delete-requires-clause-may : goal.refuse_delete-requires-clause-may
 refuse_delete-requires-clause-may g c =
@@ -91,6 +92,7 @@ returns-in-Err-clause-answered g c = λ first nothing.
     coe 0 1 (i. AnswersAsDelete (did.opening i) (did.number i) session s first (own c.refuse_delete.new.caller) c.args.place
     (c.decl-decl.ensures.decl i) session c.refuse_delete.result)
     (c.refuse_delete.ensures.answered first
-    (coe 1 0 (i. HasChangedNothing (did.opening i) (did.number i) session s first mid)
-    (nothing-then (g.P.CellCaller.opening old) (g.P.CellCaller.number old) session s first (own old) mid nothing
-    c.in-Err.ensures.none)))
+    (coe 1 0 (i. HasChangedNothing (did.opening i) (did.number i) session s first mid
+    (IsDeleteText c.args.place (c.decl-decl.ensures.decl i) s))
+    (nothing-then (g.P.CellCaller.opening old) (g.P.CellCaller.number old) session s
+    (IsDeleteText c.args.place c.args.cube.now s) first (own old) mid nothing c.in-Err.ensures.none)))

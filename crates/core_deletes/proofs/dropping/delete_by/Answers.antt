@@ -5,7 +5,7 @@ use Rattle.core_changes.specs.ChangesUnderWay.{HasBegunWith}
 use Rattle.core_deletes.specs.DeleteEnds.{AnswersAsDelete}
 use Rattle.core_events.specs.Serial.{DropRows}
 use Rattle.dropped_regions.proofs.BoxesOfPlans.{box-later}
-use Rattle.dropped_regions.specs.DeleteBoxes.{IsBoxOf}
+use Rattle.dropped_regions.specs.DeleteBoxes.{IsBoxOf, IsDeleteText}
 use Rattle.linked_shards.specs.CellShards.{CoreShardStands}
 use Rattle.posted_pasts.specs.PostsAdded.{AddsAtEpoch, AddsOperations}
 use Rattle.scripted_pasts.specs.Served.{IsServed}
@@ -31,7 +31,7 @@ finish_delete-requires-clause-is_box g c =
     coe 1 0 (i. IsBoxOf FitsShard CoreShardStands ShardAnswerSays (did.opening i) (did.number i) now c.args.place
     c.args.cube.now c.args.statement.now c.args.span.now)
     (box-later FitsShard CoreShardStands ShardAnswerSays (g.P.CellCaller.opening old) (g.P.CellCaller.number old)
-    (g.P.CellCaller.own old) c.args.place c.args.cube.now now c.args.statement.now c.args.span.now did.left.more
+    (g.P.CellCaller.own old) c.args.place c.args.cube.now now c.args.statement.now c.args.span.now did.left.left.more
     c.requires.is_box)
 
 pub returns-then-has_dropped-clause-answered : goal.returns-then-has_dropped-clause-answered
@@ -46,10 +46,12 @@ returns-then-has_dropped-clause-answered g c = λ first begun.
     coe 0 1 (i. AnswersAsDelete (did.opening i) (did.number i) session s first (own c.finish_delete.new.caller) c.args.place
     c.args.cube.now c.finish_delete.new.session c.finish_delete.result)
     (c.finish_delete.ensures.answered first
-    (coe 1 0 (i. HasBegunWith (did.opening i) (did.number i) session s first mid writer
+    (coe 1 0 (i. HasBegunWith (did.opening i) (did.number i) session s first mid
+    (IsDeleteText c.args.place c.args.cube.now s) writer
     (AddsOperations c.args.place writer.epoch (DropRows c.args.span.now ∷ [])))
-    (begun-with-operations (g.P.CellCaller.opening old) (g.P.CellCaller.number old) session s first (own old) mid writer begun
-    did.left c.args.place (DropRows c.args.span.now ∷ []) (OnTrue_at c.if-has_dropped.true did.operations))))
+    (begun-with-operations (g.P.CellCaller.opening old) (g.P.CellCaller.number old) session s
+    (IsDeleteText c.args.place c.args.cube.now s) first (own old) mid writer begun did.left c.args.place
+    (DropRows c.args.span.now ∷ []) (OnTrue_at c.if-has_dropped.true did.operations))))
 
 pub fail_delete-requires-clause-served : goal.fail_delete-requires-clause-served
 fail_delete-requires-clause-served g c =
@@ -71,6 +73,7 @@ returns-else-has_dropped-clause-answered g c = λ first begun.
     coe 0 1 (i. AnswersAsDelete (did.opening i) (did.number i) session s first (own c.fail_delete.new.caller) c.args.place
     c.args.cube.now c.fail_delete.new.session c.fail_delete.result)
     (c.fail_delete.ensures.answered first
-    (coe 1 0 (i. HasBegunWith (did.opening i) (did.number i) session s first mid writer (AddsAtEpoch writer.epoch))
-    (begun-at-epoch (g.P.CellCaller.opening old) (g.P.CellCaller.number old) session s first (own old) mid writer begun
-    did.left did.at_epoch)))
+    (coe 1 0 (i. HasBegunWith (did.opening i) (did.number i) session s first mid
+    (IsDeleteText c.args.place c.args.cube.now s) writer (AddsAtEpoch writer.epoch))
+    (begun-at-epoch (g.P.CellCaller.opening old) (g.P.CellCaller.number old) session s
+    (IsDeleteText c.args.place c.args.cube.now s) first (own old) mid writer begun did.left did.at_epoch)))

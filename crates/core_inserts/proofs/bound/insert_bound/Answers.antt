@@ -1,7 +1,7 @@
 use Rattle.std.proofs.Common.{sym, subst}
 use Rattle.core_changes.proofs.BegunChanges.{nothing-yet}
 use Rattle.core_inserts.proofs.BegunInserts.{refused-unfit}
-use Rattle.core_inserts.specs.InsertEnds.{IsRefusalOn}
+use Rattle.core_inserts.specs.InsertEnds.{IsInsertText, IsRefusalOn}
 use Rattle.cube_journal.specs.declared.refusal.Refusal.{Refusal}
 use Rattle.core_inserts.proofs.bound.insert_bound.Goals as goal
 
@@ -21,7 +21,8 @@ returns-in-Err-clause-answered g c =
     let old = c.args.caller.now in
     let own = g.P.CellCaller.own old in
     c.refuse_bound.ensures.answered own
-    (nothing-yet (g.P.CellCaller.opening old) (g.P.CellCaller.number old) c.args.session.now c.args.statement.now own)
+    (nothing-yet (g.P.CellCaller.opening old) (g.P.CellCaller.number old) c.args.session.now c.args.statement.now
+    (IsInsertText c.args.place c.args.cube.now c.args.statement.now) own)
 
 pub returns-in-Err-clause-texts : goal.returns-in-Err-clause-texts
 returns-in-Err-clause-texts g c =
@@ -30,4 +31,4 @@ returns-in-Err-clause-texts g c =
     c.told_texts_stay_told.ensures (own old) (own c.refuse_bound.new.caller) c.args.texts.now
     (c.refuse_bound.ensures.answered (own old)
     (nothing-yet (g.P.CellCaller.opening old) (g.P.CellCaller.number old) c.args.session.now c.args.statement.now
-    (own old))).more c.requires.texts
+    (IsInsertText c.args.place c.args.cube.now c.args.statement.now) (own old))).more c.requires.texts

@@ -1,8 +1,9 @@
 use Rattle.std.proofs.Common.{◌≡◌, List, None, sym, subst}
 use Rattle.core_changes.proofs.BegunChanges.{may-still, nothing-by-names, nothing-yet}
 use Rattle.core_changes.specs.ChangesUnderWay.{HasChangedNothing, MayChange}
-use Rattle.core_inserts.proofs.BegunInserts.{fits-rows, still-told}
-use Rattle.core_inserts.specs.InsertEnds.{AnswersAsInsert, without_memory}
+use Rattle.core_inserts.proofs.BegunInserts.{fits-rows, its-texts, still-told}
+use Rattle.inserted_rows.proofs.TextsOn.{names_go_on}
+use Rattle.core_inserts.specs.InsertEnds.{IsInsertText, AnswersAsInsert, without_memory}
 use Rattle.cube_language.specs.RowFaults.{first_bad_row}
 use Rattle.cube_values.specs.declared.value.Value.{Value}
 use Rattle.inserted_rows.specs.RowsInTheEnd.{AreEncodedRows}
@@ -41,11 +42,8 @@ insert_encoded-requires-clause-told g c =
     let old = c.args.caller.now in
     let own = g.P.CellCaller.own old in
     let mid = g.P.CellCaller.own c.encode_inserted.new.caller in
-    let session = c.args.session.now in
-    let s = c.args.statement.now in
     still-told own mid c.args.place c.args.cube.now
-    (nothing-by-names (g.P.CellCaller.opening old) (g.P.CellCaller.number old) c.args.size.now.shards session own mid
-    c.requires.may c.encode_inserted.ensures.asks s).left.more c.requires.told
+    (names_go_on (g.P.CellCaller.number old) own mid c.encode_inserted.ensures.asks) c.requires.told
 
 pub insert_encoded-requires-clause-rows : goal.insert_encoded-requires-clause-rows
 insert_encoded-requires-clause-rows g c =
@@ -65,9 +63,12 @@ returns-in-Ok-clause-answered g c =
     coe 0 1 (i. AnswersAsInsert (did.opening i) (did.number i) session s (own old) (own c.insert_encoded.new.caller)
     c.args.place c.args.cube.now c.insert_encoded.new.session c.insert_encoded.result)
     (c.insert_encoded.ensures.answered (own old)
-    (coe 1 0 (i. HasChangedNothing (did.opening i) (did.number i) session s (own old) mid)
+    (coe 1 0 (i. HasChangedNothing (did.opening i) (did.number i) session s (own old) mid
+    (IsInsertText c.args.place c.args.cube.now c.args.statement.now))
     (nothing-by-names (g.P.CellCaller.opening old) (g.P.CellCaller.number old) c.args.size.now.shards session (own old)
-    mid c.requires.may did.asks s)))
+    mid c.requires.may did.asks s (IsInsertText c.args.place c.args.cube.now c.args.statement.now)
+    (its-texts (own old) mid c.args.place c.args.cube.now c.args.statement.now c.requires.fits
+    c.inserted_rows-rows.ensures did.asked))))
 
 pub returns-in-Ok-clause-texts : goal.returns-in-Ok-clause-texts
 returns-in-Ok-clause-texts g c =
@@ -76,7 +77,7 @@ returns-in-Ok-clause-texts g c =
     c.told_texts_stay_told.ensures (own mid) (own c.insert_encoded.new.caller) c.encode_inserted.new.texts
     (c.insert_encoded.ensures.answered (own mid)
     (nothing-yet (g.P.CellCaller.opening mid) (g.P.CellCaller.number mid) c.args.session.now c.args.statement.now
-    (own mid))).more c.encode_inserted.ensures.texts
+    (IsInsertText c.args.place c.args.cube.now c.args.statement.now) (own mid))).more c.encode_inserted.ensures.texts
 
 pub refuse_bound-requires-clause-may : goal.refuse_bound-requires-clause-may
 refuse_bound-requires-clause-may g c =
@@ -103,9 +104,12 @@ returns-in-Err-clause-answered g c =
     coe 0 1 (i. AnswersAsInsert (did.opening i) (did.number i) session s (own old) (own c.refuse_bound.new.caller)
     c.args.place c.args.cube.now session c.refuse_bound.result)
     (c.refuse_bound.ensures.answered (own old)
-    (coe 1 0 (i. HasChangedNothing (did.opening i) (did.number i) session s (own old) mid)
+    (coe 1 0 (i. HasChangedNothing (did.opening i) (did.number i) session s (own old) mid
+    (IsInsertText c.args.place c.args.cube.now c.args.statement.now))
     (nothing-by-names (g.P.CellCaller.opening old) (g.P.CellCaller.number old) c.args.size.now.shards session (own old)
-    mid c.requires.may did.asks s)))
+    mid c.requires.may did.asks s (IsInsertText c.args.place c.args.cube.now c.args.statement.now)
+    (its-texts (own old) mid c.args.place c.args.cube.now c.args.statement.now c.requires.fits
+    c.inserted_rows-rows.ensures did.asked))))
 
 pub returns-in-Err-clause-texts : goal.returns-in-Err-clause-texts
 returns-in-Err-clause-texts g c =
@@ -114,4 +118,4 @@ returns-in-Err-clause-texts g c =
     c.told_texts_stay_told.ensures (own mid) (own c.refuse_bound.new.caller) c.encode_inserted.new.texts
     (c.refuse_bound.ensures.answered (own mid)
     (nothing-yet (g.P.CellCaller.opening mid) (g.P.CellCaller.number mid) c.args.session.now c.args.statement.now
-    (own mid))).more c.encode_inserted.ensures.texts
+    (IsInsertText c.args.place c.args.cube.now c.args.statement.now) (own mid))).more c.encode_inserted.ensures.texts

@@ -1,5 +1,6 @@
 use Rattle.std.proofs.Common.{sym, subst}
-use Rattle.core_inserts.specs.InsertEnds.{AnswersAsInsert, IsRefusalOn}
+use Rattle.core_changes.specs.ChangesUnderWay.{HasChangedNothing}
+use Rattle.core_inserts.specs.InsertEnds.{AnswersAsInsert, IsInsertText, IsRefusalOn}
 use Rattle.cube_language.specs.declared.decl.Decl.{Decl}
 use Rattle.core_inserts.proofs.bound.refuse_bound.Goals as goal
 
@@ -14,4 +15,8 @@ returns-clause-answered g c = λ first nothing.
     let old = c.args.caller.now in
     subst (λ (d : Decl). AnswersAsInsert (g.P.CellCaller.opening old) (g.P.CellCaller.number old) c.args.session.now
     c.args.statement.now first (g.P.CellCaller.own c.refuse_insert.new.caller) c.args.place d c.args.session.now
-    c.refuse_insert.result) c.decl-decl.ensures.decl (c.refuse_insert.ensures.answered first nothing)
+    c.refuse_insert.result) c.decl-decl.ensures.decl
+    (c.refuse_insert.ensures.answered first
+    (coe 1 0 (i. HasChangedNothing (g.P.CellCaller.opening old) (g.P.CellCaller.number old) c.args.session.now
+    c.args.statement.now first (g.P.CellCaller.own old)
+    (IsInsertText c.args.place (c.decl-decl.ensures.decl i) c.args.statement.now)) nothing))

@@ -1,6 +1,6 @@
 use Rattle.std.proofs.Common.{sym, subst}
 use Rattle.core_changes.proofs.BegunChanges.{nothing-yet}
-use Rattle.core_inserts.specs.InsertEnds.{AnswersAsInsert, without_memory}
+use Rattle.core_inserts.specs.InsertEnds.{IsInsertText, AnswersAsInsert, without_memory}
 use Rattle.cube_language.specs.declared.decl.Decl.{Decl}
 use Rattle.inserted_rows.specs.RowsInTheEnd.{IsToldOfCubeAt}
 use Rattle.core_inserts.proofs.inserts.insert_found.Goals as goal
@@ -25,7 +25,8 @@ returns-in-Err-clause-answered g c =
     let old = c.args.caller.now in
     let own = g.P.CellCaller.own old in
     c.refuse_insert.ensures.answered own
-    (nothing-yet (g.P.CellCaller.opening old) (g.P.CellCaller.number old) c.args.session.now c.args.statement.now own)
+    (nothing-yet (g.P.CellCaller.opening old) (g.P.CellCaller.number old) c.args.session.now c.args.statement.now
+    (IsInsertText c.args.cube.now.place c.args.cube.now.decl c.args.statement.now) own)
 
 pub returns-in-Err-clause-texts : goal.returns-in-Err-clause-texts
 returns-in-Err-clause-texts g c =
@@ -34,4 +35,4 @@ returns-in-Err-clause-texts g c =
     c.told_texts_stay_told.ensures (own old) (own c.refuse_insert.new.caller) c.args.texts.now
     (c.refuse_insert.ensures.answered (own old)
     (nothing-yet (g.P.CellCaller.opening old) (g.P.CellCaller.number old) c.args.session.now c.args.statement.now
-    (own old))).more c.requires.texts
+    (IsInsertText c.args.cube.now.place c.args.cube.now.decl c.args.statement.now) (own old))).more c.requires.texts

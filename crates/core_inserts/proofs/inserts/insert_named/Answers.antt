@@ -4,7 +4,7 @@ use Rattle.core_changes.proofs.PerformedInTheEnd.{found-front, found-holds, foun
 use Rattle.core_changes.specs.ChangesUnderWay.{IsSameStatement}
 use Rattle.core_inserts.proofs.BegunInserts.{is-active}
 use Rattle.core_inserts.proofs.InsertsInRuns.{has-ended}
-use Rattle.core_inserts.specs.InsertEnds.{AnswersAsInsert, AnswersInsert, PutsByEnd}
+use Rattle.core_inserts.specs.InsertEnds.{IsInsertText, AnswersAsInsert, AnswersInsert, PutsByEnd}
 use Rattle.core_states.specs.StandingInCore.{HoldsForMode}
 use Rattle.core_states.specs.declared.session.CoreSession.{CoreSession}
 use Rattle.cube_run.specs.RunRecords.{Missing}
@@ -62,7 +62,7 @@ returns-in-Ok-clause-readers g c =
     let new = c.insert_found.new.session in
     let s = c.args.statement.now in
     let cube = c.in-Ok.cube in
-    found-leaves-watch cells caller WhateverFile session s (own old) mid now
+    found-leaves-watch cells caller WhateverFile session s (own old) mid now (IsInsertText cube.place cube.decl s)
     (PutsByEnd cells caller (counted_session session) s mid now cube.place cube.decl)
     (AnswersInsert cells caller now cube.place cube.decl s) new
     c.insert_found.result c.in-Ok.ensures.found
@@ -83,7 +83,7 @@ returns-in-Ok-clause-stopped g c =
     let s = c.args.statement.now in
     let cube = c.in-Ok.cube in
     stopped-any c.insert_found.result
-    (found-front cells caller WhateverFile session s (own old) mid now
+    (found-front cells caller WhateverFile session s (own old) mid now (IsInsertText cube.place cube.decl s)
     (PutsByEnd cells caller (counted_session session) s mid now cube.place cube.decl)
     (AnswersInsert cells caller now cube.place cube.decl s) new
     c.insert_found.result c.in-Ok.ensures.found
@@ -104,7 +104,7 @@ returns-in-Ok-clause-holds g c =
     let cube = c.in-Ok.cube in
     coe 1 0 (i. IfReplied c.insert_found.result (λ said. HoldsForMode FitsShard CoreShardStands ShardAnswerSays
     (last.opening i) (last.number i) new.number now (mode_of new.mode)))
-    (found-holds cells caller WhateverFile session s mid now
+    (found-holds cells caller WhateverFile session s mid now (IsInsertText cube.place cube.decl s)
     (PutsByEnd cells caller (counted_session session) s mid now cube.place cube.decl)
     (AnswersInsert cells caller now cube.place cube.decl s) new
     c.insert_found.result
@@ -129,7 +129,7 @@ returns-in-Ok-clause-performed g c =
     coe 0 1 (i. AnswersAsInsert (did.opening i) (did.number i) (c.in-Ok.ensures.counted i) s mid now cube.place
     cube.decl new c.insert_found.result) c.insert_found.ensures.answered
     in
-    found-performed cells caller WhateverFile session s (own old) mid now
+    found-performed cells caller WhateverFile session s (own old) mid now (IsInsertText cube.place cube.decl s)
     (PutsByEnd cells caller (counted_session session) s mid now cube.place cube.decl)
     (AnswersInsert cells caller now cube.place cube.decl s) new
     c.insert_found.result
@@ -140,7 +140,7 @@ returns-in-Ok-clause-performed g c =
     c.found_cubes_are_on_record.ensures cells caller session.number (session.statements + 1) (own old) mid now
     c.args.name.now cube.place cube.decl past o given log events step s c.in-Ok.ensures.stands answered.more there below
     later follow apart same_session same_number c.requires.needs)
-    c.requires.inserts new said c.requires.may c.in-Ok.ensures.found h))
+    c.requires.inserts new said c.requires.served.is_session c.requires.may c.in-Ok.ensures.found h))
     answered
 
 pub returns-in-Err-clause-readers : goal.returns-in-Err-clause-readers

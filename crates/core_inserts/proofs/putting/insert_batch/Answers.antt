@@ -1,7 +1,7 @@
 use Rattle.core_changes.proofs.BegunChanges.{has-begun, nothing-then}
 use Rattle.core_changes.specs.ChangesUnderWay.{HasBegunWith, HasChangedNothing}
 use Rattle.core_inserts.proofs.BegunInserts.{still-told}
-use Rattle.core_inserts.specs.InsertEnds.{AnswersAsInsert, HasBatch, without_memory}
+use Rattle.core_inserts.specs.InsertEnds.{IsInsertText, AnswersAsInsert, HasBatch, without_memory}
 use Rattle.core_inserts.proofs.EndedInserts.{has-batch-later}
 use Rattle.posted_pasts.specs.PostsAdded.{AddsNoOperation}
 use Rattle.scripted_pasts.specs.Served.{IsServed}
@@ -55,8 +55,10 @@ returns-in-Ok-clause-answered g c = λ first nothing.
     coe 0 1 (i. AnswersAsInsert (did.opening i) (did.number i) session s first (own c.insert_by.new.caller) c.args.place
     c.args.cube.now c.insert_by.new.session c.insert_by.result)
     (c.insert_by.ensures.answered first
-    (coe 1 0 (i. HasBegunWith (did.opening i) (did.number i) session s first mid writer AddsNoOperation)
-    (has-begun (g.P.CellCaller.opening old) (g.P.CellCaller.number old) session s first (own old) mid writer nothing
+    (coe 1 0 (i. HasBegunWith (did.opening i) (did.number i) session s first mid
+    (IsInsertText c.args.place c.args.cube.now s) writer AddsNoOperation)
+    (has-begun (g.P.CellCaller.opening old) (g.P.CellCaller.number old) session s
+    (IsInsertText c.args.place c.args.cube.now s) first (own old) mid writer nothing
     c.in-Ok.ensures.left)))
 
 pub refuse_bound-requires-clause-may : goal.refuse_bound-requires-clause-may
@@ -86,6 +88,8 @@ returns-in-Err-clause-answered g c = λ first nothing.
     coe 0 1 (i. AnswersAsInsert (did.opening i) (did.number i) session s first (own c.refuse_bound.new.caller)
     c.args.place c.args.cube.now session c.refuse_bound.result)
     (c.refuse_bound.ensures.answered first
-    (coe 1 0 (i. HasChangedNothing (did.opening i) (did.number i) session s first mid)
-    (nothing-then (g.P.CellCaller.opening old) (g.P.CellCaller.number old) session s first (own old) mid nothing
+    (coe 1 0 (i. HasChangedNothing (did.opening i) (did.number i) session s first mid
+    (IsInsertText c.args.place c.args.cube.now s))
+    (nothing-then (g.P.CellCaller.opening old) (g.P.CellCaller.number old) session s
+    (IsInsertText c.args.place c.args.cube.now s) first (own old) mid nothing
     c.in-Err.ensures.none)))

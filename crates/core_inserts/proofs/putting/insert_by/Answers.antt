@@ -3,7 +3,7 @@ use Rattle.core_changes.proofs.BegunChanges.{begun-at-epoch, begun-with-operatio
 use Rattle.core_changes.specs.ChangesUnderWay.{HasBegunWith}
 use Rattle.core_inserts.proofs.BegunInserts.{still-told}
 use Rattle.core_inserts.proofs.EndedInserts.{has-batch-later}
-use Rattle.core_inserts.specs.InsertEnds.{AnswersAsInsert, HasBatch, posted_batches}
+use Rattle.core_inserts.specs.InsertEnds.{IsInsertText, AnswersAsInsert, HasBatch, posted_batches}
 use Rattle.posted_pasts.specs.PostsAdded.{AddsAtEpoch, AddsOperations}
 use Rattle.scripted_pasts.specs.Served.{IsServed}
 use Rattle.core_inserts.proofs.putting.insert_by.Goals as goal
@@ -20,7 +20,7 @@ finish_insert-requires-clause-served g c =
 pub finish_insert-requires-clause-told : goal.finish_insert-requires-clause-told
 finish_insert-requires-clause-told g c =
     still-told (g.P.CellCaller.own c.args.caller.now) (g.P.CellCaller.own c.failure_of_put.new.caller) c.args.place
-    c.args.cube.now c.failure_of_put.ensures.left.more c.requires.told
+    c.args.cube.now c.failure_of_put.ensures.left.left.more c.requires.told
 
 pub returns-in-None-clause-answered : goal.returns-in-None-clause-answered
 returns-in-None-clause-answered g c = λ first begun.
@@ -39,10 +39,11 @@ returns-in-None-clause-answered g c = λ first begun.
     (c.finish_insert.ensures.answered first c.args.rows
     (coe 1 0 (i. HasBatch (did.opening i) (did.number i) mid place d s c.args.rows)
     (has-batch-later (g.P.CellCaller.opening old) (g.P.CellCaller.number old) (own old) mid place d s c.args.rows
-    did.left.more c.requires.batch))
-    (coe 1 0 (i. HasBegunWith (did.opening i) (did.number i) session s first mid writer
+    did.left.left.more c.requires.batch))
+    (coe 1 0 (i. HasBegunWith (did.opening i) (did.number i) session s first mid (IsInsertText place d s) writer
     (AddsOperations place writer.epoch posts))
-    (begun-with-operations (g.P.CellCaller.opening old) (g.P.CellCaller.number old) session s first (own old) mid writer
+    (begun-with-operations (g.P.CellCaller.opening old) (g.P.CellCaller.number old) session s (IsInsertText place d s)
+    first (own old) mid writer
     begun did.left place posts c.in-None.ensures.operations)))
 
 pub fail_insert-requires-clause-served : goal.fail_insert-requires-clause-served
@@ -67,7 +68,9 @@ returns-in-Some-clause-answered g c = λ first begun.
     (c.fail_insert.ensures.answered first c.args.rows
     (coe 1 0 (i. HasBatch (did.opening i) (did.number i) mid place d s c.args.rows)
     (has-batch-later (g.P.CellCaller.opening old) (g.P.CellCaller.number old) (own old) mid place d s c.args.rows
-    did.left.more c.requires.batch))
-    (coe 1 0 (i. HasBegunWith (did.opening i) (did.number i) session s first mid writer (AddsAtEpoch writer.epoch))
-    (begun-at-epoch (g.P.CellCaller.opening old) (g.P.CellCaller.number old) session s first (own old) mid writer begun
+    did.left.left.more c.requires.batch))
+    (coe 1 0 (i. HasBegunWith (did.opening i) (did.number i) session s first mid (IsInsertText place d s) writer
+    (AddsAtEpoch writer.epoch))
+    (begun-at-epoch (g.P.CellCaller.opening old) (g.P.CellCaller.number old) session s (IsInsertText place d s) first
+    (own old) mid writer begun
     did.left did.at_epoch)))

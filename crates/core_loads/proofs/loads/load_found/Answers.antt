@@ -1,7 +1,7 @@
 use Rattle.std.proofs.Common.{refl, sym, subst}
 use Rattle.core_changes.proofs.BegunChanges.{nothing-yet}
 use Rattle.core_loads.proofs.BegunLoads.{has-left}
-use Rattle.core_loads.specs.LoadEnds.{AnswersFromShelf, without_memory}
+use Rattle.core_loads.specs.LoadEnds.{AnswersFromShelf, NoText, without_memory}
 use Rattle.core_loads.specs.ShelfLoads.{ShelfSeen, path_loaded}
 use Rattle.cube_run.specs.RunRecords.{Missing}
 use Rattle.cube_language.specs.declared.decl.Decl.{Decl}
@@ -37,7 +37,8 @@ returns-in-Err-clause-answered g c =
       file = Missing;
       loads =
           c.refuse_load.ensures.answered own Missing c.args.cube.now.place c.args.cube.now.decl without_memory
-          (nothing-yet (g.P.CellCaller.opening old) (g.P.CellCaller.number old) c.args.session.now c.args.statement.now
+          (nothing-yet (g.P.CellCaller.opening old) (g.P.CellCaller.number old) c.args.session.now
+          c.args.statement.now NoText
           own);
       read =
           has-left _ (path_loaded c.args.statement.now) Missing refl refl refl c.refuse_load.result
@@ -50,5 +51,5 @@ returns-in-Err-clause-texts g c =
     let own = g.P.CellCaller.own in
     c.told_texts_stay_told.ensures (own old) (own c.refuse_load.new.caller) c.args.texts.now
     (c.refuse_load.ensures.answered (own old) Missing c.args.cube.now.place c.args.cube.now.decl without_memory
-    (nothing-yet (g.P.CellCaller.opening old) (g.P.CellCaller.number old) c.args.session.now c.args.statement.now
+    (nothing-yet (g.P.CellCaller.opening old) (g.P.CellCaller.number old) c.args.session.now c.args.statement.now NoText
     (own old))).more c.requires.texts

@@ -4,8 +4,8 @@ use Rattle.core_changes.proofs.PerformedInTheEnd.{found-front, found-holds, foun
 use Rattle.core_changes.specs.ChangesUnderWay.{IsSameStatement}
 use Rattle.core_loads.proofs.BegunLoads.{is-active, performed-from, unread-from}
 use Rattle.core_loads.proofs.LoadsInRuns.{has-ended}
-use Rattle.core_loads.specs.LoadEnds.{AnswersAsLoad, AnswersByEnd, LoadsByEnd}
-use Rattle.core_loads.specs.ShelfLoads.{path_loaded}
+use Rattle.core_loads.specs.LoadEnds.{AnswersAsLoad, AnswersByEnd, IsFileText, LoadsByEnd}
+use Rattle.core_loads.specs.ShelfLoads.{allowed_loaded, path_loaded}
 use Rattle.core_states.specs.StandingInCore.{HoldsForMode}
 use Rattle.core_states.specs.declared.session.CoreSession.{CoreSession}
 use Rattle.cube_run.specs.RunRecords.{LoadedFile}
@@ -65,6 +65,7 @@ returns-in-Ok-clause-readers g c =
     let cube = c.in-Ok.cube in
     let file = c.load_found.ensures.answered.file in
     found-leaves-watch cells caller WhateverFile session s (own old) mid now
+    (IsFileText cells caller now cube.place cube.decl (allowed_loaded s) file)
     (LoadsByEnd cells caller (counted_session session) s file mid now cube.place cube.decl)
     (AnswersByEnd cells caller (counted_session session) s file mid now cube.place cube.decl) new
     c.load_found.result c.in-Ok.ensures.found
@@ -87,6 +88,7 @@ returns-in-Ok-clause-stopped g c =
     let file = c.load_found.ensures.answered.file in
     stopped-any c.load_found.result
     (found-front cells caller WhateverFile session s (own old) mid now
+    (IsFileText cells caller now cube.place cube.decl (allowed_loaded s) file)
     (LoadsByEnd cells caller (counted_session session) s file mid now cube.place cube.decl)
     (AnswersByEnd cells caller (counted_session session) s file mid now cube.place cube.decl) new
     c.load_found.result c.in-Ok.ensures.found
@@ -109,6 +111,7 @@ returns-in-Ok-clause-holds g c =
     coe 1 0 (i. IfReplied c.load_found.result (λ said. HoldsForMode FitsShard CoreShardStands ShardAnswerSays
     (last.opening i) (last.number i) new.number now (mode_of new.mode)))
     (found-holds cells caller WhateverFile session s mid now
+    (IsFileText cells caller now cube.place cube.decl (allowed_loaded s) file)
     (LoadsByEnd cells caller (counted_session session) s file mid now cube.place cube.decl)
     (AnswersByEnd cells caller (counted_session session) s file mid now cube.place cube.decl) new
     c.load_found.result
@@ -137,6 +140,7 @@ returns-in-Ok-clause-performed g c =
     performed-from cells caller _ (path_loaded s) file s session (own old) new now c.load_found.result
     c.load_found.ensures.answered.read
     (found-performed cells caller (λ (loaded : LoadedFile). loaded ≡ file) session s (own old) mid now
+    (IsFileText cells caller now cube.place cube.decl (allowed_loaded s) file)
     (LoadsByEnd cells caller (counted_session session) s file mid now cube.place cube.decl)
     (AnswersByEnd cells caller (counted_session session) s file mid now cube.place cube.decl) new
     c.load_found.result
@@ -147,7 +151,7 @@ returns-in-Ok-clause-performed g c =
     c.found_cubes_are_on_record.ensures cells caller session.number (session.statements + 1) (own old) mid now
     c.args.name.now cube.place cube.decl past o given log events step s c.in-Ok.ensures.stands answered.more there below
     later follow apart same_session same_number c.requires.needs)
-    c.requires.loads new said c.requires.may c.in-Ok.ensures.found h))
+    c.requires.loads new said c.requires.served c.requires.may c.in-Ok.ensures.found h))
     answered)
 
 pub returns-in-Err-clause-readers : goal.returns-in-Err-clause-readers

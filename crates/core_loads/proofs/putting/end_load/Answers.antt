@@ -1,5 +1,7 @@
 use Rattle.std.proofs.Common.{refl, ap, subst}
 use Rattle.core_loads.proofs.BegunLoads.{loading-at-epoch, loading-batches, of-records}
+use Rattle.core_loads.proofs.TextsOfLoads.{asks-of-file}
+use Rattle.core_loads.specs.LoadEnds.{IsFileText}
 use Rattle.core_loads.specs.ShelfLoads.{allowed_loaded}
 use Rattle.cube_journal.specs.declared.refusal.Refusal.TheVariants as refusal
 use Rattle.loaded_batches.specs.LoadEnds.{HasEndedSo, HaveFewBad, HaveManyBad, HoldsAfterLoad, StandForRecords}
@@ -15,7 +17,7 @@ finish_load-requires-clause-holds g c =
     c.args.session.now.number c.args.writer.now (g.P.CellCaller.own old) e) c.in-Stored.is c.requires.holds
 
 pub returns-in-Stored-clause-answered : goal.returns-in-Stored-clause-answered
-returns-in-Stored-clause-answered g c = λ first begun load bytes begins has goes ended.
+returns-in-Stored-clause-answered g c = λ first begun load bytes begins has goes asked ended.
     let old = c.args.caller.now in
     let cells = g.P.CellCaller.opening old in
     let caller = g.P.CellCaller.number old in
@@ -34,7 +36,11 @@ returns-in-Stored-clause-answered g c = λ first begun load bytes begins has goe
     (of-records cells caller own place d allowed load bytes
     (λ lists looked.
     StandForRecords d lists allowed looked stored.batches c.in-Stored.rows c.in-Stored.bad) begins stored.stand)
-    (loading-batches cells caller session s first begun own writer place goes has stored.batches stored.posted)
+    (loading-batches cells caller session s first begun own
+    (IsFileText cells caller own place d allowed (loaded_file (whole bytes))) writer place goes has
+    (asks-of-file cells caller session.number place d c.args.allowed allowed begun own load bytes c.requires.allows
+    begins asked)
+    stored.batches stored.posted)
 
 pub fail_load-requires-clause-holds : goal.fail_load-requires-clause-holds
 fail_load-requires-clause-holds g c =
@@ -43,7 +49,7 @@ fail_load-requires-clause-holds g c =
     c.args.session.now.number c.args.writer.now (g.P.CellCaller.own old) e) c.in-TooMany.is c.requires.holds
 
 pub returns-in-TooMany-clause-answered : goal.returns-in-TooMany-clause-answered
-returns-in-TooMany-clause-answered g c = λ first begun load bytes begins has goes ended.
+returns-in-TooMany-clause-answered g c = λ first begun load bytes begins has goes asked ended.
     let old = c.args.caller.now in
     let cells = g.P.CellCaller.opening old in
     let caller = g.P.CellCaller.number old in
@@ -65,7 +71,10 @@ returns-in-TooMany-clause-answered g c = λ first begun load bytes begins has go
       of-records cells caller own place d allowed load bytes (λ lists looked. HaveManyBad allowed rejected looked) begins
           many,
     )
-    (loading-at-epoch cells caller session s first begun own writer place goes has)
+    (loading-at-epoch cells caller session s first begun own
+    (IsFileText cells caller own place d allowed (loaded_file (whole bytes))) writer place goes has
+    (asks-of-file cells caller session.number place d c.args.allowed allowed begun own load bytes c.requires.allows
+    begins asked))
 
 pub fail_load-requires-in-ShardFull-clause-holds : goal.fail_load-requires-in-ShardFull-clause-holds
 fail_load-requires-in-ShardFull-clause-holds g c =
@@ -74,7 +83,7 @@ fail_load-requires-in-ShardFull-clause-holds g c =
     c.args.session.now.number c.args.writer.now (g.P.CellCaller.own old) e) c.in-ShardFull.is c.requires.holds
 
 pub returns-in-ShardFull-clause-answered : goal.returns-in-ShardFull-clause-answered
-returns-in-ShardFull-clause-answered g c = λ first begun load bytes begins has goes ended.
+returns-in-ShardFull-clause-answered g c = λ first begun load bytes begins has goes asked ended.
     let old = c.args.caller.now in
     let cells = g.P.CellCaller.opening old in
     let caller = g.P.CellCaller.number old in
@@ -91,7 +100,10 @@ returns-in-ShardFull-clause-answered g c = λ first begun load bytes begins has 
     in
     c.fail_load-in-ShardFull.ensures.answered first (loaded_file (whole bytes))
     (refl, of-records cells caller own place d allowed load bytes (λ lists looked. HaveFewBad allowed looked) begins few)
-    (loading-at-epoch cells caller session s first begun own writer place goes has)
+    (loading-at-epoch cells caller session s first begun own
+    (IsFileText cells caller own place d allowed (loaded_file (whole bytes))) writer place goes has
+    (asks-of-file cells caller session.number place d c.args.allowed allowed begun own load bytes c.requires.allows
+    begins asked))
 
 pub fail_load-requires-in-OutOfMemory-clause-holds : goal.fail_load-requires-in-OutOfMemory-clause-holds
 fail_load-requires-in-OutOfMemory-clause-holds g c =
@@ -100,8 +112,18 @@ fail_load-requires-in-OutOfMemory-clause-holds g c =
     c.args.session.now.number c.args.writer.now (g.P.CellCaller.own old) e) c.in-OutOfMemory.is c.requires.holds
 
 pub returns-in-OutOfMemory-clause-answered : goal.returns-in-OutOfMemory-clause-answered
-returns-in-OutOfMemory-clause-answered g c = λ first begun load bytes begins has goes ended.
+returns-in-OutOfMemory-clause-answered g c = λ first begun load bytes begins has goes asked ended.
     let old = c.args.caller.now in
+    let cells = g.P.CellCaller.opening old in
+    let caller = g.P.CellCaller.number old in
+    let own = g.P.CellCaller.own old in
+    let session = c.args.session.now in
+    let s = c.args.statement.now in
+    let d = c.args.cube.now in
+    let place = c.args.place in
+    let allowed = allowed_loaded s in
     c.fail_load-in-OutOfMemory.ensures.answered first (loaded_file (whole bytes)) refl
-    (loading-at-epoch (g.P.CellCaller.opening old) (g.P.CellCaller.number old) c.args.session.now c.args.statement.now
-    first begun (g.P.CellCaller.own old) c.args.writer.now c.args.place goes has)
+    (loading-at-epoch cells caller session s first begun own
+    (IsFileText cells caller own place d allowed (loaded_file (whole bytes))) c.args.writer.now place goes has
+    (asks-of-file cells caller session.number place d c.args.allowed allowed begun own load bytes c.requires.allows
+    begins asked))

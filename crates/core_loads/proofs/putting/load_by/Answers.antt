@@ -1,8 +1,9 @@
 use Rattle.core_loads.proofs.BegunLoads.{texts-still-told}
-use Rattle.core_loads.specs.LoadEnds.{AnswersAsLoad}
+use Rattle.core_loads.specs.LoadEnds.{AnswersAsLoad, NoText}
 use Rattle.loaded_files.specs.LoadedFiles.{loaded_file}
 use Rattle.outside.specs.Given.{whole}
 use Rattle.core_changes.specs.ChangesUnderWay.{HasBegunWith}
+use Rattle.loaded_batches.specs.LoadTexts.{AsksForSuch}
 use Rattle.loaded_batches.specs.LoadingCalls.{GoesOnLoading}
 use Rattle.posted_pasts.specs.PostsAdded.{AddsNoOperation}
 use Rattle.scripted_pasts.specs.Served.{IsServed}
@@ -34,8 +35,12 @@ returns-clause-answered g c = λ first bytes begins begun.
     coe 0 1 (i. AnswersAsLoad (did.opening i) (did.number i) session s (loaded_file (whole bytes)) first
     (own c.end_load.new.caller) place d c.end_load.new.session c.end_load.result)
     (c.end_load.ensures.answered first (own old) c.args.records bytes begins
-    (coe 1 0 (i. HasBegunWith (did.opening i) (did.number i) session s first (own old) writer AddsNoOperation) begun)
+    (coe 1 0 (i. HasBegunWith (did.opening i) (did.number i) session s first (own old) NoText writer AddsNoOperation)
+    begun)
     (coe 1 0 (i. GoesOnLoading (did.opening i) (did.number i) session.number place writer.epoch (own old) mid) did.goes)
+    (coe 1 0 (i. AsksForSuch (did.opening i) (did.number i) place d session.number c.args.allowed c.args.records
+    (own old) mid)
+    did.asked)
     did.ended)
 
 pub returns-clause-texts : goal.returns-clause-texts

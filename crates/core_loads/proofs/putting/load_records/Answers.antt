@@ -1,7 +1,7 @@
 use Rattle.core_changes.proofs.BegunChanges.{has-begun, nothing-then, nothing-yet}
 use Rattle.core_changes.specs.ChangesUnderWay.{HasBegunWith, HasChangedNothing}
 use Rattle.core_loads.proofs.BegunLoads.{still-may-ask, texts-still-told}
-use Rattle.core_loads.specs.LoadEnds.{AnswersAsLoad, without_memory}
+use Rattle.core_loads.specs.LoadEnds.{AnswersAsLoad, NoText, without_memory}
 use Rattle.core_names.specs.CoreEncoders.{MayAskForCodes}
 use Rattle.cube_run.specs.RunRecords.{Missing}
 use Rattle.linked_shards.specs.CellShards.{CoreShardStands}
@@ -55,9 +55,9 @@ returns-in-Ok-clause-answered g c = λ first bytes begins nothing.
     coe 0 1 (i. AnswersAsLoad (did.opening i) (did.number i) session s (loaded_file (whole bytes)) first
     (own c.load_by.new.caller) c.args.place c.args.cube.now c.load_by.new.session c.load_by.result)
     (c.load_by.ensures.answered first bytes begins
-    (coe 1 0 (i. HasBegunWith (did.opening i) (did.number i) session s first mid writer AddsNoOperation)
-    (has-begun (g.P.CellCaller.opening old) (g.P.CellCaller.number old) session s first (own old) mid writer nothing
-    c.in-Ok.ensures.left)))
+    (coe 1 0 (i. HasBegunWith (did.opening i) (did.number i) session s first mid NoText writer AddsNoOperation)
+    (has-begun (g.P.CellCaller.opening old) (g.P.CellCaller.number old) session s NoText first (own old) mid writer
+    nothing c.in-Ok.ensures.left)))
 
 pub refuse_load-requires-clause-may : goal.refuse_load-requires-clause-may
 refuse_load-requires-clause-may g c =
@@ -84,8 +84,8 @@ returns-in-Err-clause-answered g c = λ first bytes begins nothing.
     coe 0 1 (i. AnswersAsLoad (did.opening i) (did.number i) session s file first (own c.refuse_load.new.caller)
     c.args.place c.args.cube.now session c.refuse_load.result)
     (c.refuse_load.ensures.answered first file c.args.place c.args.cube.now without_memory
-    (coe 1 0 (i. HasChangedNothing (did.opening i) (did.number i) session s first mid)
-    (nothing-then (g.P.CellCaller.opening old) (g.P.CellCaller.number old) session s first (own old) mid nothing
+    (coe 1 0 (i. HasChangedNothing (did.opening i) (did.number i) session s first mid NoText)
+    (nothing-then (g.P.CellCaller.opening old) (g.P.CellCaller.number old) session s NoText first (own old) mid nothing
     c.in-Err.ensures.none)))
 
 pub returns-in-Err-clause-texts : goal.returns-in-Err-clause-texts
@@ -96,7 +96,7 @@ returns-in-Err-clause-texts g c =
     let dims = c.args.cube.now.dims in
     texts-still-told (own new) (own c.refuse_load.new.caller) place dims c.args.known.now
     (c.refuse_load.ensures.answered (own new) Missing place c.args.cube.now without_memory
-    (nothing-yet (g.P.CellCaller.opening new) (g.P.CellCaller.number new) c.args.session.now c.args.statement.now
+    (nothing-yet (g.P.CellCaller.opening new) (g.P.CellCaller.number new) c.args.session.now c.args.statement.now NoText
     (own new))).more
     (texts-still-told (own c.args.caller.now) (own new) place dims c.args.known.now c.begin_change.ensures.more
     (record { long = c.requires.asks.long; right = c.requires.asks.right }))

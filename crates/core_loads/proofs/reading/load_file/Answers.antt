@@ -1,7 +1,7 @@
 use Rattle.std.proofs.Common.{◌≡◌, ◌∙◌, Err, sym, ap, subst}
 use Rattle.core_changes.proofs.BegunChanges.{nothing-yet}
 use Rattle.core_loads.proofs.BegunLoads.{has-read, texts-still-told}
-use Rattle.core_loads.specs.LoadEnds.{AnswersAsLoad, without_memory}
+use Rattle.core_loads.specs.LoadEnds.{AnswersAsLoad, NoText, without_memory}
 use Rattle.core_loads.specs.ShelfLoads.{IsAnsweredFor, ShelfSeen, path_loaded}
 use Rattle.cube_run.specs.RunRecords.{LoadedFile}
 use Rattle.cube_values.specs.declared.call_error.CallError.{CallError}
@@ -45,7 +45,7 @@ returns-in-Ok-clause-answered g c =
           own (g.P.CellCaller.own c.load_records.new.caller) c.args.place c.args.cube.now c.load_records.new.session
           c.load_records.result) (sym (ap loaded_file shown.1))
           (c.load_records.ensures.answered own shown.0 shown.2
-          (nothing-yet (g.P.CellCaller.opening old) (g.P.CellCaller.number old) session s own));
+          (nothing-yet (g.P.CellCaller.opening old) (g.P.CellCaller.number old) session s NoText own));
       read =
           has-read seen (path_loaded s) c.args.cube.now c.open_load.result
           (coe 0 1 (i. OpensLoad seen.told seen.calls seen.new_calls (c.requires.path i) c.args.cube.now c.open_load.result) opens)
@@ -81,7 +81,7 @@ returns-in-Err-Fault-clause-answered g c =
       loads =
           c.refuse_file.ensures.answered own opens.given
           (coe 0 1 (i. ShowsLoad c.args.cube.now opens.given (is i)) opens.shown)
-          (nothing-yet (g.P.CellCaller.opening old) (g.P.CellCaller.number old) c.args.session.now s own);
+          (nothing-yet (g.P.CellCaller.opening old) (g.P.CellCaller.number old) c.args.session.now s NoText own);
       read =
           has-read seen (path_loaded s) c.args.cube.now c.open_load.result
           (coe 0 1 (i. OpensLoad seen.told seen.calls seen.new_calls (c.requires.path i) c.args.cube.now c.open_load.result) opens)
@@ -117,7 +117,7 @@ returns-in-Err-NoMemory-clause-answered g c =
       file = file;
       loads =
           c.refuse_load.ensures.answered own file c.args.place c.args.cube.now without_memory
-          (nothing-yet (g.P.CellCaller.opening old) (g.P.CellCaller.number old) c.args.session.now s own);
+          (nothing-yet (g.P.CellCaller.opening old) (g.P.CellCaller.number old) c.args.session.now s NoText own);
       read =
           has-read seen (path_loaded s) c.args.cube.now c.open_load.result
           (coe 0 1 (i. OpensLoad seen.told seen.calls seen.new_calls (c.requires.path i) c.args.cube.now c.open_load.result) opens)
@@ -142,7 +142,7 @@ returns-in-Err-Fault-clause-texts g c =
     texts-still-told own (g.P.CellCaller.own c.refuse_file.new.caller) c.args.place d.dims c.args.known.now
     (c.refuse_file.ensures.answered own opens.given
     (coe 0 1 (i. ShowsLoad d opens.given (is i)) opens.shown)
-    (nothing-yet (g.P.CellCaller.opening old) (g.P.CellCaller.number old) c.args.session.now c.args.statement.now
+    (nothing-yet (g.P.CellCaller.opening old) (g.P.CellCaller.number old) c.args.session.now c.args.statement.now NoText
     own)).more (record { long = c.requires.asks.long; right = c.requires.asks.right })
 
 pub returns-in-Err-NoMemory-clause-texts : goal.returns-in-Err-NoMemory-clause-texts
@@ -152,5 +152,5 @@ returns-in-Err-NoMemory-clause-texts g c =
     let d = c.args.cube.now in
     texts-still-told own (g.P.CellCaller.own c.refuse_load.new.caller) c.args.place d.dims c.args.known.now
     (c.refuse_load.ensures.answered own (loaded_file c.open_load.ensures.opens.given) c.args.place d without_memory
-    (nothing-yet (g.P.CellCaller.opening old) (g.P.CellCaller.number old) c.args.session.now c.args.statement.now
+    (nothing-yet (g.P.CellCaller.opening old) (g.P.CellCaller.number old) c.args.session.now c.args.statement.now NoText
     own)).more (record { long = c.requires.asks.long; right = c.requires.asks.right })

@@ -1,7 +1,7 @@
 use Rattle.std.proofs.Common.{List, refl, rules, subst}
 use Rattle.core_changes.proofs.BegunChanges.{nothing-yet}
 use Rattle.core_loads.proofs.BegunLoads.{has-left}
-use Rattle.core_loads.specs.LoadEnds.{without_memory}
+use Rattle.core_loads.specs.LoadEnds.{NoText, without_memory}
 use Rattle.core_loads.specs.ShelfLoads.{path_loaded}
 use Rattle.cube_language.specs.declared.decl.DimDecl.{DimDecl}
 use Rattle.cube_run.specs.RunRecords.{Missing}
@@ -17,7 +17,8 @@ returns-in-Err-clause-answered g c =
       file = Missing;
       loads =
           c.refuse_load.ensures.answered own Missing c.args.place c.args.cube.now without_memory
-          (nothing-yet (g.P.CellCaller.opening old) (g.P.CellCaller.number old) c.args.session.now c.args.statement.now
+          (nothing-yet (g.P.CellCaller.opening old) (g.P.CellCaller.number old) c.args.session.now
+          c.args.statement.now NoText
           own);
       read =
           has-left _ (path_loaded c.args.statement.now) Missing refl refl refl c.refuse_load.result
@@ -30,7 +31,7 @@ returns-in-Err-clause-texts g c =
     let own = g.P.CellCaller.own in
     c.told_texts_stay_told.ensures (own old) (own c.refuse_load.new.caller) c.take.new.self
     (c.refuse_load.ensures.answered (own old) Missing c.args.place c.args.cube.now without_memory
-    (nothing-yet (g.P.CellCaller.opening old) (g.P.CellCaller.number old) c.args.session.now c.args.statement.now
+    (nothing-yet (g.P.CellCaller.opening old) (g.P.CellCaller.number old) c.args.session.now c.args.statement.now NoText
     (own old))).more (c.take.ensures.still (own old) c.requires.texts)
 
 pub load_file-answered-requires-clause-asks : goal.load_file-answered-requires-clause-asks

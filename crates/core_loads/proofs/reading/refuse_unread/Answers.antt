@@ -1,6 +1,7 @@
 use Rattle.std.proofs.Common.{◌≡◌, ◌∙◌, inl, refl, sym, ap, subst}
 use Rattle.core_loads.proofs.BegunLoads.{begun-inside}
-use Rattle.core_loads.specs.LoadEnds.{unread}
+use Rattle.core_loads.specs.LoadEnds.{IsFileText, unread}
+use Rattle.core_loads.specs.ShelfLoads.{allowed_loaded}
 use Rattle.core_states.specs.StandingInCore.{HoldsForMode}
 use Rattle.cube_run.specs.SessionStates.{Open}
 use Rattle.cube_values.specs.declared.snapshot.Snapshot.{Snapshot}
@@ -28,7 +29,9 @@ returns-in-Open-clause-answered g c = λ first file nothing.
     in
     c.fail_load.ensures.answered first file (refl, is)
     (begun-inside (g.P.CellCaller.opening old) (g.P.CellCaller.number old) c.args.session.now c.args.statement.now first
-    (g.P.CellCaller.own old) (g.P.CellCaller.own old) c.copy-own.result is nothing)
+    (g.P.CellCaller.own old) (g.P.CellCaller.own old)
+    (IsFileText (g.P.CellCaller.opening old) (g.P.CellCaller.number old) (g.P.CellCaller.own old) c.args.place
+    c.args.cube.now (allowed_loaded c.args.statement.now) file) c.copy-own.result is nothing)
 
 pub returns-in-Idle-clause-answered : goal.returns-in-Idle-clause-answered
 returns-in-Idle-clause-answered g c = λ first file nothing.

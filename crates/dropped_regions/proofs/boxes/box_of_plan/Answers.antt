@@ -1,10 +1,10 @@
-use Rattle.std.proofs.Common.{◌≡◌, ◌∙◌, ℕ, List, [], ◌∷◌, sym, subst}
+use Rattle.std.proofs.Common.{◌≡◌, ◌∙◌, inl, inr, List, [], ◌∷◌, sym, subst}
 use Rattle.std.specs.Prelude.{IfOk}
 use Rattle.condition_spans.specs.Codes.{codes_in}
 use Rattle.core_names.specs.NamesInTheEnd.{MayLeaveNames}
 use Rattle.cube_values.specs.declared.operation.Condition.{Condition}
 use Rattle.query_plan.specs.Bindings.{IsDropSpan}
-use Rattle.row_encoding.specs.CodedTexts.{AreNames, AskTheirKinds, HavePlaces}
+use Rattle.row_encoding.specs.CodedTexts.{AreNames, AskTheirKinds, ComparesWith, HavePlaces}
 use Rattle.row_encoding.specs.FinalCodes.{InTheEnd}
 use Rattle.dropped_regions.proofs.AskedKinds.{region_asks}
 use Rattle.dropped_regions.proofs.BoxesOfPlans.{if-box}
@@ -40,3 +40,18 @@ returns-clause-span g c =
     (λ lists. HavePlaces d.dims lists (same i))) c.in_ok-codes.ensures.places)
     (coe 0 1 (i. IfOk c.span_on.result (IsDropSpan (d ∷ []) c.args.plan.now (c.as_slice.ensures.value i)))
     c.span_on.ensures)
+
+pub returns-clause-asked : goal.returns-clause-asked
+returns-clause-asked g c = λ p k t has.
+    let on = on-it c.args.cube.now c.args.statement.now c.args.plan.now c.requires.plan in
+    elim (c.encode_conditions.ensures.asked p k t has) [
+      | inl old ↦ inl old
+      | inr is ↦
+          inr (record {
+            here = is.0;
+            fits_it = on.fits;
+            has =
+                subst (λ (conditions : List Condition). ComparesWith conditions k t)
+                (c.as_slice-conditions.ensures ∙ on.conditions) is.1;
+          })
+    ]

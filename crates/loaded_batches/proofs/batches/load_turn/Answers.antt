@@ -1,5 +1,6 @@
-use Rattle.std.proofs.Common.{◌∙◌, ◌+◌, inl, ap, length, IfOk, ℕ, List}
+use Rattle.std.proofs.Common.{◌∙◌, ◌+◌, ◌-◌, inl, ap, length, IfOk, ℕ, List}
 use Rattle.core_program.specs.Knowing.{IsClientOf}
+use Rattle.core_states.specs.LeftBehind.{AsksForNone, GoOnByCalls}
 use Rattle.cube_core.specs.declared.cell.CoreCell.{CoreCell}
 use Rattle.cube_language.specs.declared.decl.Decl.{Decl}
 use Rattle.cube_values.specs.Batches.{Batch}
@@ -12,13 +13,15 @@ use Rattle.row_encoding.specs.CodedLoads.{BatchHasEnded}
 use Rattle.row_encoding.specs.declared.load.BatchEnd.TheVariants as batch_is
 use Rattle.session_groups.specs.ShardGroups.{HoldsOpenWriter}
 use Rattle.shard_events.specs.ShardsInRuns.{FitsShard, ShardAnswerSays}
-use Rattle.loaded_batches.specs.LoadFronts.{EndsPut, HasTooManyBad, IsAfterTurn, TakesInTheEnd}
+use Rattle.loaded_batches.specs.LoadFronts.{HasTooManyBad, TakesInTheEnd}
+use Rattle.loaded_batches.specs.LoadTexts.{HasAskedForSuch}
 use Rattle.loaded_batches.specs.LoadingCalls.{ArePosted, GoesOnLoading}
-use Rattle.loaded_batches.specs.declared.turns.LoadTurn.{LoadTurn}
 use Rattle.loaded_batches.specs.declared.turns.LoadTurn.TheVariants as turn
 use Rattle.loaded_batches.proofs.HeldWriters.{open-by-names}
 use Rattle.loaded_batches.proofs.LoadTurns.{after-last, after-more, turn-ended}
 use Rattle.loaded_batches.proofs.LoadingMoments.{loading-both, loading-by-names}
+use Rattle.loaded_batches.proofs.LookedAtTexts.{such-by-entries, such-of, such-then-none}
+use Rattle.loaded_batches.proofs.RestOfRecords.{more-by-names}
 use Rattle.loaded_batches.proofs.TakenRecords.{batch-full, batch-last, batch-many}
 use Rattle.loaded_batches.proofs.ToldRows.{may-ask-still, may-put-into}
 use Rattle.loaded_batches.proofs.TurnsOfCallers.{before-of, now-of}
@@ -353,3 +356,99 @@ returns-in-End-clause-turn g c =
     after-last cells caller c.args.session c.args.place c.args.cube.now c.args.allowed c.args.writer.now
     (own c.args.caller.now) (own mid.caller) now c.args.load.now mid.load c.args.bad.now mid.bad mid.batch.rows acts
     e.asks p.goes.more taken ok.inside posted over.0 t ends)
+
+pub returns-in_err-ended-clause-asked : goal.returns-in_err-ended-clause-asked
+returns-in_err-ended-clause-asked g c =
+    let opening = g.P.CellCaller.opening in
+    let number = g.P.CellCaller.number in
+    let own = g.P.CellCaller.own in
+    let cells = opening c.args.caller.now in
+    let caller = number c.args.caller.now in
+    let e = c.load_rows_by_caller.ensures in
+    let mid = c.load_rows_by_caller.new in
+    let left = c.args.allowed - c.args.bad.now.count in
+    let acts = before-of (λ (cs : List (CoreCell CoreShard)) (n : ℕ).
+    IsClientOf FitsShard CoreShardStands ShardAnswerSays cs n c.args.session) e.opening e.number e.may.client in
+    let asked = before-of (λ (cs : List (CoreCell CoreShard)) (n : ℕ).
+    HasAskedForSuch cs n c.args.place c.args.cube.now left c.args.load.now (own c.args.caller.now) (own mid.caller))
+    e.opening e.number
+    (λ p k t has. such-of (opening mid.caller) (number mid.caller) c.args.place c.args.cube.now left c.args.load.now
+    (own c.args.caller.now) (own mid.caller) p k t (e.asked p k t has)) in
+    let first = such-by-entries cells caller c.args.place c.args.cube.now left c.args.session c.args.load.now
+    (own c.args.caller.now) (own mid.caller) acts
+    (more-by-names caller (own c.args.caller.now) (own mid.caller) e.asks) asked in
+    first
+
+pub returns-in-TooMany-clause-asked : goal.returns-in-TooMany-clause-asked
+returns-in-TooMany-clause-asked g c =
+    let opening = g.P.CellCaller.opening in
+    let number = g.P.CellCaller.number in
+    let own = g.P.CellCaller.own in
+    let cells = opening c.args.caller.now in
+    let caller = number c.args.caller.now in
+    let e = c.load_rows_by_caller.ensures in
+    let mid = c.load_rows_by_caller.new in
+    let left = c.args.allowed - c.args.bad.now.count in
+    let acts = before-of (λ (cs : List (CoreCell CoreShard)) (n : ℕ).
+    IsClientOf FitsShard CoreShardStands ShardAnswerSays cs n c.args.session) e.opening e.number e.may.client in
+    let asked = before-of (λ (cs : List (CoreCell CoreShard)) (n : ℕ).
+    HasAskedForSuch cs n c.args.place c.args.cube.now left c.args.load.now (own c.args.caller.now) (own mid.caller))
+    e.opening e.number
+    (λ p k t has. such-of (opening mid.caller) (number mid.caller) c.args.place c.args.cube.now left c.args.load.now
+    (own c.args.caller.now) (own mid.caller) p k t (e.asked p k t has)) in
+    let first = such-by-entries cells caller c.args.place c.args.cube.now left c.args.session c.args.load.now
+    (own c.args.caller.now) (own mid.caller) acts
+    (more-by-names caller (own c.args.caller.now) (own mid.caller) e.asks) asked in
+    first
+
+pub returns-in-Full-clause-asked : goal.returns-in-Full-clause-asked
+returns-in-Full-clause-asked g c =
+    let opening = g.P.CellCaller.opening in
+    let number = g.P.CellCaller.number in
+    let own = g.P.CellCaller.own in
+    let cells = opening c.args.caller.now in
+    let caller = number c.args.caller.now in
+    let e = c.load_rows_by_caller.ensures in
+    let mid = c.load_rows_by_caller.new in
+    let left = c.args.allowed - c.args.bad.now.count in
+    let acts = before-of (λ (cs : List (CoreCell CoreShard)) (n : ℕ).
+    IsClientOf FitsShard CoreShardStands ShardAnswerSays cs n c.args.session) e.opening e.number e.may.client in
+    let asked = before-of (λ (cs : List (CoreCell CoreShard)) (n : ℕ).
+    HasAskedForSuch cs n c.args.place c.args.cube.now left c.args.load.now (own c.args.caller.now) (own mid.caller))
+    e.opening e.number
+    (λ p k t has. such-of (opening mid.caller) (number mid.caller) c.args.place c.args.cube.now left c.args.load.now
+    (own c.args.caller.now) (own mid.caller) p k t (e.asked p k t has)) in
+    let first = such-by-entries cells caller c.args.place c.args.cube.now left c.args.session c.args.load.now
+    (own c.args.caller.now) (own mid.caller) acts
+    (more-by-names caller (own c.args.caller.now) (own mid.caller) e.asks) asked in
+    such-then-none cells caller c.args.place c.args.cube.now left c.args.session c.args.load.now (own c.args.caller.now)
+    (own mid.caller) (own c.put_turn.new.caller) c.put_turn.ensures.goes.more first
+    (before-of (λ (cs : List (CoreCell CoreShard)) (n : ℕ).
+    GoOnByCalls FitsShard CoreShardStands ShardAnswerSays cs n c.args.session AsksForNone (own mid.caller)
+    (own c.put_turn.new.caller)) e.opening e.number c.put_turn.ensures.none)
+
+pub returns-in-End-clause-asked : goal.returns-in-End-clause-asked
+returns-in-End-clause-asked g c =
+    let opening = g.P.CellCaller.opening in
+    let number = g.P.CellCaller.number in
+    let own = g.P.CellCaller.own in
+    let cells = opening c.args.caller.now in
+    let caller = number c.args.caller.now in
+    let e = c.load_rows_by_caller.ensures in
+    let mid = c.load_rows_by_caller.new in
+    let left = c.args.allowed - c.args.bad.now.count in
+    let acts = before-of (λ (cs : List (CoreCell CoreShard)) (n : ℕ).
+    IsClientOf FitsShard CoreShardStands ShardAnswerSays cs n c.args.session) e.opening e.number e.may.client in
+    let asked = before-of (λ (cs : List (CoreCell CoreShard)) (n : ℕ).
+    HasAskedForSuch cs n c.args.place c.args.cube.now left c.args.load.now (own c.args.caller.now) (own mid.caller))
+    e.opening e.number
+    (λ p k t has. such-of (opening mid.caller) (number mid.caller) c.args.place c.args.cube.now left c.args.load.now
+    (own c.args.caller.now) (own mid.caller) p k t (e.asked p k t has)) in
+    let first = such-by-entries cells caller c.args.place c.args.cube.now left c.args.session c.args.load.now
+    (own c.args.caller.now) (own mid.caller) acts
+    (more-by-names caller (own c.args.caller.now) (own mid.caller) e.asks) asked in
+    such-then-none cells caller c.args.place c.args.cube.now left c.args.session c.args.load.now (own c.args.caller.now)
+    (own mid.caller) (own c.put_turn-in-End.new.caller) c.put_turn-in-End.ensures.goes.more first
+    (before-of (λ (cs : List (CoreCell CoreShard)) (n : ℕ).
+    GoOnByCalls FitsShard CoreShardStands ShardAnswerSays cs n c.args.session AsksForNone (own mid.caller)
+    (own c.put_turn-in-End.new.caller)) e.opening e.number c.put_turn-in-End.ensures.none)

@@ -1,5 +1,4 @@
-use Rattle.std.proofs.Common.{◌∙◌, ◌+◌, inl, refl, ℕ, List}
-use Rattle.core_program.specs.CoreFits.{CoreEntry}
+use Rattle.std.proofs.Common.{◌∙◌, ◌+◌, ◌-◌, inl, refl, ℕ, List}
 use Rattle.cube_core.specs.declared.cell.CoreCell.{CoreCell}
 use Rattle.session_snapshots.specs.KnownHolds.{HoldsWriter}
 use Rattle.job_groups.specs.AskedEach.{AreShardMails}
@@ -7,9 +6,11 @@ use Rattle.linked_shards.specs.CellShards.{CoreShardStands}
 use Rattle.linked_shards.specs.declared.cell.CoreShard.{CoreShard}
 use Rattle.shard_events.specs.ShardsInRuns.{FitsShard, ShardAnswerSays}
 use Rattle.loaded_batches.specs.LoadFronts.{HasPutAll, HasTakenSome, HasTooManyBad, IsAfterTurn}
+use Rattle.loaded_batches.specs.LoadTexts.{AsksForSuch}
 use Rattle.loaded_batches.specs.LoadingCalls.{GoesOnLoading}
 use Rattle.loaded_batches.specs.declared.turns.LoadTurn.TheVariants as turn
 use Rattle.loaded_batches.proofs.LoadTurns.{turn-behind, turns-begin}
+use Rattle.loaded_batches.proofs.LookedAtTexts.{such-both, such-none}
 use Rattle.loaded_batches.proofs.LoadingMoments.{loading-both, loading-none}
 use Rattle.loaded_batches.proofs.TurnsOfCallers.{before-of, now-of}
 use Rattle.loaded_batches.proofs.batches.load_turns.Goals as goal
@@ -25,6 +26,9 @@ turns-init g c =
       number = refl;
       others = refl;
       goes = loading-none cells caller c.args.session c.args.place c.args.writer.now.epoch own;
+      asked =
+          such-none cells caller c.args.place c.args.cube.now (c.args.allowed - c.args.bad.now.count) c.args.session
+          c.args.load.now own;
       may = c.requires.may;
       cube = c.requires.cube;
       put =
@@ -78,6 +82,14 @@ turns-preserved g c =
       goes =
           loading-both cells caller c.args.session c.args.place c.args.writer.now.epoch (own c.args.caller.now)
           (own c.turns.caller) (own new.caller) inv.goes goes;
+      asked =
+          such-both cells caller c.args.place c.args.cube.now c.args.allowed (own c.args.caller.now)
+          (own c.turns.caller)
+          (own new.caller) goes.more c.args.load.now c.turns.load c.args.bad.now c.turns.bad inv.put.rows inv.put.taken
+          c.args.session inv.asked
+          (before-of (λ (cs : List (CoreCell CoreShard)) (n : ℕ).
+          AsksForSuch cs n c.args.place c.args.cube.now c.args.session (c.args.allowed - c.turns.bad.count) c.turns.load
+          (own c.turns.caller) (own new.caller)) inv.opening inv.number e.asked);
       may = e.may;
       cube = after.taken.goes.cube ∙ inv.cube;
       put = behind;
@@ -246,3 +258,83 @@ returns-clause-holds g c =
     inl (now-of (λ (cells : List (CoreCell CoreShard)) (n : ℕ).
     HoldsWriter FitsShard CoreShardStands ShardAnswerSays cells n c.args.session (g.P.CellCaller.own c.turns.caller)
     c.args.writer.now) inv.opening inv.number inv.put.holds)
+
+pub returns-in_err-load_turn-clause-asked : goal.returns-in_err-load_turn-clause-asked
+returns-in_err-load_turn-clause-asked g c =
+    let opening = g.P.CellCaller.opening in
+    let number = g.P.CellCaller.number in
+    let own = g.P.CellCaller.own in
+    let inv = c.turns.invariant in
+    let e = c.load_turn.ensures in
+    let new = c.load_turn.new in
+    let cells = opening c.args.caller.now in
+    let caller = number c.args.caller.now in
+    let goes = before-of (λ (cs : List (CoreCell CoreShard)) (n : ℕ).
+    GoesOnLoading cs n c.args.session c.args.place c.args.writer.now.epoch (own c.turns.caller) (own new.caller))
+    inv.opening inv.number e.goes in
+    such-both cells caller c.args.place c.args.cube.now c.args.allowed (own c.args.caller.now) (own c.turns.caller)
+    (own new.caller) goes.more c.args.load.now c.turns.load c.args.bad.now c.turns.bad inv.put.rows inv.put.taken
+    c.args.session inv.asked
+    (before-of (λ (cs : List (CoreCell CoreShard)) (n : ℕ).
+    AsksForSuch cs n c.args.place c.args.cube.now c.args.session (c.args.allowed - c.turns.bad.count) c.turns.load
+    (own c.turns.caller) (own new.caller)) inv.opening inv.number e.asked)
+
+pub returns-in-Done-clause-asked : goal.returns-in-Done-clause-asked
+returns-in-Done-clause-asked g c =
+    let opening = g.P.CellCaller.opening in
+    let number = g.P.CellCaller.number in
+    let own = g.P.CellCaller.own in
+    let inv = c.turns.invariant in
+    let e = c.load_turn.ensures in
+    let new = c.load_turn.new in
+    let cells = opening c.args.caller.now in
+    let caller = number c.args.caller.now in
+    let goes = before-of (λ (cs : List (CoreCell CoreShard)) (n : ℕ).
+    GoesOnLoading cs n c.args.session c.args.place c.args.writer.now.epoch (own c.turns.caller) (own new.caller))
+    inv.opening inv.number e.goes in
+    such-both cells caller c.args.place c.args.cube.now c.args.allowed (own c.args.caller.now) (own c.turns.caller)
+    (own new.caller) goes.more c.args.load.now c.turns.load c.args.bad.now c.turns.bad inv.put.rows inv.put.taken
+    c.args.session inv.asked
+    (before-of (λ (cs : List (CoreCell CoreShard)) (n : ℕ).
+    AsksForSuch cs n c.args.place c.args.cube.now c.args.session (c.args.allowed - c.turns.bad.count) c.turns.load
+    (own c.turns.caller) (own new.caller)) inv.opening inv.number e.asked)
+
+pub returns-in-TooMany-clause-asked : goal.returns-in-TooMany-clause-asked
+returns-in-TooMany-clause-asked g c =
+    let opening = g.P.CellCaller.opening in
+    let number = g.P.CellCaller.number in
+    let own = g.P.CellCaller.own in
+    let inv = c.turns.invariant in
+    let e = c.load_turn.ensures in
+    let new = c.load_turn.new in
+    let cells = opening c.args.caller.now in
+    let caller = number c.args.caller.now in
+    let goes = before-of (λ (cs : List (CoreCell CoreShard)) (n : ℕ).
+    GoesOnLoading cs n c.args.session c.args.place c.args.writer.now.epoch (own c.turns.caller) (own new.caller))
+    inv.opening inv.number e.goes in
+    such-both cells caller c.args.place c.args.cube.now c.args.allowed (own c.args.caller.now) (own c.turns.caller)
+    (own new.caller) goes.more c.args.load.now c.turns.load c.args.bad.now c.turns.bad inv.put.rows inv.put.taken
+    c.args.session inv.asked
+    (before-of (λ (cs : List (CoreCell CoreShard)) (n : ℕ).
+    AsksForSuch cs n c.args.place c.args.cube.now c.args.session (c.args.allowed - c.turns.bad.count) c.turns.load
+    (own c.turns.caller) (own new.caller)) inv.opening inv.number e.asked)
+
+pub returns-in-ShardFull-clause-asked : goal.returns-in-ShardFull-clause-asked
+returns-in-ShardFull-clause-asked g c =
+    let opening = g.P.CellCaller.opening in
+    let number = g.P.CellCaller.number in
+    let own = g.P.CellCaller.own in
+    let inv = c.turns.invariant in
+    let e = c.load_turn.ensures in
+    let new = c.load_turn.new in
+    let cells = opening c.args.caller.now in
+    let caller = number c.args.caller.now in
+    let goes = before-of (λ (cs : List (CoreCell CoreShard)) (n : ℕ).
+    GoesOnLoading cs n c.args.session c.args.place c.args.writer.now.epoch (own c.turns.caller) (own new.caller))
+    inv.opening inv.number e.goes in
+    such-both cells caller c.args.place c.args.cube.now c.args.allowed (own c.args.caller.now) (own c.turns.caller)
+    (own new.caller) goes.more c.args.load.now c.turns.load c.args.bad.now c.turns.bad inv.put.rows inv.put.taken
+    c.args.session inv.asked
+    (before-of (λ (cs : List (CoreCell CoreShard)) (n : ℕ).
+    AsksForSuch cs n c.args.place c.args.cube.now c.args.session (c.args.allowed - c.turns.bad.count) c.turns.load
+    (own c.turns.caller) (own new.caller)) inv.opening inv.number e.asked)

@@ -1,4 +1,4 @@
-use Rattle.std.proofs.Common.{◌∙◌, inl}
+use Rattle.std.proofs.Common.{inl}
 use Rattle.linked_shards.specs.CellShards.{CoreShardStands}
 use Rattle.session_snapshots.specs.KnownHolds.{HoldsWriter}
 use Rattle.session_batches.specs.PutRows.{HoldsAfterPut}

@@ -1,5 +1,5 @@
 use Rattle.loaded_batches.proofs.AddedBatches.{posted-by-put}
-use Rattle.loaded_batches.proofs.LoadingMoments.{loading-by-put}
+use Rattle.loaded_batches.proofs.LoadingMoments.{loading-by-put, none-by-put}
 use Rattle.loaded_batches.proofs.ToldRows.{may-put, rows-of-cube}
 use Rattle.loaded_batches.proofs.putting.put_told.Goals as goal
 
@@ -21,6 +21,13 @@ returns-clause-goes g c =
     c.args.place c.args.writer.now.epoch c.args.size.now.shards c.cube_shape-shape.result.now c.args.rows.rows
     (g.P.CellCaller.own c.args.caller.now) (g.P.CellCaller.own c.put_rows.new.caller) c.put_rows.result
     c.put_rows.ensures.more c.put_rows.ensures.learns c.put_rows.ensures.err
+
+pub returns-clause-none : goal.returns-clause-none
+returns-clause-none g c =
+    none-by-put (g.P.CellCaller.opening c.args.caller.now) (g.P.CellCaller.number c.args.caller.now) c.args.session
+    c.args.place c.args.writer.now.epoch c.args.size.now.shards c.cube_shape-shape.result.now c.args.rows.rows
+    (g.P.CellCaller.own c.args.caller.now) (g.P.CellCaller.own c.put_rows.new.caller) c.put_rows.result
+    c.put_rows.ensures.learns c.put_rows.ensures.err
 
 pub returns-clause-posted : goal.returns-clause-posted
 returns-clause-posted g c =

@@ -1,6 +1,5 @@
-use Rattle.std.proofs.Common.{◌∙◌, inl, ℕ, List, subst, sym, ◌-◌}
+use Rattle.std.proofs.Common.{◌∙◌, ℕ, List, subst, sym, ◌-◌}
 use Rattle.core_names.specs.AskedNames.{GoOnByNames}
-use Rattle.core_program.specs.CoreFits.{CoreEntry}
 use Rattle.core_program.specs.Knowing.{IsClientOf}
 use Rattle.cube_core.specs.declared.cell.CoreCell.{CoreCell}
 use Rattle.linked_shards.specs.CellShards.{CoreShardStands}
@@ -9,11 +8,11 @@ use Rattle.session_groups.specs.ShardGroups.{HoldsOpenWriter}
 use Rattle.shard_events.specs.ShardsInRuns.{FitsShard, ShardAnswerSays}
 use Rattle.loaded_batches.specs.LoadEnds.{AreStored}
 use Rattle.loaded_batches.specs.LoadFronts.{HasTakenSome, IsAfterTurns}
-use Rattle.loaded_batches.specs.LoadingCalls.{GoesOnLoading}
-use Rattle.loaded_batches.specs.declared.turns.LoadTurn.TheVariants as turn
+use Rattle.loaded_batches.specs.LoadTexts.{AsksForSuch, HasAskedForSuch}
 use Rattle.loaded_batches.proofs.EndedRecords.{ends-many, ends-stored}
 use Rattle.loaded_batches.proofs.HeldWriters.{open-by-names}
 use Rattle.loaded_batches.proofs.LoadingMoments.{loading-both, loading-by-names}
+use Rattle.loaded_batches.proofs.LookedAtTexts.{none-bad-yet, such-both, such-by-entries}
 use Rattle.loaded_batches.proofs.RestEnds.{all-ended, all-held}
 use Rattle.loaded_batches.proofs.RestOfRecords.{more-by-names}
 use Rattle.loaded_batches.proofs.TurnsOfCallers.{before-of, now-of}
@@ -195,3 +194,57 @@ returns-in-ShardFull-clause-ended g c =
     all-ended (opening last.caller) (number last.caller) c.args.session c.args.place c.args.writer.now c.args.cube.now
     c.args.allowed (own c.args.caller.now) (own new.caller) (own last.caller) more c.args.records new.load last.load
     c.none-bad.result new.bad last.bad c.none-bad.ensures c.requires.begins some c.refuse_full.result r.ended
+
+pub returns-in_err-load_turns-clause-asked : goal.returns-in_err-load_turns-clause-asked
+returns-in_err-load_turns-clause-asked g c =
+    subst (λ (left : ℕ). AsksForSuch (g.P.CellCaller.opening c.args.caller.now)
+    (g.P.CellCaller.number c.args.caller.now) c.args.place c.args.cube.now c.args.session left c.args.records
+    (g.P.CellCaller.own c.args.caller.now) (g.P.CellCaller.own c.load_turns.new.caller))
+    (sym (none-bad-yet c.args.allowed c.none-bad.result c.none-bad.ensures)) c.load_turns.ensures.asked
+
+pub returns-in-Done-clause-asked : goal.returns-in-Done-clause-asked
+returns-in-Done-clause-asked g c =
+    subst (λ (left : ℕ). AsksForSuch (g.P.CellCaller.opening c.args.caller.now)
+    (g.P.CellCaller.number c.args.caller.now) c.args.place c.args.cube.now c.args.session left c.args.records
+    (g.P.CellCaller.own c.args.caller.now) (g.P.CellCaller.own c.load_turns.new.caller))
+    (sym (none-bad-yet c.args.allowed c.none-bad.result c.none-bad.ensures)) c.load_turns.ensures.asked
+
+pub returns-in-TooMany-clause-asked : goal.returns-in-TooMany-clause-asked
+returns-in-TooMany-clause-asked g c =
+    subst (λ (left : ℕ). AsksForSuch (g.P.CellCaller.opening c.args.caller.now)
+    (g.P.CellCaller.number c.args.caller.now) c.args.place c.args.cube.now c.args.session left c.args.records
+    (g.P.CellCaller.own c.args.caller.now) (g.P.CellCaller.own c.load_turns.new.caller))
+    (sym (none-bad-yet c.args.allowed c.none-bad.result c.none-bad.ensures)) c.load_turns.ensures.asked
+
+pub returns-in-ShardFull-clause-asked : goal.returns-in-ShardFull-clause-asked
+returns-in-ShardFull-clause-asked g c =
+    let opening = g.P.CellCaller.opening in
+    let number = g.P.CellCaller.number in
+    let own = g.P.CellCaller.own in
+    let e = c.load_turns.ensures in
+    let new = c.load_turns.new in
+    let after = coe 0 1 (i. IsAfterTurns (opening new.caller) (number new.caller) c.args.session c.args.place
+    c.args.cube.now
+    c.args.allowed c.args.writer.now (own c.args.caller.now) (own new.caller) c.args.records new.load c.none-bad.result
+    new.bad (c.in-ShardFull.is i)) c.in_ok-load_turns.ensures.turns in
+    let r = c.refuse_full.ensures in
+    let last = c.refuse_full.new in
+    let cells = opening c.args.caller.now in
+    let caller = number c.args.caller.now in
+    let acts = before-of (λ (cs : List (CoreCell CoreShard)) (n : ℕ).
+    IsClientOf FitsShard CoreShardStands ShardAnswerSays cs n c.args.session) e.opening e.number e.may.client in
+    let asks = coe 0 1 (i. GoOnByNames (e.number i) (own new.caller) (own last.caller)) r.asks in
+    let more = more-by-names caller (own new.caller) (own last.caller) asks in
+    let some = before-of (λ (cs : List (CoreCell CoreShard)) (n : ℕ).
+    HasTakenSome cs n c.args.place c.args.cube.now c.args.allowed (own new.caller) c.args.records new.load
+    c.none-bad.result new.bad) e.opening e.number after in
+    let asked = before-of (λ (cs : List (CoreCell CoreShard)) (n : ℕ).
+    HasAskedForSuch cs n c.args.place c.args.cube.now (c.args.allowed - new.bad.count) new.load (own new.caller)
+    (own last.caller)) (r.opening ∙ e.opening) (r.number ∙ e.number) r.asked in
+    subst (λ (left : ℕ). AsksForSuch cells caller c.args.place c.args.cube.now c.args.session left c.args.records
+    (own c.args.caller.now) (own last.caller))
+    (sym (none-bad-yet c.args.allowed c.none-bad.result c.none-bad.ensures))
+    (such-both cells caller c.args.place c.args.cube.now c.args.allowed (own c.args.caller.now) (own new.caller)
+    (own last.caller) more c.args.records new.load c.none-bad.result new.bad some.rows some.taken c.args.session e.asked
+    (such-by-entries cells caller c.args.place c.args.cube.now (c.args.allowed - new.bad.count) c.args.session new.load
+    (own new.caller) (own last.caller) acts more asked))
