@@ -1,11 +1,12 @@
 -- Statements that neither change rows nor read them are performed.
-use Rattle.std.proofs.Common.{◌≡◌, ℕ, ◌+◌, false, List, refl}
+use Rattle.std.proofs.Common.{◌≡◌, ℕ, ◌+◌, false, List, refl, sym, subst}
 use Rattle.core_cubes.specs.StatementCalls.{IsCallFor}
 use Rattle.core_program.specs.CoreFits.{CoreEntry}
 use Rattle.core_states.specs.ExecutedInCore.{ExecutesInCore}
 use Rattle.core_states.specs.LeftBehind.{GoOnByCalls, IsPlainCall}
 use Rattle.core_states.specs.declared.session.CoreSession.{CoreSession}
 use Rattle.cube_core.specs.declared.cell.CoreCell.{CoreCell}
+use Rattle.cube_journal.specs.declared.reply.Reply.{Reply}
 use Rattle.cube_language.specs.declared.decl.Decl.{Decl}
 use Rattle.cube_language.specs.declared.statement.Statement.{Statement}
 use Rattle.cube_language.specs.declared.statement.Statement.TheVariants.{CreateCube}
@@ -24,15 +25,22 @@ use Rattle.shard_events.specs.ShardsInRuns.{FitsShard, ShardAnswerSays}
 
 module _ (cells : List (CoreCell CoreShard)) (caller : ℕ) (old new : CoreSession) (own now : List CoreEntry) where
   -- By plain calls.
+  plain-watched : (asked : Statement) (said : Reply) → is_change asked ≡ false
+      → GoOnByCalls FitsShard CoreShardStands ShardAnswerSays cells caller old.number IsPlainCall own now
+      → ExecutesInCore FitsShard CoreShardStands ShardAnswerSays cells caller (Says asked) old own new now said
+      → PerformsWatchedOverShards cells caller WhateverFile asked old own new now said
+  plain-watched asked said none goes executes watch lets =
+      in-core FitsShard CoreShardStands ShardAnswerSays cells caller (Says asked) old new own now said executes goes
+      (is_no_change asked refl none) watch
+
   pub plain-performed : (s asked : Statement) (answered : Answered) → s ≡ asked → is_change asked ≡ false
       → GoOnByCalls FitsShard CoreShardStands ShardAnswerSays cells caller old.number IsPlainCall own now
       → IfReplied answered
       (ExecutesInCore FitsShard CoreShardStands ShardAnswerSays cells caller (Says asked) old own new now)
       → IfReplied answered (PerformsWatchedOverShards cells caller WhateverFile s old own new now)
   plain-performed s asked (Replied said) is none goes executes =
-      coe 1 0 (i. PerformsWatchedOverShards cells caller WhateverFile (is i) old own new now said)
-      (λ watch lets. in-core FitsShard CoreShardStands ShardAnswerSays cells caller (Says asked) old new own now said
-      executes goes (is_no_change asked refl none) watch)
+      subst (λ (x : Statement). PerformsWatchedOverShards cells caller WhateverFile x old own new now said) (sym is)
+      (plain-watched asked said none goes executes)
   plain-performed s asked Stopped is none goes executes = tt
 
   -- By calls that make a cube.
