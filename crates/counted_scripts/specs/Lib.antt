@@ -1,0 +1,2 @@
+pub mod CountedLoads
+pub mod RepliesOfSessions
