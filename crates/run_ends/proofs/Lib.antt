@@ -1,7 +1,7 @@
 pub mod QuietCallers
 pub mod MainEnds
-pub mod ThreadEnds
 pub mod RecordedEnds
 pub mod FlusherEvents
 pub mod WholeEnds
-pub mod HaveEnded
+pub mod OnThreads
+pub mod AllSafe

@@ -23,9 +23,10 @@ use Rattle.linked_shards.specs.CellShards.{CoreShardStands}
 use Rattle.linked_shards.specs.declared.cell.CoreShard.{CoreShard}
 use Rattle.shard_events.specs.ShardsInRuns.{FitsShard, ShardAnswerSays}
 use Rattle.turn_board.specs.History.{of_caller}
-use Rattle.final_shards.specs.FinalShards.{AllIsSafe}
+use Rattle.final_shards.specs.FinalShards.{AllIsSafe, lse_of}
 use Rattle.last_rounds.specs.SavedEpochs.{EndsByLastRound, EndsByRound, HasNoSessionCalls, HasSaved, SessionsHoldNothing, last_saved}
-use Rattle.last_rounds.proofs.SavedRounds.{all-safe, calls-joined, saved-last, saved-lce}
+use Rattle.last_rounds.proofs.OpenCounters.{none-pending}
+use Rattle.last_rounds.proofs.SavedRounds.{all-safe, calls-joined, saved-last, saved-lce, saved-lse}
 use Rattle.run_ends.specs.RunEnds.{FlushesLast, IsEndedRun, ShowAllSafe}
 use Rattle.run_ends.proofs.FlusherEvents.{OfEntries, caller_here, calls-among, finds_closed, flushers-events, is_flushers, none-among, none-found}
 use Rattle.run_ends.proofs.QuietCallers.{rest-of, split}
@@ -210,6 +211,16 @@ module _ (o : Opening) (how : RoundResult) (counters : Counters) (callers : ℕ)
 
     pub last-shown : last_saved (journal_of o es) ≡ Some counters.lce
     last-shown = last-is ∙ ap (λ (n : ℕ). Some n) epoch-shown
+
+    pub lse-shown : counters.lse ≡ counters.lce
+    lse-shown =
+        ap (λ (c : Counters). c.lse) shown
+        ∙ ap (λ (l : List CoreEvent). lse_of o l) second.whole
+        ∙ saved-lse o second.later cut.0 epoch how run-whole ends-by-last-round is
+        ∙ epoch-shown
+
+    pub pending-shown : counters.pending ≡ []
+    pending-shown = ap (λ (c : Counters). c.pending) shown ∙ none-pending o es r.run nothing
 
     pub safe-shown : ShowAllSafe counters
     safe-shown =

@@ -16,8 +16,7 @@ use Rattle.linked_shards.specs.CellShards.{CoreShardStands, CoreShardStep}
 use Rattle.shard_events.specs.ShardsInRuns.{FitsShard, ShardAnswerSays}
 use Rattle.shut_shards.specs.ShutShards.{CellsStand}
 use Rattle.threaded_callers.specs.Ends.{IsHistoryTo}
-use Rattle.run_threads.specs.CoreWorks.{HasClosedFlusher, HasClosedShards, OpeningCells}
-use Rattle.run_threads.specs.declared.main_work.ClosingMain.{ClosingMain}
+use Rattle.run_threads.specs.CoreWorks.{HasClosedShards, OpeningCells}
 use Rattle.turn_board.specs.History.{of_caller}
 
 -- The caller that is the flusher.
@@ -37,14 +36,6 @@ pub record EndsByPurge (shards sessions : ℕ) (counters : Counters) (opening : 
   pub goes_on : IsPrefix moment log
   pub ended : (caller : ℕ) → EndsBefore shards sessions caller → of_caller caller moment ≡ of_caller caller log
   pub ends : HasClosedShards shards true (Some counters) opening (of_caller 0 moment) (of_caller 0 log)
-
--- What main does to stop the flusher, and then the workers, as a work on threads.
-abbrev pub StopsFlusher : ClosingMain → ClosingMain → ℕ → OpeningCells → List CoreEntry → Type 0
-StopsFlusher before after callers cells own =
-    HasClosedFlusher before.size.shards before.size.sessions callers cells own × (after ≡ before)
-
-abbrev pub StopsWorkers : ClosingMain → ClosingMain → OpeningCells → Bool → List CoreEntry → List CoreEntry → Type 0
-StopsWorkers before after cells began own now = HasClosedShards before.size.shards began after.counters cells own now
 
 -- A run on threads that main ended so: how it opens, the cells that it leaves, its history, and the events of this.
 pub record IsEndedRun (o : Opening) (counters : Counters) (callers : ℕ) (opening cells : OpeningCells)
