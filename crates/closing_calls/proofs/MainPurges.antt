@@ -32,7 +32,7 @@ use Rattle.linked_shards.specs.CellShards.{CanCallCoreShard, CoreShardStands, Co
 use Rattle.linked_shards.specs.declared.cell.CoreShard.{CoreShard}
 use Rattle.session_groups.proofs.InTurn.{any-undone, get-same, kind-same, stand-in-turn}
 use Rattle.session_groups.specs.AnswersInTurn.{is_undone}
-use Rattle.session_holds.proofs.Groups.{ready-ended}
+use Rattle.cube_core.proofs.Groups.{ready-ended}
 use Rattle.session_requests.proofs.Outcomes.{purges-are-done}
 use Rattle.session_requests.specs.SessionRequests.{KnowsSafe}
 use Rattle.shard_events.specs.ShardsInRuns.{FitsShard, ShardAnswerSays}

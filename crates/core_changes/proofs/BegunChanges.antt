@@ -27,8 +27,8 @@ use Rattle.core_changes.proofs.ChangeCalls.{by-more-calls, by-no-call, by-plain-
 use Rattle.core_changes.proofs.OperationsAdded.{epoch-then-epoch, none-at-epoch, none-then-none, none-then-some, plain-none}
 use Rattle.core_changes.specs.CallsOfChanges.{IsCallOfChange, LeavesByJobs, LeavesForChange}
 use Rattle.core_changes.specs.ChangeEnds.{begun_entries, counted_session}
-use Rattle.final_names.proofs.AskingOnly.{only-entries, only-none, only-plain, only-then}
-use Rattle.final_names.specs.AskedTexts.{AsksOnly}
+use Rattle.scripted_pasts.proofs.AskingOnly.{only-entries, only-none, only-plain, only-then}
+use Rattle.scripted_pasts.specs.AskedTexts.{AsksOnly}
 use Rattle.posted_pasts.proofs.AddedCalls.{without-changes}
 use Rattle.posted_pasts.specs.PostsAdded.{AddsAtEpoch, AddsNoOperation, AddsOperations, LearnsThat, PostsNoChange}
 use Rattle.scripted_pasts.proofs.QuietLearns.{kind-learns}

@@ -16,7 +16,7 @@ use Rattle.linked_shards.specs.CellShards.{CoreShardStands}
 use Rattle.shard_events.specs.ShardsInRuns.{FitsShard, ShardAnswerSays}
 use Rattle.linked_shards.specs.declared.cell.CoreShard.{CoreShard}
 use Rattle.core_changes.specs.CallsOfChanges.{IsCallOfChange, LeavesForChange}
-use Rattle.session_holds.specs.HoldStates.{IsUnderOwnNumber}
+use Rattle.cube_core.specs.HoldStates.{IsUnderOwnNumber}
 use Rattle.shard_statements.specs.OverShards.{LeavesOverShards}
 
 under-own : (a : ℕ) (c : ClientCall) → LeavesReaders c → IsUnderOwnNumber a c

@@ -5,8 +5,8 @@ use Rattle.aosi_desk.specs.Desks.{is_cube_code}
 use Rattle.core_changes.specs.ChangesUnderWay.{HasAnswered, HasChangedNothing, IsSameStatement}
 use Rattle.core_changes.specs.FinishedChanges.{HasFinished}
 use Rattle.core_cubes.proofs.CallsForStatements.{plain-asks, plain-for}
-use Rattle.final_names.proofs.AskingOnly.{only-plain, only-then}
-use Rattle.final_names.specs.AskedTexts.{AsksOnly}
+use Rattle.scripted_pasts.proofs.AskingOnly.{only-plain, only-then}
+use Rattle.scripted_pasts.specs.AskedTexts.{AsksOnly}
 use Rattle.core_cubes.proofs.CallsGoOn.{go-on-as, go-on-then}
 use Rattle.core_events.specs.Events.{ClientCall}
 use Rattle.core_events.specs.Serial.{CubeOperation}

@@ -27,10 +27,10 @@ use Rattle.cube_run.specs.SessionStates.{Mode}
 use Rattle.cube_run.specs.SessionSteps.{SessionStep, all_steps}
 use Rattle.cube_run.specs.StatementEntries.{is_change}
 use Rattle.cube_run.specs.StepOutcomes.{refused_by_mode}
-use Rattle.final_names.proofs.AskingOnly.{only-plain, only-then}
-use Rattle.final_names.proofs.TextsOffered.{step-offers}
-use Rattle.final_names.specs.AskedTexts.{AsksOnly}
-use Rattle.final_names.specs.StepTexts.{HasTextFor}
+use Rattle.scripted_pasts.proofs.AskingOnly.{only-plain, only-then}
+use Rattle.scripted_pasts.proofs.TextsOffered.{step-offers}
+use Rattle.scripted_pasts.specs.AskedTexts.{AsksOnly}
+use Rattle.scripted_pasts.specs.StepTexts.{HasTextFor}
 use Rattle.found_cubes.specs.CubesOnRecord.{HasCubeAt}
 use Rattle.linked_shards.specs.CellShards.{CoreShardStands}
 use Rattle.linked_shards.specs.declared.cell.CoreShard.{CoreShard}

@@ -32,11 +32,11 @@ use Rattle.core_changes.specs.CallsOfChanges.{LeavesForChange}
 use Rattle.core_changes.specs.ChangeEnds.{ChangeEnd, Failed, Finished, MayEndSo, RefusedBefore, change_entries, counted_session, round_due_after}
 use Rattle.core_changes.specs.ChangesInRuns.{HasEndedSo, IsRunAfterChange, IsStepOfChange, PostsByEnd, RoundInStep, entries_of_change, past_with}
 use Rattle.played_scripts.specs.PlayedRuns.{AreNumbered}
-use Rattle.final_names.proofs.NamesMore.{with-statement as names-with-statement}
-use Rattle.final_names.proofs.StepsAmong.{last-among}
-use Rattle.final_names.proofs.StepsNamed.{nothing-named, put-named}
-use Rattle.final_names.specs.NamesBehind.{NamesStandBehind}
-use Rattle.final_names.specs.NamesStand.{IsNamedStep}
+use Rattle.scripted_pasts.proofs.NamesMore.{with-statement as names-with-statement}
+use Rattle.scripted_pasts.proofs.StepsAmong.{last-among}
+use Rattle.scripted_pasts.proofs.StepsNamed.{nothing-named, put-named}
+use Rattle.scripted_pasts.specs.NamesBehind.{NamesStandBehind}
+use Rattle.scripted_pasts.specs.NamesStand.{IsNamedStep}
 use Rattle.posted_pasts.proofs.ChangesStand.{drop-change, put-change}
 use Rattle.posted_pasts.proofs.PostsMore.{with-calls, with-change, with-failure, with-statement}
 use Rattle.posted_pasts.specs.PostsBehind.{InEachRun, PostsStandBehind, is_abort_of}

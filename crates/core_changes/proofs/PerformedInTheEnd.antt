@@ -28,7 +28,7 @@ use Rattle.scripted_pasts.specs.UnchangedRows.{ChangesNoRows, is_refused}
 use Rattle.session_desk.specs.Executed.{IfReplied, OnStopped}
 use Rattle.session_desk.specs.declared.answered.Answered.{Answered}
 use Rattle.session_desk.specs.declared.answered.Answered.TheVariants.{Replied, Stopped}
-use Rattle.session_holds.specs.HoldStates.{IsUnderOwnNumber}
+use Rattle.cube_core.specs.HoldStates.{IsUnderOwnNumber}
 use Rattle.session_replies.specs.Modes.{mode_of}
 use Rattle.shard_events.specs.ShardsInRuns.{FitsShard, ShardAnswerSays}
 use Rattle.shard_statements.specs.OverShards.{LeavesOverShards}

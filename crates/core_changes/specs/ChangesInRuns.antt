@@ -31,8 +31,8 @@ use Rattle.linked_shards.specs.CellShards.{CoreShardStands}
 use Rattle.linked_shards.specs.declared.cell.CoreShard.{CoreShard}
 use Rattle.core_changes.specs.CallsOfChanges.{LeavesForChange}
 use Rattle.core_changes.specs.ChangeEnds.{ChangeEnd, Finished, Failed, RefusedBefore, MayEndSo, change_entries, counted_session, round_due_after, session_after_change}
-use Rattle.final_names.specs.NamesBehind.{AsksMoreOffered}
-use Rattle.final_names.specs.NamesStand.{IsNamedStep}
+use Rattle.scripted_pasts.specs.NamesBehind.{AsksMoreOffered}
+use Rattle.scripted_pasts.specs.NamesStand.{IsNamedStep}
 use Rattle.posted_pasts.specs.DoneChanges.{HasDroppedRegion, HasPutRows}
 use Rattle.posted_pasts.specs.PostsAdded.{AddsAtEpoch, AddsNoOperation, AddsOperations, LearnsThat}
 use Rattle.scripted_pasts.specs.Performed.{every_of}

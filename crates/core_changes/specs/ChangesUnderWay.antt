@@ -6,7 +6,7 @@ use Rattle.std.specs.Prelude.{◌≡◌, ℕ, ◌<◌, ◌≤◌, false, List, [
 use mathlib.Core.List.{IsPrefix}
 use Rattle.core_events.specs.Events.{Opening, ClientCall}
 use Rattle.core_program.specs.CoreFits.{CoreEntry}
-use Rattle.final_names.specs.AskedTexts.{AsksOnly}
+use Rattle.scripted_pasts.specs.AskedTexts.{AsksOnly}
 use Rattle.core_states.specs.LeftBehind.{GoOnByCalls}
 use Rattle.core_states.specs.StandingInCore.{HoldsForMode}
 use Rattle.core_states.specs.declared.session.CoreSession.{CoreSession}

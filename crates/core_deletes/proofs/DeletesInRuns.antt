@@ -37,9 +37,9 @@ use Rattle.cube_values.specs.declared.snapshot.Snapshot.{Snapshot}
 use Rattle.aosi_desk.specs.Desks.{is_cube_code}
 use Rattle.condition_spans.specs.Codes.{lists_at}
 use Rattle.dropped_regions.specs.DeleteBoxes.{IsDeleteText, deleted_region}
-use Rattle.final_names.proofs.StepsNamed.{deletion-named}
-use Rattle.final_names.specs.NamesStand.{IsNamedStep}
-use Rattle.final_names.specs.StepTexts.{HasTextFor}
+use Rattle.scripted_pasts.proofs.StepsNamed.{deletion-named}
+use Rattle.scripted_pasts.specs.NamesStand.{IsNamedStep}
+use Rattle.scripted_pasts.specs.StepTexts.{HasTextFor}
 use Rattle.known_cubes.proofs.CubesMade.{storable-cubes}
 use Rattle.known_cubes.specs.KnownCubes.{OpenWithStorableCubes}
 use Rattle.linked_shards.specs.CellShards.{CoreShardStands}

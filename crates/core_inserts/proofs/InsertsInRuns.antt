@@ -43,7 +43,7 @@ use Rattle.core_changes.proofs.ChangeCalls.{by-more-calls, by-plain-calls}
 use Rattle.core_changes.proofs.OperationsAdded.{epoch-then-epoch, none-at-epoch, none-then-none, none-then-some, plain-none}
 use Rattle.core_changes.specs.ChangeEnds.{ChangeEnd, Finished, Failed, RefusedBefore, IsWriterFor, MayEndSo, counted_session}
 use Rattle.core_changes.specs.ChangesInRuns.{AsksForItsTexts, HasEndedSo, InRunsAfterChange, IsRunAfterChange, IsStepOfChange, PostsByEnd, entries_of_change}
-use Rattle.final_names.specs.StepTexts.{HasTextFor}
+use Rattle.scripted_pasts.specs.StepTexts.{HasTextFor}
 use Rattle.posted_pasts.specs.DoneChanges.{HasPutRows}
 use Rattle.row_encoding.specs.CodedInserts.{HaveTextIn}
 use Rattle.session_replies.specs.Modes.{mode_of}

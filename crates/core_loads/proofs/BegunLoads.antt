@@ -38,8 +38,8 @@ use Rattle.cube_run.specs.StepOutcomes.{refused_by_mode}
 use Rattle.cube_values.specs.declared.row.CodedRow.{CodedRow}
 use Rattle.cube_values.specs.declared.row.Row.{Row}
 use Rattle.cube_values.specs.declared.snapshot.Snapshot.{Snapshot}
-use Rattle.final_names.proofs.AskingOnly.{only-then}
-use Rattle.final_names.specs.AskedTexts.{AsksOnly}
+use Rattle.scripted_pasts.proofs.AskingOnly.{only-then}
+use Rattle.scripted_pasts.specs.AskedTexts.{AsksOnly}
 use Rattle.inserted_rows.specs.RowsInTheEnd.{HoldsInTheEnd, IsToldOfCubeAt}
 use Rattle.known_cubes.proofs.ToldCubes.{told-later}
 use Rattle.known_cubes.specs.KnownCubes.{IsToldOfCube}

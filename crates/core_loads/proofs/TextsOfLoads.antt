@@ -19,8 +19,8 @@ use Rattle.cube_run.specs.LoadedRows.{judged_record, load_records, records_looke
 use Rattle.cube_run.specs.RunRecords.{LoadedFile, RunRecord, catalog_of}
 use Rattle.cube_run.specs.SessionSteps.{SessionStep}
 use Rattle.cube_values.specs.declared.row.Row.{Row}
-use Rattle.final_names.specs.AskedTexts.{AsksOnly}
-use Rattle.final_names.specs.StepTexts.{HasTextFor, LooksAtRowWith}
+use Rattle.scripted_pasts.specs.AskedTexts.{AsksOnly}
+use Rattle.scripted_pasts.specs.StepTexts.{HasTextFor, LooksAtRowWith}
 use Rattle.found_cubes.specs.CubesOnRecord.{HasCubeAt}
 use Rattle.inserted_rows.proofs.NamesAtEnd.{left-later}
 use Rattle.linked_shards.specs.CellShards.{CoreShardStands}

@@ -32,8 +32,8 @@ use Rattle.known_cubes.proofs.ToldNames.{knows-number}
 use Rattle.session_snapshots.specs.KnownHolds.{HoldsReader, HoldsReady, HoldsTheSame, HoldsWriter}
 use Rattle.row_encoding.specs.CodedInserts.{HasNumbers}
 use Rattle.row_encoding.specs.FinalCodes.{dim_at}
-use Rattle.session_holds.proofs.Looking.{asks-names}
-use Rattle.session_holds.specs.HoldStates.{IsReadyWith, IsReading, IsWriting}
+use Rattle.cube_core.proofs.Looking.{asks-names}
+use Rattle.cube_core.specs.HoldStates.{IsReadyWith, IsReading, IsWriting}
 use Rattle.core_names.specs.AskedNames.{GoOnByNames, IsNamesEntry}
 use Rattle.core_names.specs.KnownNumbers.{HasToldNumber}
 

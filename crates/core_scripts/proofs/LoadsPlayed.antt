@@ -3,7 +3,7 @@ use Rattle.std.proofs.Common.{◌≡◌, ◌∙◌, inl, inr, ℕ, List, None, S
 use Rattle.cube_values.specs.declared.call_error.CallError.TheVariants.{Fault, NoMemory}
 use Rattle.core_loads.specs.ShelfLoads.{CountsLoad, IsAnsweredFor, IsFileRead, LoadsRows, ShelfSeen, path_loaded}
 use Rattle.core_program.specs.CoreFits.{CoreEntry}
-use Rattle.core_scripts.specs.CountedLoads.{CountsFor}
+use Rattle.counted_scripts.specs.CountedLoads.{CountsFor}
 use Rattle.core_scripts.specs.PlayingSessions.{IsPlaying, PlaysOn}
 use Rattle.core_scripts.specs.ToldFiles.{IsFileTold, ShelfTold}
 use Rattle.core_scripts.specs.declared.player.ScriptPlayer.{ScriptPlayer}

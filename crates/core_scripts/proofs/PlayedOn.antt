@@ -2,7 +2,7 @@
 use Rattle.std.proofs.Common.{◌≡◌, ℕ, List, Option, None, Some, refl}
 use mathlib.Core.List.{IsPrefix}
 use Rattle.core_program.specs.CoreFits.{CoreEntry}
-use Rattle.core_scripts.specs.CountedLoads.{CountsFor}
+use Rattle.counted_scripts.specs.CountedLoads.{CountsFor}
 use Rattle.core_scripts.specs.PlayingSessions.{IsOnRows, PlaysOn, TouchesNoRows, Watches}
 use Rattle.core_scripts.specs.ToldFiles.{IsFileTold, ShelfTold, files_told}
 use Rattle.core_scripts.specs.declared.player.ScriptPlayer.{ScriptPlayer}

@@ -3,7 +3,7 @@ use Rattle.std.proofs.Common.{◌≡◌, ◌∙◌, ℕ, ◌+◌, ◌≤◌, Lis
 use Rattle.std.specs.List.{AllByRecursion}
 use Rattle.core_program.specs.CoreFits.{CoreEntry}
 use Rattle.core_endings.specs.ScriptEnds.{HoldsReaderUnder, IsWatchUnder}
-use Rattle.core_scripts.specs.CountedLoads.{CountsFor, CountsInTurn}
+use Rattle.counted_scripts.specs.CountedLoads.{CountsFor, CountsInTurn}
 use Rattle.core_scripts.specs.PlayedWhole.{CountsOfShelf}
 use Rattle.core_scripts.specs.PlayingSessions.{IsPlaying, IsProperSaid, PlaysOn, holder_kept}
 use Rattle.core_scripts.specs.ToldFiles.{ShelfTold}

@@ -3,7 +3,7 @@ use Rattle.std.proofs.Common.{◌≡◌, ℕ, List, Some, inr, refl, sym, subst}
 use Rattle.core_program.specs.CoreFits.{CoreEntry}
 use Rattle.core_scripts.proofs.LoadsPlayed.{absence-kept, fault-kept}
 use Rattle.core_scripts.proofs.PlayedOn.{Holds, TextsGo, keeps-on, plays-without-file}
-use Rattle.core_scripts.specs.CountedLoads.{CountsFor}
+use Rattle.counted_scripts.specs.CountedLoads.{CountsFor}
 use Rattle.core_scripts.specs.PlayingSessions.{PlaysOn}
 use Rattle.core_scripts.specs.ToldFiles.{IsFileTold, ShelfTold}
 use Rattle.core_scripts.specs.declared.player.ScriptPlayer.{ScriptPlayer}

@@ -1,5 +1,4 @@
 pub mod ToldFiles
-pub mod CountedLoads
 pub mod PlayingSessions
 pub mod PlayedWhole
 pub mod ScriptWorks

@@ -3,7 +3,7 @@
 use Rattle.std.specs.Prelude.{◌≡◌, ◌+◌, ◌≤◌, ℕ, List, [], length, None, Option}
 use Rattle.std.specs.List.{AllByRecursion}
 use Rattle.core_program.specs.CoreFits.{CoreEntry}
-use Rattle.core_scripts.specs.CountedLoads.{CountsInTurn}
+use Rattle.counted_scripts.specs.CountedLoads.{CountsInTurn}
 use Rattle.core_scripts.specs.PlayingSessions.{IsProperSaid}
 use Rattle.core_scripts.specs.ToldFiles.{ShelfTold, files_told}
 use Rattle.core_scripts.specs.declared.player.ScriptPlayer.{ScriptPlayer}

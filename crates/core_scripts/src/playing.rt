@@ -1,6 +1,6 @@
 //! Each statement of a session that plays its script.
 ghost use Rattle.core_loads.specs.ShelfLoads.{LoadsRows};
-ghost use Rattle.core_scripts.specs.CountedLoads.{CountsFor};
+ghost use Rattle.counted_scripts.specs.CountedLoads.{CountsFor};
 ghost use Rattle.std.specs.Prelude.{◌≡◌, ◌+◌, ◌<◌, ◌≤◌, None, Some};
 ghost use Rattle.core_scripts.specs.PlayingSessions.{IsInScript, IsProperSaid, PlaysOn};
 ghost use Rattle.core_scripts.specs.ToldFiles.{ShelfTold};

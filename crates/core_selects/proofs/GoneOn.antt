@@ -32,7 +32,7 @@ use Rattle.shard_events.specs.ShardsInRuns.{FitsShard, ShardAnswerSays}
 use Rattle.linked_shards.specs.declared.cell.CoreShard.{CoreShard}
 use Rattle.session_groups.proofs.Knowing.{run-now}
 use Rattle.session_groups.specs.ShardGroups.{HasFoundRows, KnowsOfShards, MayHaveAsked}
-use Rattle.session_holds.proofs.Looking.{counts}
+use Rattle.cube_core.proofs.Looking.{counts}
 use Rattle.session_snapshots.proofs.KnownSteps.{holds-on}
 use Rattle.shard_requests.proofs.Onward.{goes-on}
 use Rattle.shard_statements.proofs.GroupsLeave.{left-by-group}

@@ -58,7 +58,7 @@ use Rattle.posted_pasts.proofs.PostsAtEnd.{at-statement}
 use Rattle.posted_pasts.specs.PostsBehind.{IsRunWithCalls, PostsStandBehind}
 use Rattle.scripted_pasts.specs.Served.{IsServed}
 use Rattle.session_groups.proofs.FoundFolds.{scan-stands}
-use Rattle.session_holds.specs.HoldStates.{IsReading, IsWriting}
+use Rattle.cube_core.specs.HoldStates.{IsReading, IsWriting}
 use Rattle.settled_queries.proofs.Openers.{owner-opened}
 use Rattle.settled_queries.proofs.StayingScans.{reader-found}
 use Rattle.settled_queries.specs.Moments.{PassesMoment}

@@ -10,7 +10,7 @@ use Rattle.core_states.specs.LeftBehind.{AsksForNone, IsPlainCall}
 use Rattle.cube_language.specs.declared.statement.Statement.{Statement}
 use Rattle.cube_run.specs.RunRecords.{Sentence}
 use Rattle.posted_pasts.specs.PostsAdded.{PostsNoChange}
-use Rattle.session_holds.specs.HoldStates.{IsUnderOwnNumber}
+use Rattle.cube_core.specs.HoldStates.{IsUnderOwnNumber}
 
 pub plain-reads : (session : ℕ) (c : ClientCall) → IsPlainCall c → IsReadingCall session c
 plain-reads session (OnDesk (CreateCube statement decl said)) plain = absurd plain

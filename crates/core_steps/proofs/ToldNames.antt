@@ -30,8 +30,8 @@ use Rattle.names_dict.specs.declared.code.Code.TheVariants.{Known, Added, Full}
 use Rattle.job_groups.specs.AskedEach.{HasMore}
 use Rattle.names_dict.specs.Dictionaries.{IsTextDimension}
 use Rattle.session_batches.specs.PutRows.{MayPutRows}
-use Rattle.session_holds.proofs.Looking.{asks-names}
-use Rattle.session_holds.specs.HoldStates.{IsReadyWith, IsReading, IsWriting}
+use Rattle.cube_core.proofs.Looking.{asks-names}
+use Rattle.cube_core.specs.HoldStates.{IsReadyWith, IsReading, IsWriting}
 use Rattle.shard_events.specs.ShardsInRuns.{FitsShard, ShardAnswerSays}
 use Rattle.core_steps.proofs.OnCore.{tells}
 use Rattle.core_steps.specs.OnCore.{IsToldOfCode, IsToldOfNumber, KnowsCubeOnCore}

@@ -35,8 +35,8 @@ use Rattle.linked_shards.specs.declared.cell.CoreShard.{CoreShard}
 use Rattle.played_scripts.specs.PlayedRuns.{AreNumbered}
 use Rattle.posted_pasts.proofs.AddedCalls.{without-changes}
 use Rattle.posted_pasts.proofs.DoneSteps.{by-no-change}
-use Rattle.final_names.proofs.NamesMore.{none-more, with-statement as names-with-statement}
-use Rattle.final_names.proofs.StepsNamed.{nothing-named}
+use Rattle.scripted_pasts.proofs.NamesMore.{none-more, with-statement as names-with-statement}
+use Rattle.scripted_pasts.proofs.StepsNamed.{nothing-named}
 use Rattle.posted_pasts.proofs.PostsMore.{with-calls, with-statement}
 use Rattle.posted_pasts.specs.PostsAdded.{AddsNoOperation, LearnsThat, PostsNoChange}
 use Rattle.posted_pasts.specs.PostsBehind.{PostsStandBehind}

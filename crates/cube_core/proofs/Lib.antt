@@ -12,3 +12,9 @@ pub mod EntrySteps
 pub mod OwnKnowledge
 pub mod LinkedHistories
 pub mod OwnParts
+pub mod Snapshots
+pub mod Looking
+pub mod Staying
+pub mod Groups
+pub mod AnswersInTurn
+pub mod Requests

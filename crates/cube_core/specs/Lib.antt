@@ -5,3 +5,5 @@ pub mod NamesEvents
 pub mod MailEvents
 pub mod BoardCells
 pub mod Links
+pub mod HoldStates
+pub mod GroupEnds

@@ -30,8 +30,8 @@ use Rattle.flush_loop.specs.PlainRounds.{KnowsAfterOpening, closing_entries, res
 use Rattle.flusher_rounds.proofs.Rounds as rounds
 use Rattle.flusher_rounds.specs.RoundStates.{HasRound, IsBetweenRounds, IsInRound}
 use Rattle.job_groups.specs.AskedEach.{HasMore}
-use Rattle.session_holds.proofs.Snapshots.{no-memory}
-use Rattle.session_holds.specs.HoldStates.{after_desk_call}
+use Rattle.cube_core.proofs.Snapshots.{no-memory}
+use Rattle.cube_core.specs.HoldStates.{after_desk_call}
 
 abbrev pub opening_entry : ℕ → Option RoundAnswer → CoreEntry
 opening_entry caller asked = desk_entry caller call.RoundOpen (option_map_or answer.Round asked answer.NoMemory)

@@ -9,7 +9,7 @@ use Rattle.core_events.specs.Clients.{ClientState, client_after_call, client_sta
 use Rattle.core_events.specs.Events.{Opening, flush_mail, flusher, RoundOpen, RoundClose, ClientCall, OnDesk, WorkerMove, Take, NoJob, Work, Reply, CoreEvent, By, At}
 use Rattle.core_events.specs.Fitting.{AllSaved, FlushSays, NoRound, RoundProgress, RoundUnderWay, progress_after_call, progress_after_move, round_progress}
 use Rattle.core_events.specs.Jobs.{Done, JobOutcome, OutOfMemory, StoreLost}
-use Rattle.session_holds.proofs.Snapshots.{same-number}
+use Rattle.cube_core.proofs.Snapshots.{same-number}
 use Rattle.flusher_rounds.specs.FlushReplies.{IsWithinRound, LeavesRound, TakesNoFlush}
 
 -- By calls.

@@ -20,9 +20,9 @@ use Rattle.core_events.specs.Groups.{Copies, JobGroup, has_all_below, has_ended,
 use Rattle.core_events.specs.Jobs.{CopyRound}
 use Rattle.cube_core.specs.DeskEvents.{FitsDeskCall, desk_event}
 use Rattle.cube_core.specs.NamesEvents.{FitsNamesCall, names_event}
-use Rattle.session_holds.specs.GroupEnds.{HasAllAnswers, MayBeginBy}
-use Rattle.session_holds.specs.HoldStates.{ComesTo, after_desk_call}
-use Rattle.session_holds.proofs.Snapshots.{same-number}
+use Rattle.cube_core.specs.GroupEnds.{HasAllAnswers, MayBeginBy}
+use Rattle.cube_core.specs.HoldStates.{ComesTo, after_desk_call}
+use Rattle.cube_core.proofs.Snapshots.{same-number}
 use Rattle.flusher_rounds.specs.RoundStates.{HasCopiedCubes, HasCopiedRows, HasLostStore, HasNoRound, HasRound, HasRoundCopies, IsBetweenRounds, IsInRound, LacksRows, after_names_call, round_up_to}
 
 -- It opens.

@@ -16,8 +16,8 @@ ghost use Rattle.core_events.specs.Groups.{Copies, JobGroup, has_refusal, no_gro
 ghost use Rattle.core_events.specs.Jobs.{CopyRound};
 ghost use Rattle.cube_core.specs.DeskEvents.{FitsDeskCall};
 ghost use Rattle.cube_core.specs.NamesEvents.{FitsNamesCall};
-ghost use Rattle.session_holds.specs.GroupEnds.{HasAllAnswers, MayBeginBy};
-ghost use Rattle.session_holds.specs.HoldStates.{ComesTo, after_desk_call};
+ghost use Rattle.cube_core.specs.GroupEnds.{HasAllAnswers, MayBeginBy};
+ghost use Rattle.cube_core.specs.HoldStates.{ComesTo, after_desk_call};
 ghost use Rattle.flusher_rounds.specs.RoundStates.{HasCopiedCubes, HasCopiedRows, HasLostStore, HasNoRound, HasRound, HasRoundCopies, IsBetweenRounds, IsInRound, LacksRows, after_names_call, round_up_to};
 
 /// The flusher begins with no round. It may then ask for one, and either has the round up to a

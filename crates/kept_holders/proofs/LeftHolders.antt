@@ -18,7 +18,7 @@ use Rattle.cube_core.specs.declared.shard.ShardAnswer.{ShardAnswer}
 use Rattle.cube_core.specs.declared.shard.ShardCall.{ShardCall}
 use Rattle.cube_language.specs.declared.statement.Statement.{Statement}
 use Rattle.cube_language.specs.declared.statement.Statement.TheVariants as asked
-use Rattle.session_holds.specs.HoldStates.{IsUnderOwnNumber}
+use Rattle.cube_core.specs.HoldStates.{IsUnderOwnNumber}
 use Rattle.session_watches.specs.KnownReaders.{HoldersKeep}
 use Rattle.watch_holds.proofs.HolderStaying.{readers-stay}
 use Rattle.watch_holds.specs.HolderStates.{HasReaders, HeldReaders}

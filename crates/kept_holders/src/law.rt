@@ -7,7 +7,7 @@ ghost use Rattle.core_program.specs.CoreFits.{CoreEntry};
 ghost use Rattle.core_states.specs.LeftBehind.{GoOnByCalls, IsPlainCall};
 ghost use Rattle.cube_core.specs.declared.cell.CoreCell.{CoreCell};
 ghost use Rattle.cube_language.specs.declared.statement.Statement.{Statement};
-ghost use Rattle.session_holds.specs.HoldStates.{IsUnderOwnNumber};
+ghost use Rattle.cube_core.specs.HoldStates.{IsUnderOwnNumber};
 ghost use Rattle.session_watches.specs.KnownReaders.{HoldersKeep};
 
 use cube_core::LinkedShard;

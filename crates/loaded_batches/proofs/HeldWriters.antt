@@ -23,7 +23,7 @@ use Rattle.session_batches.specs.PutRows.{HoldsAfterPut}
 use Rattle.session_batches.specs.declared.answers.PutEnd.{PutEnd}
 use Rattle.session_batches.specs.declared.answers.PutEnd.TheVariants as put
 use Rattle.session_groups.specs.ShardGroups.{HoldsOpenWriter}
-use Rattle.session_holds.specs.HoldStates.{HasSpoiledWrite}
+use Rattle.cube_core.specs.HoldStates.{HasSpoiledWrite}
 use Rattle.loaded_batches.specs.LoadFronts.{EndsPut}
 use Rattle.loaded_batches.specs.declared.turns.LoadTurn.{LoadTurn}
 use Rattle.loaded_batches.specs.declared.turns.LoadTurn.TheVariants as turn

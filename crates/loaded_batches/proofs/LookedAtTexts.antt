@@ -11,8 +11,8 @@ use Rattle.csv_load.specs.Loads.{LoadState}
 use Rattle.cube_core.specs.declared.cell.CoreCell.{CoreCell}
 use Rattle.cube_language.specs.declared.decl.Decl.{Decl}
 use Rattle.cube_values.specs.declared.row.CodedRow.{CodedRow}
-use Rattle.final_names.proofs.AskingOnly.{only-entries, only-none, only-plain}
-use Rattle.final_names.specs.AskedTexts.{AsksOnly}
+use Rattle.scripted_pasts.proofs.AskingOnly.{only-entries, only-none, only-plain}
+use Rattle.scripted_pasts.specs.AskedTexts.{AsksOnly}
 use Rattle.linked_shards.specs.CellShards.{CoreShardStands}
 use Rattle.linked_shards.specs.declared.cell.CoreShard.{CoreShard}
 use Rattle.row_encoding.proofs.LookedTexts.{looked_at_behind}

@@ -7,7 +7,7 @@ use Rattle.core_program.specs.CoreFits.{CoreEntry}
 use Rattle.csv_load.specs.Loads.{LoadState}
 use Rattle.cube_core.specs.declared.cell.CoreCell.{CoreCell}
 use Rattle.cube_language.specs.declared.decl.Decl.{Decl}
-use Rattle.final_names.specs.AskedTexts.{AsksOnly}
+use Rattle.scripted_pasts.specs.AskedTexts.{AsksOnly}
 use Rattle.linked_shards.specs.CellShards.{CoreShardStands}
 use Rattle.linked_shards.specs.declared.cell.CoreShard.{CoreShard}
 use Rattle.posted_pasts.specs.PostsAdded.{LearnsThat}

@@ -30,7 +30,7 @@ use Rattle.round_copies.specs.CopyAnswers.{copy_answer}
 use Rattle.round_copies.specs.RoundCopies.{HasOpened, HasRows, IsSoundCopy, IsToldOf, IsWithin, first_epoch}
 use Rattle.round_copies.specs.WithinRounds.{HasHistory, KnowsOfFlusher, StaysWithinRound}
 use Rattle.round_copies.specs.declared.span.RoundSpan.{RoundSpan}
-use Rattle.session_holds.specs.GroupEnds.{HasAllAnswers, MayBeginBy}
+use Rattle.cube_core.specs.GroupEnds.{HasAllAnswers, MayBeginBy}
 use Rattle.shard_events.specs.ShardsInRuns.{FitsShard, ShardAnswerSays}
 
 -- The calls of a group are within the round.

@@ -28,7 +28,7 @@ use Rattle.job_groups.specs.AskedEach.{HasMore}
 use Rattle.linked_shards.specs.CellShards.{CoreShardStands}
 use Rattle.linked_shards.specs.declared.cell.CoreShard.{CoreShard}
 use Rattle.round_copies.specs.WithinRounds.{KnowsOfFlusher, StaysWithinRound}
-use Rattle.session_holds.specs.HoldStates.{after_desk_call}
+use Rattle.cube_core.specs.HoldStates.{after_desk_call}
 use Rattle.shard_events.specs.ShardsInRuns.{FitsShard, ShardAnswerSays}
 
 abbrev pub IsState : Type 1

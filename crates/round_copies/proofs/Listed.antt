@@ -22,7 +22,7 @@ use Rattle.round_copies.proofs.RoundSteps.{HasRowsAndPlace, cubes-listed, open-w
 use Rattle.round_copies.specs.RoundCopies.{HasCubes, HasRows, IsToldOf, IsWithin}
 use Rattle.round_copies.specs.WithinRounds.{KnowsOfFlusher}
 use Rattle.round_copies.specs.declared.span.RoundSpan.{RoundSpan}
-use Rattle.session_holds.specs.HoldStates.{after_desk_call}
+use Rattle.cube_core.specs.HoldStates.{after_desk_call}
 use Rattle.shard_events.specs.ShardsInRuns.{FitsShard, ShardAnswerSays}
 
 list-found : {E : Type 0} (caller new_caller place : ℕ) (own now : List CoreEntry) (said : DeskAnswer) (found : Option (List Decl))

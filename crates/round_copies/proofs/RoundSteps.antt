@@ -16,9 +16,9 @@ use Rattle.flusher_rounds.specs.RoundStates.{after_names_call}
 use Rattle.joined_copies.specs.JoinedCopies.{ShardCopy}
 use Rattle.round_copies.specs.RoundCopies.{HasCubes, HasOpened, HasRows, IsToldOf, IsWithin, count_at, first_epoch}
 use Rattle.round_copies.specs.declared.span.RoundSpan.{RoundSpan}
-use Rattle.session_holds.proofs.Snapshots.{no-memory}
-use Rattle.session_holds.specs.GroupEnds.{HasAllAnswers}
-use Rattle.session_holds.specs.HoldStates.{after_desk_call}
+use Rattle.cube_core.proofs.Snapshots.{no-memory}
+use Rattle.cube_core.specs.GroupEnds.{HasAllAnswers}
+use Rattle.cube_core.specs.HoldStates.{after_desk_call}
 
 pub begins-there : (whole : Bool) (from : ℕ) → ((if whole then 0 else from) ≡ from) ⊎ ((if whole then 0 else from) ≡ 0)
 begins-there true from = inr refl

@@ -25,9 +25,9 @@ use Rattle.cube_journal.specs.declared.reply.Reply.{Reply}
 use Rattle.cube_run.specs.RunRecords.{LoadedFile, Missing, Sentence, script_of}
 use Rattle.played_scripts.proofs.Played.{merge_of_played, text_of_played}
 use Rattle.played_scripts.specs.PlayedRuns.{HavePlayed}
-use Rattle.final_names.proofs.NamesAtEnd.{names-stand}
-use Rattle.final_names.proofs.NamesFit.{final-names-fit}
-use Rattle.final_names.specs.NamesStand.{NamesStand}
+use Rattle.scripted_pasts.proofs.NamesAtEnd.{names-stand}
+use Rattle.scripted_pasts.proofs.NamesFit.{final-names-fit}
+use Rattle.scripted_pasts.specs.NamesStand.{NamesStand}
 use Rattle.posted_pasts.proofs.PostsAtEnd.{commits-stand}
 use Rattle.scripted_ends.proofs.EndedSessions.{AtTheEnd, at-the-end}
 use Rattle.scripted_ends.specs.PlayedHistories.{HaveAllPlayed, IsPlayedRun, IsRunOfHistory, of_session}

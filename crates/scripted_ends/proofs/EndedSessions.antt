@@ -20,8 +20,8 @@ use Rattle.cube_run.specs.RunRecords.{Sentence}
 use Rattle.cube_run.specs.SessionStates.{KeptWatch, SessionState}
 use Rattle.cube_run.specs.StatementEntries.{script_end}
 use Rattle.played_scripts.specs.Promises.{IsPlayed}
-use Rattle.final_names.proofs.NamesMore.{with-calls as names-with-calls}
-use Rattle.final_names.specs.NamesBehind.{NamesStandBehind}
+use Rattle.scripted_pasts.proofs.NamesMore.{with-calls as names-with-calls}
+use Rattle.scripted_pasts.specs.NamesBehind.{NamesStandBehind}
 use Rattle.posted_pasts.proofs.PostsMore.{with-calls}
 use Rattle.posted_pasts.specs.PostsBehind.{PostsStandBehind}
 use Rattle.scripted_ends.specs.EndedScripts.{EndsScript, HasPlayedToTheEnd}

@@ -2,3 +2,15 @@ pub mod QuietLearns
 pub mod SpokenMore
 pub mod PerformedPlainly
 pub mod PlayedMore
+pub mod NamesCome
+pub mod FittingNames
+pub mod BoundChanges
+pub mod NamedRows
+pub mod NamesFit
+pub mod NamesMore
+pub mod StepsNamed
+pub mod TextsOffered
+pub mod NamesAtEnd
+pub mod AskedCalls
+pub mod AskingOnly
+pub mod StepsAmong

@@ -25,8 +25,8 @@ use Rattle.cube_run.specs.RunRecords.{LoadedFile, RunRecord, Sentence, Says}
 use Rattle.cube_run.specs.RunText.{IsReply}
 use Rattle.cube_run.specs.SessionStates.{KeptWatch, SessionState, session_after}
 use Rattle.cube_run.specs.SessionSteps.{SessionStep}
-use Rattle.final_names.proofs.NamesMore.{none-more, with-statement as names-with-statement}
-use Rattle.final_names.proofs.StepsNamed.{nothing-named}
+use Rattle.scripted_pasts.proofs.NamesMore.{none-more, with-statement as names-with-statement}
+use Rattle.scripted_pasts.proofs.StepsNamed.{nothing-named}
 use Rattle.posted_pasts.proofs.AddedCalls.{plain-learns}
 use Rattle.posted_pasts.proofs.DoneSteps.{by-no-change, by-no-statement, by-reply}
 use Rattle.posted_pasts.proofs.PostsMore.{with-calls, with-statement}

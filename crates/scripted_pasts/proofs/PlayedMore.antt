@@ -23,7 +23,7 @@ use Rattle.cube_run.specs.RunRecords.{LoadedFile, Sentence}
 use Rattle.cube_run.specs.SessionStates.{KeptWatch, SessionState, fresh_session}
 use Rattle.played_scripts.proofs.Played.{nothing_played, one_more_played}
 use Rattle.played_scripts.specs.Promises.{IsExecuted, IsPlayed}
-use Rattle.final_names.proofs.NamesMore.{nothing-named, with-calls as names-with-calls}
+use Rattle.scripted_pasts.proofs.NamesMore.{nothing-named, with-calls as names-with-calls}
 use Rattle.posted_pasts.proofs.PostsMore.{nothing-posted, with-calls}
 use Rattle.scripted_pasts.proofs.QuietLearns.{quiet-asks, quiet-learns}
 use Rattle.scripted_pasts.proofs.SpokenMore.{no-calls-speak, quiet-calls-speak}

@@ -11,7 +11,7 @@ use Rattle.cube_core.specs.declared.cell.CoreCell.{CoreCell}
 use Rattle.cube_core.specs.declared.shard.ShardAnswer.{ShardAnswer}
 use Rattle.cube_core.specs.declared.shard.ShardCall.{ShardCall}
 use Rattle.cube_run.specs.SessionStates.{SessionState}
-use Rattle.final_names.specs.NamesBehind.{NamesStandBehind}
+use Rattle.scripted_pasts.specs.NamesBehind.{NamesStandBehind}
 use Rattle.posted_pasts.specs.PostsBehind.{PostsStandBehind}
 use Rattle.scripted_pasts.specs.ScriptClaims.{OpensForScripts}
 use Rattle.scripted_pasts.specs.SpokenCalls.{SpeakBySentences}

@@ -6,3 +6,7 @@ pub mod Served
 pub mod QuietCalls
 pub mod UnchangedRows
 pub mod PlayedScripts
+pub mod AskedTexts
+pub mod NamesStand
+pub mod NamesBehind
+pub mod StepTexts

@@ -16,7 +16,7 @@ use Rattle.known_cubes.specs.KnownCubes.{OpenWithStorableCubes}
 use Rattle.linked_shards.specs.CellShards.{CoreShardStands}
 use Rattle.linked_shards.specs.declared.cell.CoreShard.{CoreShard}
 use Rattle.scripted_pasts.specs.Performed.{Performs, PerformsWatched}
-use Rattle.session_holds.specs.HoldStates.{IsUnderOwnNumber}
+use Rattle.cube_core.specs.HoldStates.{IsUnderOwnNumber}
 use Rattle.shard_events.specs.ShardsInRuns.{FitsShard, ShardAnswerSays}
 
 -- The caller is the session's, each shard has its mail, and so has the flusher; and the cubes with which the core opens

@@ -25,8 +25,8 @@ use Rattle.session_snapshots.specs.KnownHolds.{KnowsState}
 use Rattle.cube_core.specs.declared.cell.CoreCell.{CoreCell}
 use Rattle.linked_shards.specs.declared.cell.CoreShard.{CoreShard}
 use Rattle.linked_shards.specs.CellShards.{CoreShardStands}
-use Rattle.session_holds.specs.GroupEnds.{HasWritten, MayBeginBy}
-use Rattle.session_holds.specs.HoldStates.{HasSpoiledWrite, IsWriting}
+use Rattle.cube_core.specs.GroupEnds.{HasWritten, MayBeginBy}
+use Rattle.cube_core.specs.HoldStates.{HasSpoiledWrite, IsWriting}
 use Rattle.shard_batches.specs.ShardBatches.{AreShardBatches, batch_at, is_of_shard, rows_of_shard}
 use Rattle.shard_events.specs.ShardsInRuns.{FitsShard, IsRowOfShard, ShardAnswerSays}
 use Rattle.session_batches.proofs.Appending.{call-at, kind-of-all}

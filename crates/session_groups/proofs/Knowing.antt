@@ -33,9 +33,9 @@ use Rattle.job_groups.specs.AskedEach.{AreShardMails, HasAskedEach, HasMore, May
 use Rattle.job_groups.specs.EachPosted.{LearnsOfEach}
 use Rattle.linked_shards.specs.CellShards.{CanCallCoreShard, CoreShardStands, CoreShardStep, linked-shards}
 use Rattle.linked_shards.specs.declared.cell.CoreShard.{CoreShard}
-use Rattle.session_holds.proofs.Groups.{may-delete, may-roll-back, may-scan, rolled-back, scanned, spoiled, written}
-use Rattle.session_holds.specs.GroupEnds.{HasAllAnswers, MayBeginBy}
-use Rattle.session_holds.specs.HoldStates.{HasRolledBack, HasSpoiledWrite, IsReadyWith, IsReading, IsWriting}
+use Rattle.cube_core.proofs.Groups.{may-delete, may-roll-back, may-scan, rolled-back, scanned, spoiled, written}
+use Rattle.cube_core.specs.GroupEnds.{HasAllAnswers, MayBeginBy}
+use Rattle.cube_core.specs.HoldStates.{HasRolledBack, HasSpoiledWrite, IsReadyWith, IsReading, IsWriting}
 use Rattle.session_groups.proofs.CubesInRuns.{cuts-none, parts-of, query-of}
 use Rattle.session_groups.proofs.InTurn.{any-undone, found-as, get-same, kind-same, rows-in-turn, stand-in-turn, undone-drop, undone-rollback}
 use Rattle.session_groups.proofs.DoneRollbacks.{rollbacks-are-done}

@@ -32,8 +32,8 @@ use Rattle.session_groups.proofs.InTurn.{any-undone, kind-same, stand-in-turn}
 use Rattle.session_groups.proofs.Knowing.{after, all-answers, may-ask, run-now}
 use Rattle.session_groups.specs.AnswersInTurn.{is_undone}
 use Rattle.session_groups.specs.ShardGroups.{KnowsOfShards}
-use Rattle.session_holds.proofs.Requests.{may-note-purge, may-purge, purged}
-use Rattle.session_holds.specs.HoldStates.{IsReadyWith, IsReading, IsWriting}
+use Rattle.cube_core.proofs.Requests.{may-note-purge, may-purge, purged}
+use Rattle.cube_core.specs.HoldStates.{IsReadyWith, IsReading, IsWriting}
 use Rattle.session_requests.proofs.Outcomes.{purges-are-done}
 use Rattle.session_requests.specs.SessionRequests.{KnowsSafe, MayNotePurged, WasShownSafe}
 use Rattle.shard_events.specs.ShardsInRuns.{FitsShard, ShardAnswerSays}

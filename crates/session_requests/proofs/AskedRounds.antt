@@ -31,11 +31,11 @@ use Rattle.session_snapshots.specs.KnownHolds.{HoldsReady, HoldsTheSame}
 use Rattle.linked_shards.specs.CellShards.{CanCallCoreShard, CoreShardStands, CoreShardStep, linked-shards}
 use Rattle.linked_shards.specs.declared.cell.CoreShard.{CoreShard}
 use Rattle.mail_cell.specs.declared.answer.Fetched.TheVariants.{Got, NotYet}
-use Rattle.session_holds.proofs.Groups.{ready-ended}
-use Rattle.session_holds.proofs.Requests.{answered, learns, may-ask, may-note-round, may-refuse}
-use Rattle.session_holds.proofs.Snapshots.{same-number}
-use Rattle.session_holds.specs.GroupEnds.{with_round_answer}
-use Rattle.session_holds.specs.HoldStates.{IsReadyWith, IsReading, IsWriting}
+use Rattle.cube_core.proofs.Groups.{ready-ended}
+use Rattle.cube_core.proofs.Requests.{answered, learns, may-ask, may-note-round, may-refuse}
+use Rattle.cube_core.proofs.Snapshots.{same-number}
+use Rattle.cube_core.specs.GroupEnds.{with_round_answer}
+use Rattle.cube_core.specs.HoldStates.{IsReadyWith, IsReading, IsWriting}
 use Rattle.session_requests.proofs.Outcomes.{round-ends}
 use Rattle.session_requests.specs.SessionRequests.{IsRoundOutcome, LearnsOfRound, MayNoteRound, TellsRound, round_outcome, round_told}
 use Rattle.shard_events.specs.ShardsInRuns.{FitsShard, ShardAnswerSays}

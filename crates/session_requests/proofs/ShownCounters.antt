@@ -14,7 +14,7 @@ use Rattle.cube_journal.specs.declared.counters.Counters.{Counters}
 use Rattle.cube_journal.specs.declared.note.Note.{Note}
 use Rattle.linked_shards.specs.CellShards.{CoreShardStands}
 use Rattle.linked_shards.specs.declared.cell.CoreShard.{CoreShard}
-use Rattle.session_holds.proofs.Snapshots.{same-number}
+use Rattle.cube_core.proofs.Snapshots.{same-number}
 use Rattle.session_requests.specs.SessionRequests.{IsToldSafe}
 use Rattle.shard_events.specs.ShardsInRuns.{FitsShard, ShardAnswerSays}
 

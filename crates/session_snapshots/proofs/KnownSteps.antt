@@ -24,9 +24,9 @@ use Rattle.core_program.specs.CoreFits.{CoreEntry}
 use Rattle.cube_core.specs.declared.cell.CoreCell.{CoreCell}
 use Rattle.cube_core.specs.declared.shard.ShardAnswer.{ShardAnswer}
 use Rattle.cube_core.specs.declared.shard.ShardCall.{ShardCall}
-use Rattle.session_holds.specs.HoldStates.{IsReadyWith, IsReading, IsWriting, after_desk_call}
-use Rattle.session_holds.proofs.Looking.{finds, misses, notes}
-use Rattle.session_holds.proofs.Snapshots.{no-memory}
+use Rattle.cube_core.specs.HoldStates.{IsReadyWith, IsReading, IsWriting, after_desk_call}
+use Rattle.cube_core.proofs.Looking.{finds, misses, notes}
+use Rattle.cube_core.proofs.Snapshots.{no-memory}
 use Rattle.session_snapshots.specs.KnownHolds.{HoldsTheSame, KnowsState}
 
 module _ {S : Type 0} (fits : Opening → ℕ → ShardCall → Type 0) (stands : Opening → ℕ → ℕ → S → ShardView → Type 0)

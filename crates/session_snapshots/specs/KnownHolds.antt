@@ -11,7 +11,7 @@ use Rattle.core_program.specs.CoreFits.{CoreEntry}
 use Rattle.cube_core.specs.declared.cell.CoreCell.{CoreCell}
 use Rattle.cube_core.specs.declared.shard.ShardAnswer.{ShardAnswer}
 use Rattle.cube_core.specs.declared.shard.ShardCall.{ShardCall}
-use Rattle.session_holds.specs.HoldStates.{HasRolledBack, HasSpoiledWrite, IsIdle, IsReadyWith, IsReading, IsWriting}
+use Rattle.cube_core.specs.HoldStates.{HasRolledBack, HasSpoiledWrite, IsIdle, IsReadyWith, IsReading, IsWriting}
 
 module _ {S : Type 0} (fits : Opening → ℕ → ShardCall → Type 0) (stands : Opening → ℕ → ℕ → S → ShardView → Type 0)
     (says : CoreJob → ShardAnswer → JobOutcome → Type 0) (cells : List (CoreCell S)) where

@@ -32,7 +32,7 @@ use Rattle.session_groups.proofs.InTurn.{stand-in-turn}
 use Rattle.session_groups.proofs.Knowing.{after, all-answers, may-ask, run-now}
 use Rattle.session_groups.specs.AnswersInTurn.{HoldInTurn}
 use Rattle.session_groups.specs.ShardGroups.{HasAskedAll, KnowsOfShards, MayHaveAsked, MayQuery}
-use Rattle.session_holds.specs.HoldStates.{IsReadyWith, IsReading, IsWriting}
+use Rattle.cube_core.specs.HoldStates.{IsReadyWith, IsReading, IsWriting}
 use Rattle.session_watches.proofs.KeptHolders.{each-keeps}
 use Rattle.session_watches.specs.ComparedShards.{HasFoundChange}
 use Rattle.session_watches.specs.DeltaAnswers.{AreGroupsOfShards, HaveCompared, MergeAllChanges, StandsForCompared, rows_come, rows_gone}

@@ -16,8 +16,8 @@ use Rattle.cube_core.specs.declared.cell.CoreCell.{CoreCell}
 use Rattle.cube_core.specs.declared.shard.ShardAnswer.{ShardAnswer}
 use Rattle.cube_core.specs.declared.shard.ShardCall.{ShardCall}
 use Rattle.session_snapshots.specs.KnownHolds.{HoldsReady, HoldsTheSame}
-use Rattle.session_holds.specs.HoldStates.{IsReadyWith, after_desk_call}
-use Rattle.session_holds.proofs.Snapshots.{no-memory}
+use Rattle.cube_core.specs.HoldStates.{IsReadyWith, after_desk_call}
+use Rattle.cube_core.proofs.Snapshots.{no-memory}
 use Rattle.session_snapshots.proofs.KnownSteps.{after-call, holds-on, if-not-answered, may-call}
 use Rattle.session_watches.specs.KnownReaders.{HoldersGain, HoldersHave, HoldersKeep, opened_reader}
 use Rattle.watch_holds.specs.HolderStates.{HasReaderUnder, HasReaders, HeldReaders, IsFreeBeside, IsHolderOf, NoReader, OneReader, TwoReaders, readers_with}

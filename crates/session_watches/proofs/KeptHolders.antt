@@ -28,7 +28,7 @@ use Rattle.cube_core.specs.declared.shard.ShardCall.{ShardCall}
 use Rattle.job_groups.specs.AskedEach.{HasAskedShards, HasMore, whole_group}
 use Rattle.job_groups.specs.AskedSome.{LearnsOfSome, group_of_some}
 use Rattle.job_groups.specs.EachPosted.{LearnsOfEach}
-use Rattle.session_holds.specs.HoldStates.{IsUnderOwnNumber}
+use Rattle.cube_core.specs.HoldStates.{IsUnderOwnNumber}
 use Rattle.session_watches.specs.KnownReaders.{HoldersHave, HoldersKeep, IsOfOwnNumber}
 use Rattle.watch_holds.specs.HolderStates.{HasReaders, LeadingReader, NoReader, OneReader}
 use Rattle.watch_holds.proofs.HolderCalls.{begins}

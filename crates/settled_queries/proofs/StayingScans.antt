@@ -21,7 +21,7 @@ use Rattle.linked_shards.specs.CellShards.{CoreShardStands}
 use Rattle.linked_shards.specs.declared.cell.CoreShard.{CoreShard}
 use Rattle.session_groups.proofs.FoundFolds.{scan-stands}
 use Rattle.session_groups.specs.ShardGroups.{HasFoundRows, KnowsOfShards}
-use Rattle.session_holds.specs.HoldStates.{IsReading, IsReadyWith, IsWriting}
+use Rattle.cube_core.specs.HoldStates.{IsReading, IsReadyWith, IsWriting}
 use Rattle.settled_queries.proofs.SettledRows.{reader-settled, writer-settled}
 use Rattle.settled_queries.specs.FoundSoFar.{HasFoundSoFar}
 use Rattle.settled_queries.specs.Moments.{PassesMoment}

@@ -22,7 +22,7 @@ use Rattle.shard_views.specs.Views.{IsUniform, IsWholeContent, ShowAlikeAbove, b
 use Rattle.shard_views.proofs.Alike.{view_from}
 use Rattle.shard_views.proofs.CopiedParts.{copies_the_same, part_epochs, part_whole}
 use Rattle.shard_cell.specs.Slots.{HasShape}
-use Rattle.viewed_shards.proofs.ShardAnswers.{round_alike}
+use Rattle.shard_events.proofs.ShardAnswers.{round_alike}
 use Rattle.shard_events.specs.ShardsInRuns.{HasNoZeroRun, IsWholePart}
 use Rattle.shard_events.proofs.RowlessBricks.{none_shown, none_in_round, no_rows_viewed}
 use Rattle.shard_events.proofs.ZeroRows.{later_viewed, all_copied, uniform_up_to}

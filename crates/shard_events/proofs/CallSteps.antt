@@ -16,8 +16,8 @@ use Rattle.cube_core.specs.BoardCells.{SeesAllUpTo, view_after_work}
 use Rattle.shard_cell.specs.Answers.{brick_after_append, brick_after_drop}
 use Rattle.shard_cell.specs.Shards.{ShardState, shard_brick}
 use Rattle.shard_views.specs.Views.{IsUniform}
-use Rattle.viewed_shards.specs.ViewedShards.{IsViewedAs, view_after_append, view_after_drop, view_after_purge, view_after_rollback}
-use Rattle.viewed_shards.proofs.ShardCalls.{purges_are_viewed, shards_are_viewed}
+use Rattle.shard_events.specs.ViewedShards.{IsViewedAs, view_after_append, view_after_drop, view_after_purge, view_after_rollback}
+use Rattle.shard_events.proofs.ViewedCalls.{purges_are_viewed, shards_are_viewed}
 use Rattle.shard_events.specs.ShardCalls.{KeepsSettings, KeepsSettingsWith}
 use Rattle.shard_events.specs.ShardsInRuns.{IsShapeInRun, IsRowOfShard, HasNoZeroRun, StandsInRun}
 use Rattle.shard_events.proofs.OwnViews.{full_view, own_full, viewed_whole, viewed_stands, done_view}

@@ -5,3 +5,9 @@ pub mod BrickCopies
 pub mod OwnViews
 pub mod CallSteps
 pub mod LinkedCalls
+pub mod Merged
+pub mod Spared
+pub mod PurgedViews
+pub mod Purges
+pub mod ViewedCalls
+pub mod ShardAnswers

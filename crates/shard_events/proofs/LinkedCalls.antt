@@ -19,7 +19,7 @@ use Rattle.cube_core.specs.BoardCells.{call_job, IsCallInRun, IsShardStep, view_
 use Rattle.shard_cell.specs.Answers.{brick_rows_apart, brick_rows_shown, reader_at}
 use Rattle.shard_cell.specs.Shards.{ShardState, HasShapeAt, cube_at, shard_brick}
 use Rattle.shard_cell.specs.Slots.{HasShape}
-use Rattle.viewed_shards.proofs.ShardAnswers.{shards_answer_as_viewed}
+use Rattle.shard_events.proofs.ShardAnswers.{shards_answer_as_viewed}
 use Rattle.shard_events.specs.ShardCalls.{CanAskShard, CanCallShard, HasGroupsOf, ShardStep}
 use Rattle.shard_events.specs.ShardsInRuns.{AreGroupsFor, FitsQuery, FitsShard, IsShapeInRun, ShardAnswerSays, ShardsAreLinked, StandsInRun, view_of_copies}
 use Rattle.shard_events.proofs.BrickCopies.{brick_copied, none_past, part_is_whole, there_by_shape}

@@ -10,7 +10,7 @@ use Rattle.cube_core.specs.BoardCells.{view_after_work}
 use Rattle.shard_cell.specs.Shards.{ShardState, HasShapes, shard_brick}
 use Rattle.shard_views.specs.Views.{IsWholeContent, ShowAlikeAbove, brick_view}
 use Rattle.shard_views.proofs.Above.{rise_above}
-use Rattle.viewed_shards.specs.ViewedShards.{IsViewedAs, shard_view}
+use Rattle.shard_events.specs.ViewedShards.{IsViewedAs, shard_view}
 use Rattle.shard_events.specs.ShardsInRuns.{HasNoZeroRun, StandsInRun}
 
 abbrev pub full_view : Opening → ℕ → ShardState → ShardView → ShardView

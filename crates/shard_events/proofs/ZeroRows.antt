@@ -8,7 +8,7 @@ use Rattle.core_events.specs.ShardView.{BrickEntry, RowRun, RowMark, EpochSet, H
 use Rattle.shard_views.specs.Views.{IsUniform, brick_view}
 use Rattle.shard_views.proofs.Alike.{view_from, where_none}
 use Rattle.shard_views.proofs.Tests.{and_true}
-use Rattle.viewed_shards.proofs.ShardAnswers.{round_shown}
+use Rattle.shard_events.proofs.ShardAnswers.{round_shown}
 use Rattle.shard_events.specs.ShardsInRuns.{HasNoZeroRun}
 
 -- a brick whose entries have no run of epoch 0

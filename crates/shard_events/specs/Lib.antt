@@ -1,2 +1,3 @@
 pub mod ShardCalls
 pub mod ShardsInRuns
+pub mod ViewedShards

@@ -30,7 +30,7 @@ use Rattle.core_events.specs.ShardView.{ShardView}
 use Rattle.cube_core.specs.BoardCells.{IsShardLinked}
 use Rattle.shard_cell.specs.Shards.{ShardState, HasShapes, shard_brick}
 use Rattle.shard_views.specs.Views.{IsWholeContent, ShowAlikeAbove, part_view}
-use Rattle.viewed_shards.specs.ViewedShards.{shard_view}
+use Rattle.shard_events.specs.ViewedShards.{shard_view}
 use Rattle.shard_events.specs.ShardCalls.{CanCallShard, ShardStep}
 
 -- The shape of a cube of the run.

@@ -2,5 +2,7 @@
 #![tactic(auto)]
 
 mod law;
+mod viewing;
 
 pub use law::shards_are_linked;
+pub use viewing::{purges_are_the_same, shards_answer_as_viewed, shards_are_viewed};

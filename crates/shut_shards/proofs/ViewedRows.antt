@@ -15,7 +15,7 @@ use Rattle.shard_cell.specs.Shards.{ShardState, shard_brick}
 use Rattle.shard_events.specs.ShardsInRuns.{StandsInRun}
 use Rattle.shard_views.specs.Views.{IsUniform, IsWholeContent, brick_view}
 use Rattle.shard_views.proofs.Alike.{rows_split, view_from}
-use Rattle.viewed_shards.specs.ViewedShards.{shard_view}
+use Rattle.shard_events.specs.ViewedShards.{shard_view}
 use Rattle.final_shards.specs.PurgedBricks.{HasNoMark, rows_held_up_to}
 use Rattle.shut_shards.specs.ShutShards.{HasNoMarksUpTo, IsNoMarkUpTo, IsRunEntry, rows_in_shard, rows_in_shard_up_to}
 

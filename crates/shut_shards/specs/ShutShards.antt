@@ -19,7 +19,7 @@ use Rattle.linked_shards.specs.CellShards.{CoreShardStands}
 use Rattle.linked_shards.specs.declared.cell.CoreShard.{CoreShard}
 use Rattle.shard_cell.specs.Shards.{ShardState, shard_brick}
 use Rattle.shard_events.specs.ShardsInRuns.{FitsShard, ShardAnswerSays}
-use Rattle.viewed_shards.specs.ViewedShards.{shard_view}
+use Rattle.shard_events.specs.ViewedShards.{shard_view}
 use Rattle.core_agreements.specs.PostsForOperations.{StandForAll}
 use Rattle.final_shards.specs.PurgedBricks.{rows_held_up_to}
 

@@ -9,8 +9,8 @@ use Rattle.core_events.specs.Clients.{Holding, ClientState, held_under, holds_wi
 use Rattle.core_events.specs.Events.{Opening, IsSession}
 use Rattle.core_events.specs.Fitting.{FitsCall}
 use Rattle.cube_core.specs.DeskEvents.{FitsDeskCall, desk_event}
-use Rattle.session_holds.specs.HoldStates.{IsReadyWith, after_desk_call}
-use Rattle.session_holds.proofs.Snapshots.{same-number}
+use Rattle.cube_core.specs.HoldStates.{IsReadyWith, after_desk_call}
+use Rattle.cube_core.proofs.Snapshots.{same-number}
 use Rattle.watch_holds.specs.HolderStates.{HasReaderUnder, HasReaders, HeldReaders, HoldReaders, HoldsOneReader, HoldsTwoReaders, IsFreeBeside, IsHolderOf, LeadingReader, LeadsAtMost, NoReader, OneReader, TwoReaders, reader_under, readers_with}
 use Rattle.watch_holds.proofs.OtherHolds.{apart, held-behind, held-first, held-in-others, none-hold, not-own, others-less, others-with, some-hold, without-behind, without-first}
 

@@ -8,9 +8,9 @@ use Rattle.core_events.specs.Events.{Opening, IsSession}
 use Rattle.core_events.specs.Fitting.{IsQueryOf}
 use Rattle.core_events.specs.Groups.{Compares, JobGroup, has_all_below, has_refusal, is_complete, is_empty, is_ready, is_spoiled, mails_of}
 use Rattle.core_events.specs.Jobs.{Delta, Scan}
-use Rattle.session_holds.specs.GroupEnds.{HasAllAnswers, MayBeginBy}
-use Rattle.session_holds.specs.HoldStates.{IsReadyWith}
-use Rattle.session_holds.proofs.Groups.{in-group, ready-ended}
+use Rattle.cube_core.specs.GroupEnds.{HasAllAnswers, MayBeginBy}
+use Rattle.cube_core.specs.HoldStates.{IsReadyWith}
+use Rattle.cube_core.proofs.Groups.{in-group, ready-ended}
 use Rattle.watch_holds.specs.HolderStates.{HasReaders, LeadingReader, TwoReaders, reader_under}
 use Rattle.watch_holds.proofs.OtherHolds.{held-first, held-in-others, not-own}
 

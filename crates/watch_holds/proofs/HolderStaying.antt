@@ -8,9 +8,9 @@ use Rattle.core_cells.specs.declared.desk.DeskCall.TheVariants as call
 use Rattle.core_events.proofs.Lookups.{held-under-append, held-under-without, with_one, without_one}
 use Rattle.core_events.specs.Clients.{Holding, ClientState, after_client_call, held_under, holds_with, holds_without, leader_after, others_hold, reader_up_to}
 use Rattle.core_events.specs.Events.{Opening, OpenWrite, OpenRead, Commit, AbortEnd, CloseRead, TakeNote, CreateCube, FindCube, CubesFrom, CountersNow, RoundOpen, RoundClose, StoreFailed, ClientCall, OnDesk, OnNames, Post, Fetch, CloseMail, NoChange}
-use Rattle.session_holds.specs.HoldStates.{IsReadyWith, IsUnderOwnNumber, after_desk_call}
-use Rattle.session_holds.proofs.Snapshots.{same-number}
-use Rattle.session_holds.proofs.Staying.{holders-stay}
+use Rattle.cube_core.specs.HoldStates.{IsReadyWith, IsUnderOwnNumber, after_desk_call}
+use Rattle.cube_core.proofs.Snapshots.{same-number}
+use Rattle.cube_core.proofs.Staying.{holders-stay}
 use Rattle.watch_holds.specs.HolderStates.{HasReaders, HeldReaders, HoldReaders, IsHolderOf, LeadingReader, LeadsAtMost, NoReader, OneReader, TwoReaders}
 use Rattle.watch_holds.proofs.OtherHolds.{apart, not-own}
 

@@ -4,7 +4,7 @@ use Rattle.std.specs.List.{list_any}
 use Rattle.std.proofs.lemmas.List.Elements.{filter-append}
 use Rattle.core_events.proofs.Lookups.{held-under-without, without_one}
 use Rattle.core_events.specs.Clients.{Holding, held_under, holds_with, holds_without, others_hold, reader_up_to}
-use Rattle.session_holds.proofs.Snapshots.{same-number}
+use Rattle.cube_core.proofs.Snapshots.{same-number}
 use Rattle.watch_holds.specs.HolderStates.{IsHolderOf, reader_under}
 
 pub not-own : (a number : ℕ) → IsHolderOf a number → number ≢ a

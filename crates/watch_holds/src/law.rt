@@ -10,8 +10,8 @@ ghost use Rattle.core_events.specs.Events.{Opening, IsSession};
 ghost use Rattle.core_events.specs.Fitting.{IsQueryOf};
 ghost use Rattle.core_events.specs.Jobs.{Delta, Scan};
 ghost use Rattle.cube_core.specs.DeskEvents.{FitsDeskCall};
-ghost use Rattle.session_holds.specs.GroupEnds.{MayBeginBy};
-ghost use Rattle.session_holds.specs.HoldStates.{IsReadyWith, after_desk_call};
+ghost use Rattle.cube_core.specs.GroupEnds.{MayBeginBy};
+ghost use Rattle.cube_core.specs.HoldStates.{IsReadyWith, after_desk_call};
 ghost use Rattle.watch_holds.specs.HolderStates.{HasReaderUnder, HasReaders, HeldReaders, IsFreeBeside, IsHolderOf, LeadingReader, NoReader, OneReader, TwoReaders, readers_with};
 
 /// A session's holders begin with no reader. A session that is ready may open one under a holder's

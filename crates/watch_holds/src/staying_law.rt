@@ -8,8 +8,8 @@ ghost use Rattle.core_cells.specs.declared.desk.DeskCall.TheVariants as call;
 ghost use Rattle.core_events.specs.Clients.{ClientState, after_client_call};
 ghost use Rattle.core_events.specs.Events.{Opening, ClientCall};
 ghost use Rattle.core_events.specs.Groups.{Compares, JobGroup};
-ghost use Rattle.session_holds.specs.GroupEnds.{HasAllAnswers};
-ghost use Rattle.session_holds.specs.HoldStates.{IsReadyWith, IsUnderOwnNumber, after_desk_call};
+ghost use Rattle.cube_core.specs.GroupEnds.{HasAllAnswers};
+ghost use Rattle.cube_core.specs.HoldStates.{IsReadyWith, IsUnderOwnNumber, after_desk_call};
 ghost use Rattle.watch_holds.specs.HolderStates.{HasReaders, HeldReaders, IsHolderOf, LeadingReader, OneReader};
 
 /// Whatever a session holds under its own number, it holds, and is ready, when a reader is opened or

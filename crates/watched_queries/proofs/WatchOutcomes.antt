@@ -15,7 +15,7 @@ use Rattle.session_snapshots.specs.KnownHolds.{HoldsTheSame}
 use Rattle.linked_shards.specs.CellShards.{CoreShardStands}
 use Rattle.linked_shards.specs.declared.cell.CoreShard.{CoreShard}
 use Rattle.session_groups.specs.ShardGroups.{KnowsOfShards, MayHaveAsked, MayQuery}
-use Rattle.session_holds.proofs.Staying.{cubes-stay}
+use Rattle.cube_core.proofs.Staying.{cubes-stay}
 use Rattle.shard_events.specs.ShardsInRuns.{FitsShard, ShardAnswerSays}
 use Rattle.cube_run.specs.SessionStates.{first_holder, other_holder, second_holder}
 use Rattle.watch_holds.specs.HolderStates.{IsHolderOf}

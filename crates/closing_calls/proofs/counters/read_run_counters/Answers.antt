@@ -4,7 +4,7 @@ use Rattle.closing_calls.proofs.MainSteps.{stays-by-counters}
 use Rattle.closing_calls.specs.ClosingCalls.{MainStays}
 use Rattle.core_cells.specs.declared.desk.DeskCall.TheVariants as call
 use Rattle.core_events.specs.Clients.{calls_of, state_from_calls}
-use Rattle.session_holds.proofs.Looking.{may-count}
+use Rattle.cube_core.proofs.Looking.{may-count}
 use Rattle.session_requests.specs.SessionRequests.{KnowsSafe}
 use Rattle.closing_calls.proofs.counters.read_run_counters.Goals as goal
 

@@ -9,7 +9,7 @@ use Rattle.cube_core.specs.CoreSteps.{CoreStep}
 use Rattle.cube_core.specs.declared.cell.CoreAnswer.{CoreAnswer}
 use Rattle.cube_core.specs.declared.cell.CoreCall.TheVariants as call
 use Rattle.linked_shards.specs.CellShards.{CoreShardStands, CoreShardStep}
-use Rattle.session_holds.proofs.Looking.{may-count}
+use Rattle.cube_core.proofs.Looking.{may-count}
 use Rattle.shard_events.specs.ShardsInRuns.{FitsShard, ShardAnswerSays}
 use Rattle.turn_board.specs.History.{event}
 use Rattle.core_selects.proofs.history.read_after_scan.Goals as goal

@@ -4,7 +4,7 @@ use Rattle.core_cubes.proofs.CallsGoOn.{go-on-as}
 use Rattle.core_cubes.specs.StatementCalls.{IsCallFor}
 use Rattle.linked_shards.specs.CellShards.{CoreShardStands}
 use Rattle.shard_events.specs.ShardsInRuns.{FitsShard, ShardAnswerSays}
-use Rattle.session_holds.specs.HoldStates.{IsUnderOwnNumber}
+use Rattle.cube_core.specs.HoldStates.{IsUnderOwnNumber}
 use Rattle.core_selects.proofs.law.calls_leave_the_watch.Goals as goal
 
 pub returns-clause-reading : goal.returns-clause-reading

@@ -1,7 +1,7 @@
 use Rattle.core_cells.specs.declared.desk.DeskAnswer.TheVariants as answer
 use Rattle.core_cells.specs.declared.desk.DeskCall.TheVariants as call
-use Rattle.session_holds.proofs.Snapshots.{closes}
-use Rattle.session_holds.specs.HoldStates.{IsIdle, IsReading}
+use Rattle.cube_core.proofs.Snapshots.{closes}
+use Rattle.cube_core.specs.HoldStates.{IsIdle, IsReading}
 use Rattle.session_snapshots.proofs.KnownSteps.{after-call, may-call}
 use Rattle.session_snapshots.proofs.endings.close_reader.Goals as goal
 

@@ -1,7 +1,7 @@
 use Rattle.core_cells.specs.declared.desk.DeskAnswer.TheVariants as answer
 use Rattle.core_cells.specs.declared.desk.DeskCall.TheVariants as call
-use Rattle.session_holds.proofs.Snapshots.{aborts}
-use Rattle.session_holds.specs.HoldStates.{HasRolledBack, IsIdle}
+use Rattle.cube_core.proofs.Snapshots.{aborts}
+use Rattle.cube_core.specs.HoldStates.{HasRolledBack, IsIdle}
 use Rattle.session_snapshots.proofs.KnownSteps.{after-call, may-call}
 use Rattle.session_snapshots.proofs.endings.end_writer.Goals as goal
 

@@ -1,7 +1,7 @@
 use Rattle.core_cells.specs.declared.desk.DeskAnswer.TheVariants as answer
 use Rattle.core_cells.specs.declared.desk.DeskCall.TheVariants as call
-use Rattle.session_holds.proofs.Looking.{creates, may-create}
-use Rattle.session_holds.specs.HoldStates.{IsIdle}
+use Rattle.cube_core.proofs.Looking.{creates, may-create}
+use Rattle.cube_core.specs.HoldStates.{IsIdle}
 use Rattle.session_snapshots.proofs.KnownSteps.{either-way, may-call}
 use Rattle.session_snapshots.proofs.looks.create_cube.Goals as goal
 

@@ -1,8 +1,8 @@
 use Rattle.std.specs.Option.{option_map_or}
 use Rattle.core_cells.specs.declared.desk.DeskAnswer.TheVariants as answer
 use Rattle.core_cells.specs.declared.desk.DeskCall.TheVariants as call
-use Rattle.session_holds.proofs.Looking.{may-find}
-use Rattle.session_holds.specs.HoldStates.{IsReadyWith}
+use Rattle.cube_core.proofs.Looking.{may-find}
+use Rattle.cube_core.specs.HoldStates.{IsReadyWith}
 use Rattle.session_snapshots.proofs.KnownSteps.{holds-on, may-call, ready-by-search}
 use Rattle.session_snapshots.proofs.looks.find_cube.Goals as goal
 

@@ -2,7 +2,7 @@ use Rattle.std.specs.Option.{option_map_or}
 use Rattle.core_cells.specs.declared.desk.DeskAnswer.TheVariants as answer
 use Rattle.core_cells.specs.declared.desk.DeskCall.TheVariants as call
 use Rattle.core_events.specs.Clients.{calls_of, state_from_calls}
-use Rattle.session_holds.proofs.Looking.{may-note}
+use Rattle.cube_core.proofs.Looking.{may-note}
 use Rattle.session_snapshots.proofs.KnownSteps.{holds-on, ready-by-note}
 use Rattle.session_snapshots.proofs.looks.leave_note.Goals as goal
 

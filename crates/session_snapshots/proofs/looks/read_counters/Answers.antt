@@ -1,7 +1,7 @@
 use Rattle.core_cells.specs.declared.desk.DeskAnswer.TheVariants as answer
 use Rattle.core_cells.specs.declared.desk.DeskCall.TheVariants as call
 use Rattle.core_events.specs.Clients.{calls_of, state_from_calls}
-use Rattle.session_holds.proofs.Looking.{counts, may-count}
+use Rattle.cube_core.proofs.Looking.{counts, may-count}
 use Rattle.session_snapshots.proofs.KnownSteps.{holds-on}
 use Rattle.session_snapshots.proofs.looks.read_counters.Goals as goal
 

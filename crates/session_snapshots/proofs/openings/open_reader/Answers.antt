@@ -1,8 +1,8 @@
 use Rattle.core_cells.specs.declared.desk.DeskAnswer.TheVariants as answer
 use Rattle.core_cells.specs.declared.desk.DeskCall.TheVariants as call
 use Rattle.core_events.specs.Clients.{reader_up_to}
-use Rattle.session_holds.proofs.Snapshots.{may-read, reads}
-use Rattle.session_holds.specs.HoldStates.{IsIdle, IsReading}
+use Rattle.cube_core.proofs.Snapshots.{may-read, reads}
+use Rattle.cube_core.specs.HoldStates.{IsIdle, IsReading}
 use Rattle.session_snapshots.proofs.KnownSteps.{held-itself, if-answered, if-not-answered, may-call}
 use Rattle.session_snapshots.proofs.openings.open_reader.Goals as goal
 use Rattle.session_snapshots.specs.KnownHolds.{HoldsReader}

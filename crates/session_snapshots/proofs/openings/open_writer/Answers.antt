@@ -1,8 +1,8 @@
 use Rattle.core_cells.specs.declared.desk.DeskAnswer.TheVariants as answer
 use Rattle.core_cells.specs.declared.desk.DeskCall.TheVariants as call
 use Rattle.core_events.specs.Clients.{writer_at}
-use Rattle.session_holds.proofs.Snapshots.{may-write, writes}
-use Rattle.session_holds.specs.HoldStates.{IsIdle, IsWriting}
+use Rattle.cube_core.proofs.Snapshots.{may-write, writes}
+use Rattle.cube_core.specs.HoldStates.{IsIdle, IsWriting}
 use Rattle.session_snapshots.proofs.KnownSteps.{held-itself, if-answered, if-not-answered, may-call}
 use Rattle.session_snapshots.proofs.openings.open_writer.Goals as goal
 use Rattle.session_snapshots.specs.KnownHolds.{HoldsWriter}

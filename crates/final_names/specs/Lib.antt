@@ -1,4 +1,0 @@
-pub mod AskedTexts
-pub mod NamesStand
-pub mod NamesBehind
-pub mod StepTexts

@@ -1,8 +1,0 @@
-use Rattle.session_holds.proofs.Groups.{may-roll-back, rolled-back}
-use Rattle.session_holds.proofs.group_law.sessions_roll_back_on_their_shards.Goals as goal
-
-pub returns-clause-may_roll_back : goal.returns-clause-may_roll_back
-returns-clause-may_roll_back c = may-roll-back
-
-pub returns-clause-rolled_back : goal.returns-clause-rolled_back
-returns-clause-rolled_back c = rolled-back

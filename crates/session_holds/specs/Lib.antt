@@ -1,2 +1,0 @@
-pub mod HoldStates
-pub mod GroupEnds

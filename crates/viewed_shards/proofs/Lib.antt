@@ -1,6 +1,0 @@
-pub mod Merged
-pub mod Spared
-pub mod PurgedViews
-pub mod Purges
-pub mod ShardCalls
-pub mod ShardAnswers
