@@ -6,4 +6,3 @@ pub mod PlayedTexts
 pub mod FreshSessions
 pub mod PlayedWorks
 pub mod BegunWorks
-pub mod ReadScripts

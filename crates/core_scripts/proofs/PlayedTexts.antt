@@ -5,7 +5,8 @@ use Rattle.core_program.specs.CoreFits.{CoreEntry}
 use Rattle.core_endings.specs.ScriptEnds.{HoldsReaderUnder, IsWatchUnder}
 use Rattle.counted_scripts.specs.CountedLoads.{CountsFor, CountsInTurn}
 use Rattle.core_scripts.specs.PlayedWhole.{CountsOfShelf}
-use Rattle.core_scripts.specs.PlayingSessions.{IsPlaying, IsProperSaid, PlaysOn, holder_kept}
+use Rattle.core_scripts.specs.PlayingSessions.{IsPlaying, PlaysOn, holder_kept}
+use Rattle.script_sentences.specs.GivenTexts.{IsProperSaid}
 use Rattle.core_scripts.specs.ToldFiles.{ShelfTold}
 use Rattle.core_scripts.specs.declared.player.ScriptPlayer.{ScriptPlayer}
 use Rattle.core_states.specs.ExecutedInCore.{HasOneMore}

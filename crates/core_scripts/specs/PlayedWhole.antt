@@ -4,7 +4,7 @@ use Rattle.std.specs.Prelude.{◌≡◌, ◌+◌, ◌≤◌, ℕ, List, [], leng
 use Rattle.std.specs.List.{AllByRecursion}
 use Rattle.core_program.specs.CoreFits.{CoreEntry}
 use Rattle.counted_scripts.specs.CountedLoads.{CountsInTurn}
-use Rattle.core_scripts.specs.PlayingSessions.{IsProperSaid}
+use Rattle.script_sentences.specs.GivenTexts.{IsProperSaid}
 use Rattle.core_scripts.specs.ToldFiles.{ShelfTold, files_told}
 use Rattle.core_scripts.specs.declared.player.ScriptPlayer.{ScriptPlayer}
 use Rattle.core_states.specs.StandingInCore.{state_of_session}

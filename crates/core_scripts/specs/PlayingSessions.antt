@@ -11,14 +11,11 @@ use Rattle.core_watches.specs.KeptWatches.{KeepsWatchOrNone, watch_on_record}
 use Rattle.core_watches.specs.declared.kept.CoreWatch.{CoreWatch}
 use Rattle.cube_core.specs.declared.cell.CoreCell.{CoreCell}
 use Rattle.cube_journal.specs.declared.reply.Reply.{Reply}
-use Rattle.cube_language.specs.Grammar.{IsProper}
 use Rattle.cube_language.specs.declared.statement.Statement.{Statement}
 use Rattle.cube_language.specs.declared.statement.Statement.TheVariants as asked
 use Rattle.cube_run.specs.RunRecords.{Sentence}
 use Rattle.linked_shards.specs.CellShards.{CoreShardStands}
 use Rattle.linked_shards.specs.declared.cell.CoreShard.{CoreShard}
-use Rattle.script_sentences.specs.declared.said.Said.{Said}
-use Rattle.script_sentences.specs.declared.said.Said.TheVariants as saying
 use Rattle.scripted_pasts.specs.PlayedScripts.{HasPlayedScript}
 use Rattle.session_replies.specs.Modes.{mode_of}
 use Rattle.session_texts.specs.ToldTexts.{AreTextsTold}
@@ -58,11 +55,6 @@ holder_under kept = kept.watch.holder
 
 abbrev pub holder_kept : Option CoreWatch → Option ℕ
 holder_kept watch = option_map holder_under watch
-
--- A text says what has the form of a statement, or no statement.
-abbrev pub IsProperSaid : Said → Type 0
-IsProperSaid (saying.Statement s) = IsProper s
-IsProperSaid (saying.Nothing fault) = Unit {0}
 
 module _ (told : ShelfTold) (cells : List (CoreCell CoreShard)) (caller : ℕ) where
   -- It holds what its mode says, keeps its watch if it has one, and was told of the texts that it knows; and it has played

@@ -1,20 +1,13 @@
--- Works of sessions that play their scripts, one for each, and the run on record that they then have.
--- Source: this project's own; linearizability (Herlihy and Wing, 1990) makes one list of the calls of all threads.
+-- Works of sessions that play their scripts, one for each.
+-- Source: this project's own.
 use Rattle.std.specs.Prelude.{◌≡◌, ℕ, ◌+◌, ◌<◌, true, List, length, map, slice_index_or}
-use Rattle.core_events.specs.Events.{Opening, CoreEvent}
-use Rattle.core_program.specs.CoreFits.{CoreEntry}
 use Rattle.core_scripts.specs.ToldFiles.{ShelfTold, files_told}
 use Rattle.core_scripts.specs.declared.work.ScriptWork.{ScriptWork}
-use Rattle.cube_core.specs.BoardCells.{IsEntryEvent}
-use Rattle.cube_core.specs.Links.{AreEventsOf}
 use Rattle.cube_journal.specs.declared.reply.Reply.{Reply}
 use Rattle.cube_run.specs.RunRecords.{Sentence}
-use Rattle.linked_shards.specs.CellShards.{CoreShardStands}
 use Rattle.script_sentences.specs.Sentences.{sentence_of}
-use Rattle.scripted_ends.specs.PlayedHistories.{IsPlayedRun}
 use Rattle.scripted_pasts.specs.Performed.{every_of}
 use Rattle.scripted_pasts.specs.PlayedScripts.{FileClaim}
-use Rattle.shard_events.specs.ShardsInRuns.{FitsShard, ShardAnswerSays}
 
 module _ {H : Type 0} where
   -- The script of a work, and the replies that it has.
@@ -43,10 +36,3 @@ module _ {H : Type 0} where
   -- Each was played to its end.
   abbrev pub AreWhole : ℕ → List (ScriptWork H) → Type 0
   AreWhole sessions works = (k : ℕ) (d : ScriptWork H) → k < sessions → (slice_index_or works k d).whole ≡ true
-
--- A history is on record with these scripts and replies, and of the files of each session this is known.
-pub record IsOnRecord (IsFile : ℕ → FileClaim) (every : ℕ) (scripts : List (List Sentence))
-    (replies : List (List Reply)) (o : Opening) (log : List CoreEntry) : Type 0 where
-  pub events : List CoreEvent
-  pub are : AreEventsOf (IsEntryEvent FitsShard CoreShardStands ShardAnswerSays o) log events
-  pub played : IsPlayedRun IsFile every scripts replies o events

@@ -1,5 +1,5 @@
 //! Statements that change no rows and read none.
-ghost use Rattle.std.specs.Prelude.{◌≡◌, ◌+◌, ◌<◌, ◌≤◌, None, Option};
+ghost use Rattle.std.specs.Prelude.{◌≡◌, ◌+◌, ◌<◌, ◌≤◌, None};
 ghost use Rattle.core_program.specs.Knowing.{IsClientOf, IsSessionOf};
 ghost use Rattle.core_scripts.specs.PlayingSessions.{HasPlainCalls, TouchesNoRows};
 ghost use Rattle.core_states.specs.ExecutedInCore.{HasOneMore};

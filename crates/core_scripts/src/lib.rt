@@ -3,8 +3,6 @@
 #![tactic(auto)]
 
 mod desk_forms;
-mod given;
-mod inputs;
 mod law;
 mod on_record;
 mod on_threads;
@@ -17,8 +15,6 @@ mod told_files;
 mod watching;
 mod work;
 
-pub use given::scripts_that_were_read_may_be_given;
-pub use inputs::SessionInput;
 pub use law::played_scripts_are_in_their_history;
 pub use on_record::scripts_on_threads_end_in_a_run;
 pub use on_threads::play_on_threads;
@@ -26,4 +22,4 @@ pub use player::ScriptPlayer;
 pub use scripts::play_to_the_end;
 pub use serving::an_opened_core_serves_its_sessions;
 pub use told_files::FromShelf;
-pub use work::ScriptWork;
+pub use work::{PlayRoom, ScriptWork};

@@ -11,9 +11,10 @@ ghost use Rattle.linked_shards.specs.CellShards.{CoreShardStands};
 ghost use Rattle.linked_shards.specs.declared.cell.CoreShard.{CoreShard};
 ghost use Rattle.opened_core.specs.Openings.{AreCellsOver, OpenOver};
 ghost use Rattle.shard_events.specs.ShardsInRuns.{FitsShard, ShardAnswerSays};
+ghost use Rattle.scripted_ends.specs.PlayedHistories.{IsPlayedRun};
 ghost use Rattle.threaded_core.specs.RanCores.{HasRunOnThreads};
 ghost use Rattle.threaded_core.specs.declared.cores.RanCore.{RanCore};
-ghost use Rattle.core_scripts.specs.ScriptsOnThreads.{AreOfSessions, AreShelvesOf, AreWhole, IsOnRecord, files_of_shelves, replies_in, script_in};
+ghost use Rattle.core_scripts.specs.ScriptsOnThreads.{AreOfSessions, AreShelvesOf, AreWhole, files_of_shelves, replies_in, script_in};
 
 use crate::told_files::FromShelf;
 use flush_loop::MakesRounds;
@@ -24,8 +25,8 @@ use outside::Shelf;
 use scripted_ends::scripts_end_in_a_run;
 
 /// Where a core over what a file keeps ran on threads, the works of its sessions began, and each was played to its end,
-/// then, however a run opens with the core's cells, the one history of all calls is on record with the scripts of all
-/// sessions: its journal is a legal merge of the scripts, and its text is that of the replies and of the journal. The
+/// then, however a run opens with the core's cells, the run that the one history of all calls is has played the scripts of
+/// all sessions: its journal is a legal merge of the scripts, and its text is that of the replies and of the journal. The
 /// files of each session are as its own shelf tells them.
 pub fn scripts_on_threads_end_in_a_run<H: Shelf, M: MakesRounds<CoreShard>>()
     ensures { (kept : Kept) (shards sessions every : ℕ) (cells : List (CoreCell CoreShard))
@@ -36,9 +37,9 @@ pub fn scripts_on_threads_end_in_a_run<H: Shelf, M: MakesRounds<CoreShard>>()
         → (h : HasRunOnThreads (HasPlayedOut H.told H.fault_count H.absence_count) M.serves
         M.has_kept M.becomes shards sessions cells works maker ran)
         → ran.began ≡ true → AreWhole sessions ran.sessions.items → (o : Opening)
-        → OpensCells FitsShard CoreShardStands ShardAnswerSays o cells h.log
-        → IsOnRecord (files_of_shelves H.told shelves) every (map script_in works)
-        (map replies_in ran.sessions.items) o h.log }
+        → (opens : OpensCells FitsShard CoreShardStands ShardAnswerSays o cells h.log)
+        → IsPlayedRun (files_of_shelves H.told shelves) every (map script_in works)
+        (map replies_in ran.sessions.items) o (h.runs o opens).to.es }
 {
     an_opened_core_knows_its_callers();
     an_opened_core_opens_with_its_cubes();

@@ -2,7 +2,8 @@
 ghost use Rattle.core_loads.specs.ShelfLoads.{LoadsRows};
 ghost use Rattle.counted_scripts.specs.CountedLoads.{CountsFor};
 ghost use Rattle.std.specs.Prelude.{◌≡◌, ◌+◌, ◌<◌, ◌≤◌, None, Some};
-ghost use Rattle.core_scripts.specs.PlayingSessions.{IsInScript, IsProperSaid, PlaysOn};
+ghost use Rattle.core_scripts.specs.PlayingSessions.{IsInScript, PlaysOn};
+ghost use Rattle.script_sentences.specs.GivenTexts.{IsProperSaid};
 ghost use Rattle.core_scripts.specs.ToldFiles.{ShelfTold};
 ghost use Rattle.core_states.specs.ExecutedInCore.{HasOneMore};
 ghost use Rattle.cube_run.specs.RunRecords.{Says, SaysNone};

@@ -1,13 +1,10 @@
 //! A session that plays its script, as the work of a caller on a thread.
-ghost use Rattle.std.specs.Prelude.{◌≡◌, ◌+◌, ◌≤◌, ℕ, List, [], IfOk, length, vec_capacity};
+ghost use Rattle.std.specs.Prelude.{◌≡◌, ◌≤◌, IfOk, length, vec_capacity};
 ghost use Rattle.std.specs.List.{AllByRecursion};
+ghost use Rattle.core_scripts.specs.GivenScripts.{IsPlayRoom, IsReadyWork};
 ghost use Rattle.core_scripts.specs.PlayedWhole.{MayPlay};
-ghost use Rattle.core_scripts.specs.PlayingSessions.{IsProperSaid};
+ghost use Rattle.script_sentences.specs.GivenTexts.{IsProperSaid};
 ghost use Rattle.core_scripts.specs.ScriptWorks.{HasPlayedOut};
-ghost use Rattle.core_watches.specs.BoundReaders.{OpenWithRowsOfCubes};
-ghost use Rattle.cube_core.specs.declared.cell.CoreCell.{CoreCell};
-ghost use Rattle.linked_shards.specs.declared.cell.CoreShard.{CoreShard};
-ghost use Rattle.scripted_pasts.specs.Served.{IsServed};
 
 use crate::player::ScriptPlayer;
 use crate::scripts::play_to_the_end;
@@ -28,6 +25,24 @@ use std::sync::Wait;
 use threaded_callers::CallerWork;
 use turn_board::Board;
 
+/// Room for what a session keeps while it plays: the texts that it knows, and its replies.
+#[derive(Drop)]
+pub struct PlayRoom {
+    pub texts: SessionTexts,
+    pub replies: Vec<Reply>,
+}
+
+impl PlayRoom {
+    /// Room for the replies to so many statements. No text is known yet. The only error is out of memory.
+    pub fn new(alloc: Global, statements: usize) -> Result<PlayRoom, AllocError>
+        ensures { IfOk result (IsPlayRoom statements) }
+    {
+        let texts = SessionTexts::new(alloc)?;
+        let replies = Vec::with_capacity(alloc, statements)?;
+        Ok(PlayRoom { texts, replies })
+    }
+}
+
 /// A session with its script and its shelf, and what its statements were answered.
 #[derive(Drop)]
 pub struct ScriptWork<H> {
@@ -42,9 +57,9 @@ pub struct ScriptWork<H> {
     pub alloc: Global,
 }
 
-impl<H: Shelf + Drop> ScriptWork<H> {
-    /// The work of the session of this number, from 1 on, with room for all replies. After so many of its commits a
-    /// round follows, if after any. The only error is out of memory.
+impl<H> ScriptWork<H> {
+    /// The work of the session of this number, from 1 on, with its room. After so many of its commits a round follows,
+    /// if after any.
     pub fn new(
         alloc: Global,
         size: CoreSize,
@@ -52,22 +67,16 @@ impl<H: Shelf + Drop> ScriptWork<H> {
         round_every: Option<u32>,
         script: Vec<Said>,
         shelf: H,
-    ) -> Result<ScriptWork<H>, AllocError>
+        room: PlayRoom,
+    ) -> ScriptWork<H>
         requires few { length script.items ≤ MOST_STATEMENTS }
         requires proper { AllByRecursion IsProperSaid script.items }
-        ensures size { IfOk result (λ w. w.size ≡ size) }
-        ensures number { IfOk result (λ w. w.player.session.number ≡ number) }
-        ensures every { IfOk result (λ w. w.player.session.round_every ≡ round_every) }
-        ensures script { IfOk result (λ w. w.script ≡ script) }
-        ensures shelf { IfOk result (λ w. w.shelf ≡ shelf) }
-        ensures ready { IfOk result (λ w. (callers caller : ℕ) (cells : List (CoreCell CoreShard))
-            → number ≤ size.sessions → size.sessions + 2 + size.shards ≤ callers
-            → IsServed cells caller number size.shards → OpenWithRowsOfCubes cells
-            → MayPlay size.shards size.sessions w.player w.script.items w.replies.items
-            (vec_capacity w.replies) callers cells caller) }
+        requires room { IsPlayRoom (length script.items) room }
+        ensures ready { IsReadyWork size number result }
+        ensures every { result.player.session.round_every ≡ round_every }
+        ensures script { result.script ≡ script }
+        ensures shelf { result.shelf ≡ shelf }
     {
-        let texts = SessionTexts::new(alloc)?;
-        let replies = Vec::with_capacity(alloc, script.len())?;
         let session = CoreSession {
             number,
             mode: SessionMode::Idle,
@@ -75,7 +84,8 @@ impl<H: Shelf + Drop> ScriptWork<H> {
             commits: 0,
             round_every,
         };
-        Ok(ScriptWork {
+        let PlayRoom { texts, replies } = room;
+        ScriptWork {
             size,
             player: ScriptPlayer {
                 session,
@@ -87,7 +97,7 @@ impl<H: Shelf + Drop> ScriptWork<H> {
             replies,
             whole: false,
             alloc,
-        })
+        }
     }
 }
 

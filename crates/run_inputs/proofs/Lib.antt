@@ -3,3 +3,4 @@ pub mod SaidTexts
 pub mod ReadInTurns
 pub mod GivenInputs
 pub mod ServedFiles
+pub mod ReadScripts

@@ -2,8 +2,10 @@
 //! bad.
 #![tactic(auto)]
 
+mod given;
 mod inputs;
 mod parsing;
 mod scripts;
 
+pub use given::scripts_that_were_read_may_be_given;
 pub use inputs::{RunInput, read_run_files};

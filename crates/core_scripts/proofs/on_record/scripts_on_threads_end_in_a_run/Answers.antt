@@ -20,15 +20,10 @@ returns g c = λ kept shards sessions every cells works shelves maker ran by_fil
           c.an_opened_core_opens_with_its_cubes.ensures kept shards sessions cells by_file over o h.log events opened
           left.to.events left.to.run;
     } in
-    record {
-      events = events;
-      are = left.to.events;
-      played =
-          c.scripts_end_in_a_run.ensures (λ session. record { shelf = shelves session })
-          cells o h.log events every (map script_in works) (map replies_in ran.sessions.items) history
-          (all-played told g.H.Shelf.fault_count g.H.Shelf.absence_count cells h.log sessions every works
-          ran.sessions.items shelves o (sessions-told kept shards sessions cells over o h.log opened) are tells h.order.as_many
-          (λ caller low.
-          c.an_opened_core_knows_its_callers.ensures.client kept shards sessions caller cells over opens low)
-          ran.began begun h.order.played whole h.order.plays);
-    }
+    c.scripts_end_in_a_run.ensures (λ session. record { shelf = shelves session })
+    cells o h.log events every (map script_in works) (map replies_in ran.sessions.items) history
+    (all-played told g.H.Shelf.fault_count g.H.Shelf.absence_count cells h.log sessions every works
+    ran.sessions.items shelves o (sessions-told kept shards sessions cells over o h.log opened) are tells h.order.as_many
+    (λ caller low.
+    c.an_opened_core_knows_its_callers.ensures.client kept shards sessions caller cells over opens low)
+    ran.began begun h.order.played whole h.order.plays)

@@ -2,7 +2,7 @@
 use Rattle.std.proofs.Common.{ℕ, ◌+◌, ◌≤◌, List, [], ◌∷◌, length}
 use Rattle.std.specs.Global.{Vec}
 use Rattle.std.specs.List.{AllByRecursion, AllZip}
-use Rattle.core_scripts.specs.PlayingSessions.{IsProperSaid}
+use Rattle.script_sentences.specs.GivenTexts.{IsProperSaid}
 use Rattle.cube_language.specs.declared.piece.Piece.{Piece}
 use Rattle.cube_language.specs.declared.piece.TheConstants.{MOST_STATEMENTS}
 use Rattle.cube_run.specs.RunRecords.{IsSaidBy}
@@ -11,7 +11,7 @@ use Rattle.run_inputs.specs.ReadInputs.{GivesSentences, script_files}
 use Rattle.script_sentences.specs.Sentences.{SaysInTurn, sentence_of}
 use Rattle.script_sentences.specs.declared.said.Said.{Said}
 use Rattle.script_sentences.specs.declared.said.Said.TheVariants as saying
-use Rattle.core_scripts.specs.GivenScripts.{MayBeSaid}
+use Rattle.script_sentences.specs.GivenTexts.{MayBeSaid}
 
 proper-said : (text : List ℕ) (said : Said) → IsSaidBy text (sentence_of said) → IsProperSaid said
 proper-said text (saying.Statement s) spells = spells.proper

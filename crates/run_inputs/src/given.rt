@@ -6,7 +6,7 @@ ghost use Rattle.cube_language.specs.declared.piece.TheConstants.{MOST_STATEMENT
 ghost use Rattle.run_files.specs.RunFiles.{FileReading, RunFile};
 ghost use Rattle.run_inputs.specs.ReadInputs.{GiveScripts};
 ghost use Rattle.script_sentences.specs.declared.said.Said.{Said};
-ghost use Rattle.core_scripts.specs.GivenScripts.{MayBeSaid};
+ghost use Rattle.script_sentences.specs.GivenTexts.{MayBeSaid};
 
 /// What the texts of scripts say, as their files give it, may be given to sessions, where there are no more texts than
 /// may be.
