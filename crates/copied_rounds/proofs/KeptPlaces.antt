@@ -76,7 +76,7 @@ numbered-itself least (b ∷ parts) (suc k) part rise is =
     (ne_eqb b.brick part.brick (λ same. absurd (omega (arith, same, from))))
     ∙ numbered-itself (b.brick + 1) parts k part rise.1 is
 
-index-at : (lists : ShardCopy) (cube : ℕ) (parts : List BrickPart) → slice_get lists cube ≡ Some parts
+pub index-at : (lists : ShardCopy) (cube : ℕ) (parts : List BrickPart) → slice_get lists cube ≡ Some parts
     → slice_index_or lists cube [] ≡ parts
 index-at [] cube parts is = absurd (none-some parts is)
 index-at (x ∷ lists) zero parts is = same_Some x parts is

@@ -1,6 +1,7 @@
 -- A round of what the flusher copied is one of each run that goes on from its calls.
 use Rattle.std.proofs.Common.{◌≡◌, ◌∙◌, ℕ, Bool, true, false, List, [], ◌++◌, length, map, drop, slice_get, Some, MatchBool, sym, ap, subst}
 use Rattle.std.specs.List.{zip, AllByRecursion}
+use Rattle.std.specs.Option.{option_map_or}
 use Rattle.std.proofs.lemmas.List.{length-map}
 use Rattle.std.proofs.lemmas.Option.{slice_get_within}
 use Rattle.core_program.proofs.ClientRuns.{client-run}
@@ -14,12 +15,14 @@ use Rattle.core_events.specs.Events.{Opening, CoreEvent}
 use Rattle.core_events.specs.ShardView.{ShardView}
 use Rattle.core_serial.specs.Copies.{HasCopied, copies_by}
 use Rattle.core_program.specs.CoreFits.{CoreEntry}
-use Rattle.copied_rounds.proofs.KeptPlaces.{counts-are, part-shown, texts-are, texts_of}
+use Rattle.copied_rounds.proofs.KeptPlaces.{counts-are, index-at, part-shown, texts-are, texts_of}
 use Rattle.copied_rounds.proofs.ToldSince.{cubes-since, earlier-calls, known-now, log_then, moment, names-since, run-then}
-use Rattle.copied_rounds.specs.CopiedRounds.{AreKeptInRuns, HaveShapesAndCounts, IsRoundBehindKept, OpenForRounds}
+use Rattle.copied_rounds.specs.CopiedRounds.{AreKeptInRuns, HasAllCopies, HaveShapesAndCounts, IsRoundBehindKept, OpenForRounds}
 use Rattle.cube_core.specs.declared.cell.CoreCell.{CoreCell}
 use Rattle.cube_language.specs.declared.decl.Decl.{Decl}
 use Rattle.cube_language.specs.declared.decl.DimDecl.{DimDecl}
+use Rattle.brick_map.specs.Copied.{part_numbered}
+use Rattle.cube_rounds.specs.Bricks.{BrickPart}
 use Rattle.cube_rounds.specs.Demands.{DimNames, FitsRound, no_names}
 use Rattle.cube_rounds.specs.Stands.{names_behind}
 use Rattle.cube_rounds.specs.declared.round.Round.{Round}
@@ -38,6 +41,7 @@ use Rattle.round_copies.specs.RoundCopies.{AreNamesTold, HasRows, IsCopiedRound,
 use Rattle.round_copies.specs.WithinRounds.{HasHistory}
 use Rattle.round_copies.specs.declared.span.RoundSpan.{RoundSpan}
 use Rattle.shard_events.specs.ShardsInRuns.{FitsShard, IsWholePart, ShardAnswerSays}
+use Rattle.shard_views.specs.Views.{part_view}
 
 module _ (cells : List (CoreCell CoreShard)) (caller client shards : ℕ)
     (flush : IsFlusherOf FitsShard CoreShardStands ShardAnswerSays cells caller client shards)
@@ -144,6 +148,20 @@ module _ (cells : List (CoreCell CoreShard)) (caller client shards : ℕ)
           rising = (taken.bricks cube part is_part).rising;
         }
 
+    all-copied : (cube : ℕ) (part : RoundCube) → slice_get round.cubes cube ≡ Some part
+        → HasAllCopies copies cube part.bricks
+    all-copied cube part is =
+        let at = get-mapped (λ (c : RoundCube). c.bricks) round.cubes cube part is in
+        let low = slice_get_within (bricks_of_round round) cube part.bricks at in
+        record {
+          sound = taken.bricks cube part is;
+          same = λ brick.
+              ap (λ (l : List BrickPart). option_map_or part_view (part_numbered brick l) [])
+              (sym (index-at (bricks_of_round round) cube part.bricks at))
+              ∙ joined-view taken.copies (bricks_of_round round) cube brick taken.joined low
+              ∙ sym (has-rows.rows cube brick);
+        }
+
     -- What was kept before the calls that copied is so at that moment.
     kept-then : IsKeptAfter o copied cubes names
     kept-then =
@@ -159,6 +177,7 @@ module _ (cells : List (CoreCell CoreShard)) (caller client shards : ℕ)
       copied = copied;
       kept = kept-then;
       taken = record { rows = has-copied; made = made-since; parts = many-parts; each = cube-copied };
+      all = all-copied;
     }
 
   pub kept-with-copies : (o : Opening) → AreKeptInRuns cells o caller before cubes names

@@ -15,6 +15,7 @@ use Rattle.cube_core.specs.declared.cell.CoreCell.{CoreCell}
 use Rattle.cube_core.specs.declared.cell.CoreCell.TheVariants as cell
 use Rattle.core_events.specs.Clients.{opening_client}
 use Rattle.core_events.specs.Events.{Opening, CoreEvent}
+use Rattle.core_events.specs.Runs.{IsCoreRun}
 use Rattle.core_program.specs.CoreFits.{CoreEntry, OpensCells, decl_made_in, first_decl}
 use Rattle.flush_round.specs.KeptRounds.{IsToldOfKept}
 use Rattle.following_rounds.specs.FollowingRounds.{IsKeptAfter}
@@ -25,10 +26,12 @@ use Rattle.opened_core.specs.Openings.{AreCellsOver, IsCellOver}
 use Rattle.opened_rows.proofs.ToldRows.{names-told}
 use Rattle.round_copies.specs.RoundCopies.{count_at}
 use Rattle.round_store.specs.Counts.{counts_of}
+use Rattle.rows_of_rounds.proofs.RowsThen.{rows-at-opening}
 use Rattle.shard_events.specs.ShardsInRuns.{FitsShard, ShardAnswerSays}
 use Rattle.stored_rounds.specs.RoundsInStore.{IsKeptInRun}
 use Rattle.turn_board.proofs.Places.{there as place-there}
 use Rattle.opened_rounds.proofs.CountedNames.{counted, cube-there}
+use Rattle.opened_rounds.proofs.RowsAtOpening.{RowsLaws, joined-at-opening}
 
 -- What the laws of kept data say of the names of one store.
 pub record NamesLaws (kept : Kept) : Type 0 where
@@ -111,10 +114,14 @@ module _ (kept : Kept) (shards sessions : ℕ) (cells : List (CoreCell CoreShard
 
   pub kept-in-run : ((later es : List CoreEvent) (cubes : List Decl) (names : List DimNames)
       → IsKeptAfter o es cubes names → IsKeptAfter o (later ++ es) cubes names)
-      → (run : List CoreEvent) → IsKeptInRun kept o run []
-  kept-in-run stays run = record {
+      → RowsLaws kept o → (run : List CoreEvent) → IsCoreRun o run → IsKeptInRun kept o run []
+  kept-in-run stays rows run is_run = record {
     first = subst (λ (es : List CoreEvent). IsKeptAfter o es kept.cubes kept.names) (append-nil run)
         (stays run [] kept.cubes kept.names kept-first);
     told = kept-told;
     up_to = safe-told;
+    content = record {
+      opening = ([], append-nil o.cubes ∙ cubes-told kept shards sessions cells over o log opens);
+      rows = rows-at-opening o run kept is_run safe-told rows.none (joined-at-opening kept o rows) rows.same;
+    };
   }

@@ -1,2 +1,3 @@
 pub mod CountedNames
+pub mod RowsAtOpening
 pub mod KeptInRuns

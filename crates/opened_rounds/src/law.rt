@@ -2,6 +2,7 @@
 
 ghost use Rattle.std.specs.Prelude.{◌+◌, ◌≤◌, ℕ, List, []};
 ghost use Rattle.core_events.specs.Events.{CoreEvent, Opening};
+ghost use Rattle.core_events.specs.Runs.{IsCoreRun};
 ghost use Rattle.core_program.specs.CoreFits.{CoreEntry, OpensCells};
 ghost use Rattle.cube_core.specs.declared.cell.CoreCell.{CoreCell};
 ghost use Rattle.cube_rounds.specs.Stands.{Kept};
@@ -17,25 +18,28 @@ ghost use Rattle.stored_rounds.specs.declared.stored.StoredRounds.{StoredRounds}
 
 use flush_loop::{MakesRounds, NoStore};
 use following_rounds::what_is_kept_stays_and_grows_by_rounds;
-use kept_data::{kept_data_are_sound, kept_names_are_found};
+use kept_data::{kept_data_are_sound, kept_names_are_found, kept_rounds_lie_in_their_cubes};
 use linked_shards::CoreShard;
-use opened_rows::an_opened_core_opens_for_rounds;
+use opened_rows::{an_opened_core_has_the_kept_rows, an_opened_core_opens_for_rounds};
 use outside_disk::Disk;
 use run_threads::callers_of_an_opened_core_may_begin;
 use stored_rounds::StoredRounds;
 
 /// In whatever way a run opens with the cells of a core over what a file keeps, this is there in the run:
-/// its cubes are the first of the desk's, its names the first of each dictionary, and its epoch is the
-/// latest safe one. So much a flusher knows that has made no call.
+/// its cubes are the first of the desk's, its names the first of each dictionary, its epoch is the latest
+/// safe one, and its rows are those that the transactions leave which are committed up to that. So much a
+/// flusher knows that has made no call.
 pub fn what_is_kept_is_there_in_each_run()
     ensures { (kept : Kept) (shards sessions : ℕ) (cells : List (CoreCell CoreShard))
         → IsKeptByFile kept → AreCellsOver kept shards sessions cells
         → (o : Opening) (log : List CoreEntry) (run : List CoreEvent)
         → OpensCells FitsShard CoreShardStands ShardAnswerSays o cells log
-        → IsKeptInRun kept o run [] }
+        → IsCoreRun o run → IsKeptInRun kept o run [] }
 {
     kept_data_are_sound();
     kept_names_are_found();
+    kept_rounds_lie_in_their_cubes();
+    an_opened_core_has_the_kept_rows();
     what_is_kept_stays_and_grows_by_rounds();
 }
 

@@ -9,6 +9,7 @@ use Rattle.core_cells.specs.declared.desk.DeskAnswer.TheVariants as answer
 use Rattle.core_cells.specs.declared.desk.DeskCall.TheVariants as call
 use Rattle.core_events.specs.Clients.{calls_of, is_lost_to_disk, state_from_calls}
 use Rattle.core_events.specs.Events.{Opening, RoundOpen, RoundClose, ClientCall, OnDesk, CoreEvent, By}
+use Rattle.core_events.specs.Runs.{IsCoreRun}
 use Rattle.core_program.specs.CoreFits.{CoreEntry}
 use Rattle.core_program.specs.Flushing.{IsFlusherOf}
 use Rattle.cube_core.specs.Links.{AreEventsOf}
@@ -17,7 +18,7 @@ use Rattle.core_program.specs.Knowing.{GoOnBy, IsLaterRun}
 use Rattle.cube_core.specs.declared.cell.CoreCell.{CoreCell}
 use Rattle.cube_journal.specs.declared.journal_entry.LostCause.{LostCause}
 use Rattle.cube_journal.specs.declared.journal_entry.LostCause.TheVariants.{Disk, Memory}
-use Rattle.cube_rounds.specs.Stands.{Kept}
+use Rattle.cube_rounds.specs.Stands.{Kept, kept_of_cubes}
 use Rattle.cube_rounds.specs.declared.round.Round.{Round}
 use Rattle.flush_loop.proofs.OpenedAndClosed.{before-it, learnt}
 use Rattle.flush_loop.specs.MadeRounds.{HoldsInRuns, KnowsBetween, LearnsOfOwnRound}
@@ -36,12 +37,16 @@ use Rattle.linked_shards.specs.declared.cell.CoreShard.{CoreShard}
 use Rattle.outside.specs.Counts.{Rose}
 use Rattle.outside_disk.specs.Views.{View}
 use Rattle.round_copies.proofs.FlusherSteps.{before-more}
+use Rattle.round_copies.specs.RoundCopies.{IsCopiedRound}
 use Rattle.round_copies.specs.WithinRounds.{KnowsOfFlusher, StaysWithinRound}
 use Rattle.round_copies.specs.declared.span.RoundSpan.{RoundSpan}
 use Rattle.round_store.specs.Counts.{counts_of}
-use Rattle.round_store.specs.States.{goes_second, kept_after, kept_before, wants_whole}
+use Rattle.round_store.specs.States.{goes_second, header_cubes, kept_after, kept_before, wants_whole}
+use Rattle.rows_of_rounds.specs.RowsOfRounds.{HasRowsOfRun}
+use Rattle.rows_of_rounds.proofs.RowsThen.{rows-of-none, rows-with-round}
+use Rattle.stored_rounds.proofs.OpeningCubes.{opening-with-round}
 use Rattle.stored_rounds.proofs.OwnRounds.{kept-in-runs}
-use Rattle.stored_rounds.specs.OwnKnowledge.{ClosesRound, IsKeptByCalls, IsReadyForRound, IsRoundOfRuns}
+use Rattle.stored_rounds.specs.OwnKnowledge.{ClosesRound, HasContentOfRuns, IsKeptByCalls, IsReadyForRound, IsRoundOfRuns}
 use Rattle.stored_rounds.specs.RoundsInStore.{EndsAs, HasLostRound, KeepsOfRun, StandsAt, result_of_end}
 use Rattle.stored_rounds.specs.SafeEpochs.{safe_after_call, safe_by_calls}
 use Rattle.stored_rounds.specs.declared.stored.StoredRounds.{StoredRounds}
@@ -57,6 +62,12 @@ calls-safe : (o : Opening) (added calls : List ClientCall) → AllByRecursion Is
 calls-safe o [] calls within = refl
 calls-safe o (c ∷ added) calls within =
     call-safe c (safe_by_calls o (added ++ calls)) within.0 ∙ calls-safe o added calls within.1
+
+-- Behind the header's cubes alone there are no rows yet.
+rows-behind : (o : Opening) (run : List CoreEvent) (whole : Bool) (kept : Kept) → IsCoreRun o run → HasRowsOfRun o run kept
+    → HasRowsOfRun o run (if whole then kept_of_cubes (header_cubes kept) else kept)
+rows-behind o run true kept is has = rows-of-none o run (header_cubes kept) is has.opens
+rows-behind o run false kept is has = has
 
 -- They are the newest of the client.
 calls-added : (client : ℕ) (added : List ClientCall) (es : List CoreEvent)
@@ -99,6 +110,7 @@ module _ (cells : List (CoreCell CoreShard)) (caller client shards : ℕ)
         by.up_to o log run w.before (before-more cells caller client own more.more mid log o run more.whole later) w.events
         ∙ sym (calls-safe o w.added (calls_of client w.before) w.within)
         ∙ ap (safe_by_calls o) (sym (calls-added client w.added w.before) ∙ ap (calls_of client) (sym w.whole));
+    content = λ o log run later. by.content o log run (before-more cells caller client own more.more mid log o run more.whole later);
   }
 
   module _ (epoch : ℕ) (how : RoundEnd) (mid now : List CoreEntry)
@@ -125,8 +137,8 @@ module _ (cells : List (CoreCell CoreShard)) (caller client shards : ℕ)
         → IsLaterRun FitsShard CoreShardStands ShardAnswerSays cells o caller mid log run
         → AreEventsOf (IsEntryEvent FitsShard CoreShardStands ShardAnswerSays o) mid es
         → kept.epoch ≡ safe_after_call (OnDesk (RoundClose epoch how)) (safe_by_calls o (calls_of client es)))
-        → IsKeptByCalls cells caller client now kept
-    kept-by-close kept of_runs told up_to = record {
+        → HasContentOfRuns cells caller client mid kept → IsKeptByCalls cells caller client now kept
+    kept-by-close kept of_runs told up_to content = record {
       of_runs = λ o log run later. of_runs o log run (was-later o log run later);
       told = λ o log run es later are.
           let g = closing o log run es later are in
@@ -137,6 +149,7 @@ module _ (cells : List (CoreCell CoreShard)) (caller client shards : ℕ)
       up_to = λ o log run es later are.
           let g = closing o log run es later are in
           up_to o log run g.before (was-later o log run later) g.events ∙ ap (safe_by_calls o) (sym g.calls);
+      content = λ o log run later. content o log run (was-later o log run later);
     }
 
   -- A round that was opened, copied and closed.
@@ -199,6 +212,31 @@ module _ (cells : List (CoreCell CoreShard)) (caller client shards : ℕ)
     After how = HoldsAfterEnd cells caller client own mid m.store new.store kept span (view m.first) (view m.second)
         (view new.first) (view new.second) how
 
+    -- What was copied is a round of each run, behind what was kept of it before.
+    abbrev behind : Kept
+    behind = kept_before m.store kept
+
+    abbrev AreCopies : Round → Type 0
+    AreCopies round = IsCopiedRound cells caller client own mid span (shapes_before m.store) (counts_before m.store) round
+
+    round-there : (round : Round) → AreCopies round → IsRoundOfRuns cells caller client mid behind round
+    round-there round copied o log run later =
+        round-of-run cells caller client shards flush own mid span (shapes_before m.store) (counts_before m.store) round
+        copied behind.cubes behind.names (have-by m.store kept ready.takes.at.store (wants_whole m.store)) o
+        (ready.takes.of_runs o) log run later
+
+    -- With it the content of each run is kept.
+    content-added : (round : Round) → AreCopies round → HasContentOfRuns cells caller client mid (kept_after m.store kept round)
+    content-added round copied o log run later =
+        let was = before-more cells caller client own more.more mid log o run more.whole later in
+        let there = round-there round copied o log run later in
+        record {
+          opening = opening-with-round o run client behind.cubes behind.names round there;
+          rows = rows-with-round o run client behind round later.is_run (ready.takes.open_for o log run was).rows there
+              (copied.begins ∙ ready.takes.begins)
+              (rows-behind o run (wants_whole m.store) kept later.is_run (ready.by_calls.content o log run was).rows);
+        }
+
     pub ends-so : (how : RoundEnd) (now : List CoreEntry)
         → now ≡ mid ++ desk_entry caller (call.RoundClose span.epoch how) answer.Done ∷ []
         → After how → (how ≡ end.Lost Memory → new ≡ m)
@@ -209,15 +247,14 @@ module _ (cells : List (CoreCell CoreShard)) (caller client shards : ℕ)
       round = after.adds.round;
       ends = after.adds.ends;
       holds = λ o log run later.
-          round-of-run cells caller client shards flush own mid span (shapes_before m.store) (counts_before m.store)
-          after.adds.round after.adds.copied (kept_before m.store kept).cubes (kept_before m.store kept).names
-          (have-by m.store kept ready.takes.at.store (wants_whole m.store)) o (ready.takes.of_runs o) log run
-          (was-later span.epoch end.Safe mid now is o log run later);
+          round-there after.adds.round after.adds.copied o log run (was-later span.epoch end.Safe mid now is o log run later);
       adds = record { at = ready.takes.at; first_still = first_still; second_still = second_still; either = after.adds.either };
       stands = after.at;
     }
     ends-so (end.Lost Disk) now is after memory failed = record {
       round = after.round;
+      holds = λ o log run later.
+          round-there after.round after.copied o log run (was-later span.epoch (end.Lost Disk) mid now is o log run later);
       adds = record { at = ready.takes.at; first_still = first_still; second_still = second_still; either = after.either };
       failed = failed refl;
     }
@@ -229,7 +266,7 @@ module _ (cells : List (CoreCell CoreShard)) (caller client shards : ℕ)
         → IsKeptByCalls cells caller client now kept
     lost-kept cause now is =
         let by = kept-within own mid kept ready.by_calls more within in
-        kept-by-close span.epoch (end.Lost cause) mid now is kept by.of_runs by.told by.up_to
+        kept-by-close span.epoch (end.Lost cause) mid now is kept by.of_runs by.told by.up_to by.content
 
     pub holds-so : (how : RoundEnd) (now : List CoreEntry) → now ≡ mid ++ desk_entry caller (call.RoundClose span.epoch how) answer.Done ∷ []
         → After how → (how ≡ end.Lost Memory → new ≡ m)
@@ -239,7 +276,7 @@ module _ (cells : List (CoreCell CoreShard)) (caller client shards : ℕ)
         let all = kept_after m.store kept after.adds.round in
         kept-in-runs cells caller client shards flush view new all now
         (kept-by-close span.epoch end.Safe mid now is all after.adds.of_runs after.adds.told
-        (λ o log run es later are. after.adds.ends))
+        (λ o log run es later are. after.adds.ends) (content-added after.adds.round after.adds.copied))
         after.at between
     holds-so (end.Lost Memory) now is after memory between =
         coe 1 0
@@ -264,6 +301,8 @@ module _ (cells : List (CoreCell CoreShard)) (caller client shards : ℕ)
                   either = after.either;
                 };
                 with_round = after.of_runs o log run (was-later span.epoch (end.Lost Disk) mid now is o log run later);
+                content = content-added after.round after.copied o log run
+                    (was-later span.epoch (end.Lost Disk) mid now is o log run later);
               }
               in
               record {
@@ -271,6 +310,7 @@ module _ (cells : List (CoreCell CoreShard)) (caller client shards : ℕ)
                   first = by.of_runs o log run later;
                   told = coe 0 1 (i. IsToldOfKept kept (state_from_calls o (same i) calls)) (by.told o log run es later are);
                   up_to = by.up_to o log run es later are;
+                  content = by.content o log run later;
                 };
                 stands = subst (λ (b : Bool). MatchBool b (HasLostRound view new kept o run) (StandsAt view new kept)) (sym lost) gone;
               };
@@ -283,6 +323,7 @@ pub ends-anyway : {D : Type 0} (view : D → View) (Holds : Kept → Round → T
 ends-anyway view Holds (Safe epoch) kept before after ends =
     record { round = ends.round; ends = ends.ends; holds = tt; adds = ends.adds; stands = ends.stands }
 ends-anyway view Holds (Idle epoch) kept before after ends = ends
-ends-anyway view Holds (Lost Disk) kept before after ends = ends
+ends-anyway view Holds (Lost Disk) kept before after ends =
+    record { round = ends.round; holds = tt; adds = ends.adds; failed = ends.failed }
 ends-anyway view Holds (Lost Memory) kept before after ends = ends
 ends-anyway view Holds NoMemory kept before after ends = ends

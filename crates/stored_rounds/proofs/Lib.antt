@@ -1,5 +1,6 @@
 pub mod SafeRounds
 pub mod KeptHeaders
+pub mod OpeningCubes
 pub mod OwnRounds
 pub mod ClosedRounds
 pub mod Images

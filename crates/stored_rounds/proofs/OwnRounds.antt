@@ -82,6 +82,7 @@ module _ (cells : List (CoreCell CoreShard)) (caller client shards : ℕ)
               first = by.of_runs o log run later;
               told = coe 0 1 (i. IsToldOfKept kept (state_from_calls o (is i) calls)) (by.told o log run es later are);
               up_to = by.up_to o log run es later are;
+              content = by.content o log run later;
             };
             stands = subst (λ (lost : Bool). MatchBool lost (HasLostRound view m kept o run) (StandsAt view m kept)) (sym none) at;
           };
@@ -133,6 +134,8 @@ module _ (cells : List (CoreCell CoreShard)) (caller client shards : ℕ)
             (kept-then o log run es later are).in_run.up_to
             ∙ sym (asked-safe client asked (state_from_calls o client calls) (safe_by_calls o calls))
             ∙ ap (safe_by_calls o) (sym g.calls);
+        content = λ o log run later.
+            let own_es = own-events o now log run later in (kept-then o log run own_es.0 later own_es.1).in_run.content;
       }
 
       module _ (history : HasHistory cells caller now) where

@@ -20,16 +20,23 @@ use Rattle.linked_shards.specs.declared.cell.CoreShard.{CoreShard}
 use Rattle.outside_disk.specs.Views.{View}
 use Rattle.round_copies.specs.WithinRounds.{KnowsOfFlusher, StaysWithinRound}
 use Rattle.round_copies.specs.declared.span.RoundSpan.{RoundSpan}
+use Rattle.stored_rounds.specs.RoundsInStore.{HasContentOfRun}
 use Rattle.stored_rounds.specs.SafeEpochs.{safe_by_calls}
 use Rattle.stored_rounds.specs.declared.stored.StoredRounds.{StoredRounds}
 
 module _ (cells : List (CoreCell CoreShard)) (caller client : ℕ) (own : List CoreEntry) where
+  -- It has the content of each run with these calls.
+  abbrev pub HasContentOfRuns : Kept → Type 0
+  HasContentOfRuns kept = (o : Opening) (log : List CoreEntry) (run : List CoreEvent)
+      → IsLaterRun FitsShard CoreShardStands ShardAnswerSays cells o caller own log run → HasContentOfRun o run kept
+
   -- This is kept of each run with these calls, by which the flusher was told of it and knows where it ends.
   pub record IsKeptByCalls (kept : Kept) : Type 0 where
     pub of_runs : IsKeptOfRuns cells caller own kept
     pub told : KnowsOfFlusher cells caller client own (λ o k. IsToldOfKept kept k)
     pub up_to : Knows FitsShard CoreShardStands ShardAnswerSays cells caller client own
         (λ o calls. kept.epoch ≡ safe_by_calls o calls)
+    pub content : HasContentOfRuns kept
 
   -- In each run with these calls a round is one of the run: it has what all shards copied at some moment, and cubes and
   -- names of the run since, behind what was kept then.

@@ -7,6 +7,7 @@
 --   Lost to a disk       what was kept, or that with the round    for one of the two
 --
 -- Source: Cubrick (VLDB 2016), flush rounds; AOSI (ICDE 2018), LSE and recovery; two files are this project's own.
+use mathlib.Core.List.{IsPrefix}
 use Rattle.std.specs.Prelude.{◌≡◌, ◌⊎◌, ℕ, true, false, List, [], ◌∷◌, ◌++◌, MatchBool}
 use Rattle.aosi_desk.specs.declared.answer.RoundEnd.{RoundEnd}
 use Rattle.aosi_desk.specs.declared.answer.RoundEnd.TheVariants as end
@@ -31,6 +32,7 @@ use Rattle.linked_shards.specs.declared.cell.CoreShard.{CoreShard}
 use Rattle.outside.specs.Counts.{Rose}
 use Rattle.outside_disk.specs.Views.{View}
 use Rattle.round_store.specs.States.{IsAt, goes_second, kept_after, kept_before}
+use Rattle.rows_of_rounds.specs.RowsOfRounds.{HasRowsOfRun}
 use Rattle.stored_rounds.specs.SafeEpochs.{safe_by_calls}
 use Rattle.stored_rounds.specs.declared.stored.StoredRounds.{StoredRounds}
 
@@ -41,11 +43,18 @@ AlwaysOpenForRounds cells = (o : Opening) (log : List CoreEntry) (run : List Cor
     → AreEventsOf (IsEntryEvent FitsShard CoreShardStands ShardAnswerSays o) log run → IsCoreRun o run
     → OpensForRounds o (desk_of o run).cubes
 
+-- What is kept has the cubes with which a run opened, and the rows that the transactions leave which are committed up to
+-- its epoch.
+pub record HasContentOfRun (o : Opening) (run : List CoreEvent) (kept : Kept) : Type 0 where
+  pub opening : IsPrefix o.cubes kept.cubes
+  pub rows : HasRowsOfRun o run kept
+
 -- What is kept is there in a run with these calls of the flusher, which was told of it. It ends at the latest safe epoch.
 pub record IsKeptInRun (kept : Kept) (o : Opening) (run : List CoreEvent) (calls : List ClientCall) : Type 0 where
   pub first : IsKeptAfter o run kept.cubes kept.names
   pub told : IsToldOfKept kept (state_from_calls o (flusher o) calls)
   pub up_to : kept.epoch ≡ safe_by_calls o calls
+  pub content : HasContentOfRun o run kept
 
 -- How a round ended that was closed so.
 abbrev pub result_of_end : ℕ → RoundEnd → RoundResult
@@ -66,9 +75,10 @@ module _ {D : Type 0} (view : D → View) where
     pub either : KeepsEither before.store kept round (view before.first) (view before.second) (view after.first)
         (view after.second)
 
-  -- A round was lost as it was added, since one of the disks failed.
-  pub record LosesRound (kept : Kept) (before after : StoredRounds D) : Type 0 where
+  -- A round was lost as it was added, since one of the disks failed. This holds of it with what it comes behind.
+  pub record LosesRound (Holds : Kept → Round → Type 0) (kept : Kept) (before after : StoredRounds D) : Type 0 where
     pub round : Round
+    pub holds : Holds (kept_before before.store kept) round
     pub adds : AddsTo kept round before after
     pub failed : Rose (view before.first).faults (view after.first).faults
         ⊎ Rose (view before.second).faults (view after.second).faults
@@ -86,7 +96,7 @@ module _ {D : Type 0} (view : D → View) where
   -- What a round that ended so made of a store that stood for what is kept.
   abbrev pub EndsAs : (Kept → Round → Type 0) → RoundResult → Kept → StoredRounds D → StoredRounds D → Type 0
   EndsAs Holds (Safe epoch) kept before after = KeepsRound Holds epoch kept before after
-  EndsAs Holds (Lost Disk) kept before after = LosesRound kept before after
+  EndsAs Holds (Lost Disk) kept before after = LosesRound Holds kept before after
   EndsAs Holds result kept before after = StandsAt before kept × (after ≡ before)
 
   -- A round ended in one way or another.
@@ -110,6 +120,7 @@ module _ {D : Type 0} (view : D → View) where
     pub round : Round
     pub adds : AddsTo kept round before m
     pub with_round : IsKeptAfter o run (kept_after before.store kept round).cubes (kept_after before.store kept round).names
+    pub content : HasContentOfRun o run (kept_after before.store kept round)
 
   -- What is kept of a run with these calls of the flusher: the store stands for it, or was lost as a round was added to it.
   pub record KeepsOfRun (m : StoredRounds D) (kept : Kept) (o : Opening) (run : List CoreEvent) (calls : List ClientCall)

@@ -13,7 +13,8 @@ returns g c = λ kept shards sessions caller cells maker by over stands. record 
     in_runs = λ o log run es later are.
         subst (λ (l : List CoreEvent). KeepsOfRun g.D.Disk.view maker kept o run (calls_of (sessions + 1) l)) are
         (record {
-          in_run = c.what_is_kept_is_there_in_each_run.ensures kept shards sessions cells by over o log run later.opens;
+          in_run = c.what_is_kept_is_there_in_each_run.ensures kept shards sessions cells by over o log run later.opens
+              later.is_run;
           stands = stands;
         });
   };

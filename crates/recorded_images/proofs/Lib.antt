@@ -1,0 +1,3 @@
+pub mod FailedStores
+pub mod KeptImages
+pub mod KeptByRecord

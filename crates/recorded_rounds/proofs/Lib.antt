@@ -1,0 +1,2 @@
+pub mod RowsOnRecord
+pub mod OwnNames
