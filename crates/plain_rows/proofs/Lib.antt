@@ -1,2 +1,0 @@
-pub mod Gained
-pub mod Taken

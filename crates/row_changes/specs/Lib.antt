@@ -1,5 +1,0 @@
-pub mod MayCome
-pub mod EncodedForms
-pub mod ChangedCubes
-pub mod AnswersGiven
-pub mod DropForms

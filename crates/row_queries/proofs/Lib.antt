@@ -1,4 +1,0 @@
-pub mod FoldedRows
-pub mod NamesFor
-pub mod LinesAnswered
-pub mod LinesRefused

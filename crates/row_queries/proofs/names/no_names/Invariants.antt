@@ -1,5 +1,0 @@
-use Rattle.std.proofs.Common.{◌≡◌, length}
-use Rattle.row_queries.proofs.names.no_names.Given as goal
-
-abbrev pub invariant-cubes : goal.invariant-cubes
-invariant-cubes l = length l.lists ≡ l._place

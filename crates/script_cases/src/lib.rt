@@ -1,7 +1,0 @@
-//! Scripts that are played on threads, tried.
-#![tactic(auto)]
-
-#[cfg(test)]
-mod rows;
-#[cfg(test)]
-mod runs;

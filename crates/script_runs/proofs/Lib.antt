@@ -1,4 +1,0 @@
-pub mod EndedRuns
-pub mod StartedRuns
-pub mod WholeRuns
-pub mod ClosingRounds

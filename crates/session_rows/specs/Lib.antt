@@ -1,9 +1,0 @@
-pub mod CubesAtDesk
-pub mod Coded
-pub mod RowsBehind
-pub mod RowsExecuted
-pub mod RowsRead
-pub mod DeskOnRows
-pub mod NamesInTheEnd
-pub mod OfferedTexts
-pub mod PlayedOnRows

@@ -1,4 +1,0 @@
-pub mod AtDesk
-pub mod MadeCubes
-pub mod KnownCubes
-pub mod FromShelf

@@ -1,3 +1,0 @@
-pub mod RowsMade
-pub mod Forms
-pub mod FromShelf

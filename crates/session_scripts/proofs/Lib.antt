@@ -1,2 +1,0 @@
-pub mod NextFromShelf
-pub mod PlayedTexts
