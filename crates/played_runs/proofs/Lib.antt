@@ -1,0 +1,9 @@
+pub mod KeptOnRecord
+pub mod FinalLists
+pub mod RecordedRuns
+pub mod Lists
+pub mod KeptByRuns
+pub mod LeftShelves
+pub mod PlayedRuns
+pub mod LeftByScripts
+pub mod WholeRuns

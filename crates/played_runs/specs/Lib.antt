@@ -1,0 +1,4 @@
+pub mod RunsOnRecord
+pub mod ReadySessions
+pub mod Shelves
+pub mod LeftByRuns
