@@ -8,10 +8,10 @@ EXAMPLE = $(CURDIR)/examples
 demo:
 	@echo 'The program runs unproved here (rt try); make program proves and builds it.'
 	@cd crates/cubrick && rt try --data visits.cubes=$(EXAMPLE)/visits.cubes --data visits.sql=$(EXAMPLE)/visits.sql \
-	    --data monday.csv=$(EXAMPLE)/monday.csv --data tuesday.csv=$(EXAMPLE)/tuesday.csv -- visits.cubes visits.sql
+	    --data monday.csv=$(EXAMPLE)/monday.csv --data tuesday.csv=$(EXAMPLE)/tuesday.csv -- --cubes visits.cubes visits.sql
 compare:
 	@folder=$$(mktemp -d) && python3 tools/three_cubes $$folder && cd crates/cubrick && \
-	    rt try $$(for it in $$folder/files/*; do echo --data $${it##*/}=$$it; done) -- three_cubes.cubes three_cubes.sql \
+	    rt try $$(for it in $$folder/files/*; do echo --data $${it##*/}=$$it; done) -- --cubes three_cubes.cubes three_cubes.sql \
 	    > $$folder/written && cmp $$folder/written $$folder/text && echo 'The program, unproved, wrote the text of the model.'
 starve:
 	@python3 tools/starve

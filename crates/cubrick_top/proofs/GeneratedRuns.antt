@@ -1,97 +1,84 @@
--- How a run over generated rows ends.
-use Rattle.std.proofs.Common.{◌≡◌, ◌≢◌, ℕ, true, List, [], ◌∷◌, map, Option, Some, None, refl, sym, ap, subst}
+-- How a run over generated rows ended, by what was played and what was written.
+use Rattle.std.proofs.Common.{◌≡◌, ◌∙◌, inr, ℕ, Bool, true, false, List, [], ◌∷◌, length, map, Option, Some, None, unwrap_or, refl, ap}
 use Rattle.std.specs.Bool.{OnTrue}
-use Rattle.std.specs.List.{AllByRecursion}
-use Rattle.std.specs.Prelude.{◌≤◌, length}
-use Rattle.cube_gen.specs.Generated.{visits}
-use Rattle.cube_language.specs.Cubes.{cubes_text}
-use Rattle.cube_language.specs.CubesText.{Declares}
-use Rattle.cube_language.specs.Pieces.{IsScript}
-use Rattle.cube_language.specs.declared.decl.Decl.{Decl}
-use Rattle.cube_language.specs.declared.piece.Piece.{Piece}
-use Rattle.cube_language.specs.declared.piece.TheConstants.{MOST_STATEMENTS}
 use Rattle.cube_journal.specs.declared.journal_entry.JournalEntry.{JournalEntry}
-use Rattle.names_dict.specs.Dictionaries.{names_of}
-use Rattle.outside.specs.Given.{whole}
-use Rattle.run_files.specs.RunFiles.{Gives}
-use Rattle.script_runs.specs.ScriptRuns.{RunsWhole}
-use Rattle.script_runs.specs.declared.running.Ran.{Ran}
-use Rattle.script_sentences.specs.Sentences.{IsRunnable, SaysInPlace, SaysInTurn, sentence_of}
-use Rattle.script_sentences.specs.declared.said.Said.{Said}
-use Rattle.cubrick_top.specs.Generated.{GeneratedEnds, HasGeneratedText, HasClosingLines, generated_files, generated_script}
-use Rattle.cubrick_top.specs.Inputs.{GivesScript}
-use Rattle.cubrick_top.specs.Runs.{IsWritten}
+use Rattle.cube_journal.specs.declared.reply.Reply.{Reply}
+use Rattle.cube_language.specs.declared.decl.Decl.{Decl}
+use Rattle.cube_rounds.specs.Stands.{Kept, kept_of_cubes}
+use Rattle.flush_loop.specs.declared.round_result.RoundResult.{RoundResult}
+use Rattle.linked_shards.specs.declared.cell.CoreShard.{CoreShard}
+use Rattle.names_dict.specs.Dictionaries.{Dictionary}
+use Rattle.played_runs.specs.ReadySessions.{sentences_of}
+use Rattle.played_runs.specs.RunsOnRecord.{IsRunOver, has_saved}
+use Rattle.run_inputs.specs.declared.inputs.RunInput.{RunInput}
+use Rattle.run_words.specs.declared.command.GenerateCommand.{GenerateCommand}
+use Rattle.cubrick_top.specs.Generated.{GeneratedEnds, HasClosingLines, HasGeneratedText, IsWrittenFirst, PlaysGenerated, ReadsGenerated, generated_files}
 use Rattle.cubrick_top.specs.declared.fault.Fault.{Fault}
-use Rattle.cubrick_top.specs.declared.fault.Fault.TheVariants.{File, NotBuilt, NoMemory, OutputFault, Words}
+use Rattle.cubrick_top.specs.declared.fault.Fault.TheVariants as fault
 use Rattle.cubrick_top.specs.declared.fault.Finish.{Finish}
-use Rattle.cubrick_top.proofs.DeclaredCubes.{as_many}
-use Rattle.cubrick_top.proofs.RunsEnd.{gained_none}
 
--- ---- the script
-
-pub gives_script : (bytes : List ℕ) (pieces : List Piece) (said : List Said) → bytes ≡ generated_script
-    → IsScript bytes pieces → SaysInTurn bytes pieces said → AllByRecursion IsRunnable said
-    → GivesScript (Gives (whole generated_script)) said
-gives_script bytes pieces said is in_order says runnable = record {
-  text = bytes;
-  is = ap (λ (text : List ℕ). Gives (whole text)) (sym is);
-  pieces = pieces;
-  in_order = in_order;
-  runs = record { says = says; runnable = runnable };
+-- A run over the cubes that were read plays the generated script.
+pub plays : (command : GenerateCommand) (input : RunInput) → ReadsGenerated command.rows input
+    → {kept : Kept} {cubes : List Decl} {tells : List (Option (List (List ℕ × List ℕ)))}
+    → cubes ≡ input.cubes.items → kept ≡ kept_of_cubes cubes → tells ≡ Some (generated_files command.rows) ∷ []
+    → (whole : Bool) (replies : List (List Reply)) (names : List (List Dictionary)) (journal : List JournalEntry)
+    (saved : Bool) (shards : List CoreShard) → length shards ≡ command.settings.shards
+    → OnTrue whole (IsRunOver kept (unwrap_or command.settings.round_every 0) tells
+    (map sentences_of input.scripts.items) replies names journal saved shards)
+    → OnTrue whole (PlaysGenerated command replies names journal saved shards)
+plays command input read cubes_are kept_is told true replies names journal saved shards all run = record {
+  input = input;
+  read = read;
+  all_shards = all;
+  run =
+      coe 0 1 (i. IsRunOver ((kept_is ∙ ap kept_of_cubes cubes_are) i) (unwrap_or command.settings.round_every 0)
+      (told i) (map sentences_of input.scripts.items) replies names journal saved shards) run;
 }
+plays command input read cubes_are kept_is told false replies names journal saved shards all run = tt
 
-pub few_sentences : (bytes : List ℕ) (pieces : List Piece) (said : List Said) → IsScript bytes pieces
-    → SaysInTurn bytes pieces said → length said ≤ MOST_STATEMENTS
-few_sentences bytes pieces said in_order says =
-    subst (λ (n : ℕ). n ≤ MOST_STATEMENTS) (sym (as_many (SaysInPlace bytes) pieces said says)) in_order.few
+module _ (command : GenerateCommand) (taken now : Option (List ℕ)) (finish : Finish) (replies : List (List Reply))
+    (names : List (List Dictionary)) (journal : List JournalEntry) (last : Option RoundResult)
+    (shards : List CoreShard) (text : List ℕ) (names_are : finish.names ≡ names)
+    (journal_is : finish.journal.items ≡ journal) (shards_are : finish.shards.items ≡ shards)
+    (shown : HasClosingLines command.rows replies journal text) where
+  as-saved : (saved : Bool) → OnTrue saved (has_saved last ≡ true)
+      → PlaysGenerated command replies names journal (has_saved last) shards
+      → PlaysGenerated command replies names journal saved shards
+  as-saved true is p = coe 0 1 (i. PlaysGenerated command replies names journal (is i) shards) p
+  as-saved false is p = record {
+    input = p.input;
+    read = p.read;
+    all_shards = p.all_shards;
+    run = record {
+      file = p.run.file;
+      names = p.run.names;
+      files = p.run.files;
+      final = p.run.final;
+      in_full = p.run.in_full;
+      ends = tt;
+    };
+  }
 
--- ---- what it has left
+  has-text : (saved : Bool) → OnTrue saved (has_saved last ≡ true)
+      → PlaysGenerated command replies names journal (has_saved last) shards
+      → HasGeneratedText command saved finish text
+  has-text saved is p = record {
+    replies = replies;
+    plays =
+        coe 1 0 (i. PlaysGenerated command replies (names_are i) (journal_is i) saved (shards_are i))
+        (as-saved saved is p);
+    shown = coe 1 0 (i. HasClosingLines command.rows replies (journal_is i) text) shown;
+  }
 
-pub has_generated : (rows : ℕ) (cubes : List Decl) (said : List Said) (told : Option (List (List ℕ × List ℕ)))
-    (ran : Ran) (text : List ℕ) → Declares (cubes_text (visits ∷ [])) cubes
-    → GivesScript (Gives (whole generated_script)) said → told ≡ Some (generated_files rows) → ran.whole ≡ true
-    → OnTrue ran.whole (RunsWhole told cubes (map sentence_of said) ran.replies.items (names_of ran.names)
-    ran.journal.items)
-    → HasClosingLines rows ran.replies.items ran.journal.items text
-    → HasGeneratedText rows (names_of ran.names) ran.journal.items text
-has_generated rows cubes said told ran text declared script as_told is runs lines = record {
-  cubes = cubes;
-  said = said;
-  input = record { text = cubes_text (visits ∷ []); is = refl; declares = declared; script = script };
-  replies = ran.replies.items;
-  ran =
-      subst (λ (t : Option (List (List ℕ × List ℕ))). RunsWhole t cubes (map sentence_of said) ran.replies.items
-      (names_of ran.names) ran.journal.items) as_told
-      (coe 0 1 (i. OnTrue (is i) (RunsWhole told cubes (map sentence_of said) ran.replies.items (names_of ran.names)
-      ran.journal.items)) runs);
-  shown = lines;
-}
+  ended : PlaysGenerated command replies names journal (has_saved last) shards → (f : Option Fault)
+      → (f ≡ None → has_saved last ≡ true) → IsWrittenFirst taken text now f → GeneratedEnds command taken now finish f
+  ended p None saved gained = (text, has-text true (saved refl) p, gained)
+  ended p (Some fault.OutputFault) saved gained = (text, has-text false tt p, gained)
+  ended p (Some fault.NoMemory) saved gained = inr (text, has-text false tt p, gained)
+  ended p f saved gained = absurd gained
 
--- ---- how it ends
-
--- The text was written, or some of it.
-pub ends_written : (rows : ℕ) (names : List (List (List (List ℕ)))) (journal : List JournalEntry) (text : List ℕ)
-    (taken now : Option (List ℕ)) (finish : Finish) (fault : Option Fault)
-    → HasGeneratedText rows names journal text → names_of finish.names ≡ names → finish.journal.items ≡ journal
-    → IsWritten taken text now fault → fault ≢ Some NoMemory → GeneratedEnds rows taken now finish fault
-ends_written rows names journal text taken now finish fault has same_names same_journal written known =
-    by fault written known
-  where
-    here : HasGeneratedText rows (names_of finish.names) finish.journal.items text
-    here = coe 1 0 (i. HasGeneratedText rows (same_names i) (same_journal i) text) has
-
-    by : (fault : Option Fault) → IsWritten taken text now fault → fault ≢ Some NoMemory
-        → GeneratedEnds rows taken now finish fault
-    by None written known = (text, here, written)
-    by (Some OutputFault) written known = (text, here, written)
-    by (Some NoMemory) written known = absurd (known refl)
-    by (Some Words) written known = absurd written
-    by (Some (File bad)) written known = absurd written
-    by (Some (NotBuilt built)) written known = absurd written
-
--- Memory ran out before.
-pub ends_unwritten : (rows : ℕ) (taken : Option (List ℕ)) (finish : Finish) (fault : Option Fault)
-    → fault ≡ Some NoMemory → finish.journal.items ≡ [] → finish.names ≡ [] → GeneratedEnds rows taken taken finish fault
-ends_unwritten rows taken finish fault is journal names =
-    subst (GeneratedEnds rows taken taken finish) (sym is)
-    (record { journal = journal; names = names; gained_none = refl }, gained_none taken)
+  pub ended-whole : (whole : Bool) → whole ≡ true
+      → OnTrue whole (PlaysGenerated command replies names journal (has_saved last) shards) → (f : Option Fault)
+      → (f ≡ None → has_saved last ≡ true) → IsWrittenFirst taken text now f → GeneratedEnds command taken now finish f
+  ended-whole true is p f saved gained = ended p f saved gained
+  ended-whole false is p f saved gained = absurd (cc)

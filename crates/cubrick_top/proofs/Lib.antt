@@ -1,8 +1,8 @@
-pub mod DeclaredCubes
-pub mod FilesRead
-pub mod RunsEnd
-pub mod Served
-pub mod FaultsTold
-pub mod WordsRead
-pub mod JoinedTexts
+pub mod EndedRuns
+pub mod RefusedStores
+pub mod ReadShelves
+pub mod ReadRuns
+pub mod UnreadRuns
+pub mod AskedShards
 pub mod GeneratedRuns
+pub mod JoinedTexts

@@ -1,34 +1,31 @@
 -- A run over generated rows: its files, its script, and the text that it comes to.
 -- Source: this project's own.
-use Rattle.std.specs.Prelude.{◌≡◌, ℕ, List, [], ◌∷◌, ◌++◌, codes, map, Option, Some, None}
+use Rattle.std.specs.Prelude.{◌≡◌, ◌⊎◌, ℕ, Bool, true, false, List, [], ◌∷◌, ◌++◌, codes, length, map, Option, Some, None, unwrap_or}
+use Rattle.std.specs.List.{AllByRecursion}
 use Rattle.cube_gen.specs.Generated.{part_name, part_text, script_text, visits}
-use Rattle.cube_language.specs.declared.decl.Decl.{Decl}
-use Rattle.cube_language.specs.Cubes.{cubes_text}
 use Rattle.cube_journal.specs.WholeText.{generated_text}
 use Rattle.cube_journal.specs.declared.journal_entry.JournalEntry.{JournalEntry}
 use Rattle.cube_journal.specs.declared.reply.Reply.{Reply}
 use Rattle.cube_journal.specs.declared.reply.Reply.TheVariants as reply
+use Rattle.cube_language.specs.Cubes.{cubes_text}
+use Rattle.cube_rounds.specs.Stands.{kept_of_cubes}
 use Rattle.cube_values.specs.declared.table.Field.{Field}
-use Rattle.names_dict.specs.Dictionaries.{names_of}
-use Rattle.outside.specs.Given.{whole}
+use Rattle.linked_shards.specs.declared.cell.CoreShard.{CoreShard}
+use Rattle.names_dict.specs.Dictionaries.{Dictionary}
 use Rattle.outside.specs.Output.{Gained, GainedPrefix}
-use Rattle.run_files.specs.RunFiles.{Gives}
-use Rattle.script_runs.specs.ScriptRuns.{RunsWhole}
-use Rattle.script_sentences.specs.Sentences.{sentence_of}
-use Rattle.script_sentences.specs.declared.said.Said.{Said}
-use Rattle.cubrick_top.specs.Inputs.{GiveInput, TwoReadings}
-use Rattle.cubrick_top.specs.Runs.{LeavesNothing}
+use Rattle.outside.specs.Memory.{ShelfState}
+use Rattle.played_runs.specs.ReadySessions.{sentences_of}
+use Rattle.played_runs.specs.RunsOnRecord.{IsRunOver}
+use Rattle.run_files.specs.Readings.{IsToldAs}
+use Rattle.run_files.specs.RunFiles.{FileReading, RunFile}
+use Rattle.run_inputs.specs.ReadInputs.{GiveRunInput, files_of_run}
+use Rattle.run_inputs.specs.declared.inputs.RunInput.{RunInput}
+use Rattle.run_words.specs.declared.command.GenerateCommand.{GenerateCommand}
+use Rattle.cubrick_top.specs.PlayedEnds.{LeavesNothing}
 use Rattle.cubrick_top.specs.declared.fault.Fault.{Fault}
 use Rattle.cubrick_top.specs.declared.fault.Fault.TheVariants.{OutputFault, NoMemory}
 use Rattle.cubrick_top.specs.declared.fault.Finish.{Finish}
-
--- The file of a part of the rows, by its name.
-abbrev pub part_file : ℕ → ℕ → List ℕ × List ℕ
-part_file rows part = (part_name part, part_text rows part)
-
--- The files of so many rows, in four parts.
-abbrev pub generated_files : ℕ → List (List ℕ × List ℕ)
-generated_files rows = part_file rows 1 ∷ part_file rows 2 ∷ part_file rows 3 ∷ part_file rows 4 ∷ []
+use Rattle.cubrick_top.specs.declared.generating.TheConstants.{CUBES, SCRIPT}
 
 -- The query that stands behind the loads.
 abbrev pub closing_query : List ℕ
@@ -38,10 +35,37 @@ closing_query = codes "SELECT region, SUM(likes), COUNT(*) FROM visits GROUP BY 
 abbrev pub generated_script : List ℕ
 generated_script = script_text 1 ++ (script_text 2 ++ (script_text 3 ++ (script_text 4 ++ closing_query)))
 
--- What a run over generated rows reads in place of a cubes file and a script.
-abbrev pub generated_readings : TwoReadings
-generated_readings =
-    record { cubes = Gives (whole (cubes_text (visits ∷ []))); script = Gives (whole generated_script) }
+-- The file of a part of the rows, by its name.
+abbrev pub part_file : ℕ → ℕ → List ℕ × List ℕ
+part_file rows part = (part_name part, part_text rows part)
+
+-- The files of a run over so many rows: its cubes file, its script, and the rows in four parts.
+abbrev pub generated_files : ℕ → List (List ℕ × List ℕ)
+generated_files rows =
+    (CUBES.now, cubes_text (visits ∷ [])) ∷ (SCRIPT.now, generated_script)
+    ∷ part_file rows 1 ∷ part_file rows 2 ∷ part_file rows 3 ∷ part_file rows 4 ∷ []
+
+-- What a shelf in memory tells.
+abbrev pub files_told : ShelfState → Option (List (List ℕ × List ℕ))
+files_told shelf = Some shelf.files
+
+-- These files give this.
+pub record ReadsGenerated (rows : ℕ) (input : RunInput) : Type 0 where
+  pub reading : RunFile → FileReading
+  pub as_told : AllByRecursion (λ file. IsToldAs (Some (generated_files rows)) file (reading file))
+      (files_of_run CUBES.now (SCRIPT.now ∷ []))
+  pub given : GiveRunInput CUBES.now (SCRIPT.now ∷ []) reading input
+
+-- The script was played over them, with these replies, and left this, with as many shards as were asked for. Where the
+-- last round saved all, the run ended with all safe.
+pub record PlaysGenerated (command : GenerateCommand) (replies : List (List Reply)) (names : List (List Dictionary))
+    (journal : List JournalEntry) (saved : Bool) (shards : List CoreShard) : Type 0 where
+  pub input : RunInput
+  pub read : ReadsGenerated command.rows input
+  pub all_shards : length shards ≡ command.settings.shards
+  pub run : IsRunOver (kept_of_cubes input.cubes.items) (unwrap_or command.settings.round_every 0)
+      (Some (generated_files command.rows) ∷ []) (map sentences_of input.scripts.items) replies names journal saved
+      shards
 
 -- The lines of the closing query, where all four files were stored.
 abbrev pub closing_lines : List Reply → Option (List (List Field))
@@ -50,28 +74,34 @@ closing_lines (reply.Loaded a b c d ∷ reply.Loaded e f g h ∷ reply.Loaded i 
 closing_lines replies = None
 
 -- The text over these replies and this journal: all files were stored, and it has the lines of the closing query.
-pub record HasClosingLines (rows : ℕ) (replies : List Reply) (journal : List JournalEntry) (text : List ℕ) : Type 0 where
+pub record HasClosingLines (rows : ℕ) (replies : List (List Reply)) (journal : List JournalEntry) (text : List ℕ)
+    : Type 0 where
+  pub said : List Reply
+  pub one : replies ≡ said ∷ []
   pub lines : List (List Field)
-  pub closing : closing_lines replies ≡ Some lines
+  pub closing : closing_lines said ≡ Some lines
   pub text_is : text ≡ generated_text 0 rows lines journal
 
--- The script was run whole over the cube and the files of so many rows, with these names and this journal, and this is
--- the text.
-pub record HasGeneratedText (rows : ℕ) (names : List (List (List (List ℕ)))) (journal : List JournalEntry)
-    (text : List ℕ) : Type 0 where
-  pub cubes : List Decl
-  pub said : List Said
-  pub input : GiveInput generated_readings cubes said
-  pub replies : List Reply
-  pub ran : RunsWhole (Some (generated_files rows)) cubes (map sentence_of said) replies names journal
-  pub shown : HasClosingLines rows replies journal text
+-- The script was played over the files, and this is the text.
+pub record HasGeneratedText (command : GenerateCommand) (saved : Bool) (finish : Finish) (text : List ℕ) : Type 0 where
+  pub replies : List (List Reply)
+  pub plays : PlaysGenerated command replies finish.names finish.journal.items saved finish.shards.items
+  pub shown : HasClosingLines command.rows replies finish.journal.items text
+
+-- What was written of a text; where memory ran out in the last round it is whole.
+abbrev pub IsWrittenFirst : Option (List ℕ) → List ℕ → Option (List ℕ) → Option Fault → Type 0
+IsWrittenFirst taken text now None = Gained taken text now
+IsWrittenFirst taken text now (Some OutputFault) = GainedPrefix taken text now
+IsWrittenFirst taken text now (Some NoMemory) = Gained taken text now
+IsWrittenFirst taken text now (Some fault) = ⊥
 
 -- How a run over generated rows ended, and what was written.
-abbrev pub GeneratedEnds : ℕ → Option (List ℕ) → Option (List ℕ) → Finish → Option Fault → Type 0
-GeneratedEnds rows taken now finish None =
-    (text : List ℕ) × HasGeneratedText rows (names_of finish.names) finish.journal.items text × Gained taken text now
-GeneratedEnds rows taken now finish (Some OutputFault) =
-    (text : List ℕ) × HasGeneratedText rows (names_of finish.names) finish.journal.items text
-    × GainedPrefix taken text now
-GeneratedEnds rows taken now finish (Some NoMemory) = LeavesNothing finish [] × Gained taken [] now
-GeneratedEnds rows taken now finish (Some fault) = ⊥
+abbrev pub GeneratedEnds : GenerateCommand → Option (List ℕ) → Option (List ℕ) → Finish → Option Fault → Type 0
+GeneratedEnds command taken now finish None =
+    (text : List ℕ) × HasGeneratedText command true finish text × Gained taken text now
+GeneratedEnds command taken now finish (Some OutputFault) =
+    (text : List ℕ) × HasGeneratedText command false finish text × GainedPrefix taken text now
+GeneratedEnds command taken now finish (Some NoMemory) =
+    (LeavesNothing finish × Gained taken [] now)
+    ⊎ ((text : List ℕ) × HasGeneratedText command false finish text × Gained taken text now)
+GeneratedEnds command taken now finish (Some fault) = ⊥

@@ -1,6 +1,8 @@
-pub mod Parts
-pub mod Inputs
-pub mod Answers
-pub mod Runs
-pub mod Words
+pub mod Statuses
+pub mod Written
+pub mod Unplayed
+pub mod PlayedEnds
+pub mod OpenedEnds
+pub mod RunEnds
+pub mod WordsEnds
 pub mod Generated

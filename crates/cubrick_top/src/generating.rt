@@ -1,64 +1,49 @@
 //! The run over generated rows.
-
-ghost use Rattle.std.specs.Prelude.{◌≡◌, ◌≢◌, ◌≤◌, ◌++◌, ◌∷◌, [], IfOk, Some, codes, decimal, length, string_bytes};
+ghost use Rattle.std.specs.Prelude.{◌≡◌, ◌≤◌, ◌++◌, ◌∷◌, [], IfOk, None, Some, codes, decimal, length, map, string_bytes, true};
+ghost use Rattle.std.specs.Bool.{OnTrue};
 ghost use Rattle.std.specs.List.{AllByRecursion};
 ghost use Rattle.std.specs.Option.{option_copied};
-ghost use Rattle.aosi_desk.specs.Desks.{AreCubes};
-ghost use Rattle.cube_gen.specs.Generated.{part_name, part_text, visits};
+ghost use Rattle.script_sentences.specs.GivenTexts.{MayBeSaid};
+ghost use Rattle.cube_gen.specs.Generated.{part_name, part_text};
 ghost use Rattle.cube_journal.specs.Counters.{counters};
 ghost use Rattle.cube_journal.specs.JournalLines.{end_text};
 ghost use Rattle.cube_journal.specs.Replies.{table_text};
-ghost use Rattle.cube_language.specs.Cubes.{cubes_text};
-ghost use Rattle.cube_language.specs.CubesText.{Declares};
-ghost use Rattle.names_dict.specs.Dictionaries.{names_of};
-ghost use Rattle.run_files.specs.RunFiles.{Gives};
-ghost use Rattle.outside.specs.Given.{whole};
-ghost use Rattle.script_sentences.specs.Sentences.{IsRunnable};
-ghost use Rattle.cubrick_top.specs.Generated.{GeneratedEnds, HasGeneratedText, HasClosingLines, closing_lines, generated_files, generated_script};
-ghost use Rattle.cubrick_top.specs.Inputs.{GivesScript};
-ghost use Rattle.cubrick_top.specs.Runs.{IsWritten, OutputRises, status_of};
-ghost use Rattle.cubrick_top.specs.declared.fault.Fault.TheVariants.{NoMemory, Words};
+ghost use Rattle.cube_schema.specs.Texts.{AreDeclared};
+ghost use Rattle.played_runs.specs.ReadySessions.{said_in};
+ghost use Rattle.played_runs.specs.RunsOnRecord.{has_saved};
+ghost use Rattle.cubrick_top.specs.Generated.{GeneratedEnds, HasClosingLines, IsWrittenFirst, PlaysGenerated, ReadsGenerated, closing_lines, files_told, generated_files, generated_script};
+ghost use Rattle.cubrick_top.specs.PlayedEnds.{OutputRises};
+ghost use Rattle.cubrick_top.specs.Statuses.{status_of};
 
-use crate::fault::{Fault, Finish};
-use crate::running::{finish, status_of};
+use crate::fault::{Fault, Finish, finish_unplayed, status_of};
 use crate::writing::put_text;
+use core_program::CoreSize;
 use cube_gen::{part, script};
-use cube_journal::{Counters, JournalEntry, Reply};
-use cube_language::{MOST_STATEMENTS, put_u64};
-use cube_schema::{Schema, read_cubes};
-use cube_values::Line;
-use names_dict::Dicts;
+use cube_journal::{Counters, Reply};
+use cube_language::put_u64;
+use cube_values::{Line, Text};
+use flush_loop::{NoStore, RoundResult};
+use opened_rounds::a_core_without_a_store_keeps_no_rounds;
+use opened_store::kept_at_start;
 use outside::{ShelfMemory, Sink};
+use outside_disk::Gate;
+use played_runs::{PlayedRun, play_run};
 use report_text::{put_end, put_table};
-use run_files::Script;
-use script_runs::{Ran, run_script};
-use script_sentences::{Said, read_sentences};
-use sql_words::split;
+use run_inputs::{RunInput, read_run_files, scripts_that_were_read_may_be_given};
+use run_words::GenerateCommand;
 use std::alloc::{AllocError, Global};
+use std::sync::Wait;
+use std::thread::Threads;
+use threaded_callers::ThreadStarter;
+
+/// The name of the cubes file.
+const CUBES: &str = "visits.cubes";
+
+/// The name of the script.
+const SCRIPT: &str = "visits.sql";
 
 /// The query that stands behind the loads.
 const CLOSING_QUERY: &[u8] = b"SELECT region, SUM(likes), COUNT(*) FROM visits GROUP BY region";
-
-/// What a run over generated rows has left, and its text.
-#[derive(Drop)]
-struct Generated {
-    text: Vec<u8>,
-    journal: Vec<JournalEntry>,
-    names: Dicts,
-}
-
-// The cube that is loaded.
-#[tactic(auto, using(crate::proofs::DeclaredCubes::declared_are_cubes))]
-fn generated_cubes(alloc: Global) -> Result<Vec<Schema>, AllocError>
-    ensures declared { IfOk result (λ cubes. Declares (cubes_text (visits ∷ [])) cubes.items) }
-    ensures cubes { IfOk result (λ cubes. AreCubes cubes.items) }
-{
-    match read_cubes(alloc, cube_gen::cubes_text().as_bytes()) {
-        Ok(cubes) => Ok(cubes),
-        // The text is in order, so that memory ran out.
-        Err(_) => Err(AllocError),
-    }
-}
 
 // The script that loads the files, and asks.
 fn script_bytes(alloc: Global) -> Result<Vec<u8>, AllocError>
@@ -72,26 +57,6 @@ fn script_bytes(alloc: Global) -> Result<Vec<u8>, AllocError>
     Ok(out)
 }
 
-// What the texts of the script say.
-#[tactic(auto, using(crate::proofs::GeneratedRuns::gives_script, crate::proofs::GeneratedRuns::few_sentences))]
-fn generated_sentences(alloc: Global) -> Result<Vec<Said>, AllocError>
-    ensures said { IfOk result (λ said. GivesScript (Gives (whole generated_script)) said.items) }
-    ensures few { IfOk result (λ said. length said.items ≤ MOST_STATEMENTS) }
-    ensures forms { IfOk result (λ said. AllByRecursion IsRunnable said.items) }
-{
-    let bytes = script_bytes(alloc)?;
-    let pieces = match split(alloc, bytes.as_slice()) {
-        Ok(pieces) => pieces,
-        // The text is in order, so that memory ran out.
-        Err(_) => return Err(AllocError),
-    };
-    match read_sentences(alloc, &Script { bytes, pieces }) {
-        Ok(said) => Ok(said),
-        // No text asks for a watch, so that memory ran out.
-        Err(_) => Err(AllocError),
-    }
-}
-
 // The file of a part of the rows.
 fn part_file(alloc: Global, rows: u64, number: u32) -> Result<(String, Vec<u8>), AllocError>
     ensures name { IfOk result (λ file. string_bytes file.0 ≡ part_name number) }
@@ -103,11 +68,14 @@ fn part_file(alloc: Global, rows: u64, number: u32) -> Result<(String, Vec<u8>),
     ))
 }
 
-// A shelf with the files of so many rows.
+// A shelf with the cubes file, the script, and the files of so many rows.
 fn generated_shelf(alloc: Global, rows: u64) -> Result<ShelfMemory, AllocError>
     ensures { IfOk result (λ shelf. shelf.files ≡ generated_files rows) }
 {
-    let mut files = Vec::with_capacity(alloc, 4)?;
+    let mut files = Vec::with_capacity(alloc, 6)?;
+    let cubes = Vec::from_slice(alloc, cube_gen::cubes_text().as_bytes())?;
+    files.push((String::from_str(alloc, CUBES)?, cubes))?;
+    files.push((String::from_str(alloc, SCRIPT)?, script_bytes(alloc)?))?;
     files.push(part_file(alloc, rows, 1)?)?;
     files.push(part_file(alloc, rows, 2)?)?;
     files.push(part_file(alloc, rows, 3)?)?;
@@ -149,75 +117,176 @@ fn text_bytes(
     Ok(out)
 }
 
-// The text over what the script has left, where all files were stored.
-fn generated_bytes(alloc: Global, rows: u64, ran: &Ran) -> Result<Vec<u8>, AllocError>
+// What a run over generated rows reads: its cubes and its script, and the shelf from which it loads.
+#[derive(Drop)]
+struct GeneratedInput {
+    input: RunInput,
+    shelves: Vec<ShelfMemory>,
+}
+
+// Reads the cubes file and the script of a run over so many rows.
+fn read_generated(alloc: Global, rows: u64) -> Result<GeneratedInput, AllocError>
+    ensures read { IfOk result (λ g. ReadsGenerated rows g.input) }
+    ensures cubes { IfOk result (λ g. AreDeclared g.input.cubes.items) }
+    ensures said { IfOk result (λ g. AllByRecursion MayBeSaid g.input.scripts.items) }
+    ensures one { IfOk result (λ g. length g.input.scripts.items ≡ 1) }
+    ensures shelves { IfOk result (λ g.
+        map files_told g.shelves.items ≡ Some (generated_files rows) ∷ []) }
+{
+    scripts_that_were_read_may_be_given();
+    let mut shelves = Vec::with_capacity(alloc, 1)?;
+    let mut names = Vec::with_capacity(alloc, 1)?;
+    names.push(Text::from_string(String::from_str(alloc, SCRIPT)?))?;
+    let mut shelf = generated_shelf(alloc, rows)?;
+    match read_run_files(alloc, &mut shelf, CUBES, names.as_slice()) {
+        Ok(input) => {
+            shelves.push(shelf)?;
+            Ok(GeneratedInput { input, shelves })
+        }
+        // The files are in order, so that memory ran out.
+        Err(_) => Err(AllocError),
+    }
+}
+
+// Plays the script over the files of so many rows.
+fn play_generated<R: Threads + Wait + Sync, G: Gate + Sync>(
+    rt: &R,
+    alloc: Global,
+    starter: ThreadStarter,
+    command: GenerateCommand,
+    gate: &G,
+) -> Result<PlayedRun<ShelfMemory, NoStore>, AllocError>
+    requires some_shards { 1 ≤ command.settings.shards }
+    requires few_shards { command.settings.shards ≤ 64 }
+    ensures played { IfOk result (λ ran. OnTrue ran.whole (PlaysGenerated command
+        (map said_in ran.replies.items) ran.names ran.journal.items
+        (has_saved ran.last_round) ran.shards.items)) }
+    ensures counters { IfOk result (λ ran. ran.counters ≡ counters 0 ran.journal.items) }
+{
+    a_core_without_a_store_keeps_no_rounds();
+    let GeneratedInput { input, shelves } = read_generated(alloc, command.rows as u64)?;
+    let kept = kept_at_start(alloc, input.cubes.as_slice())?;
+    let size = CoreSize::new(command.settings.shards, 1);
+    match play_run(
+        rt,
+        alloc,
+        starter,
+        size,
+        command.settings.round_every,
+        &kept,
+        input.scripts,
+        shelves,
+        NoStore,
+        gate,
+    ) {
+        Ok(ran) => Ok(ran),
+        // Nothing is kept, so that memory ran out.
+        Err(_) => Err(AllocError),
+    }
+}
+
+// The text over what the script has left, where it was played whole and all files were stored.
+fn generated_bytes(
+    alloc: Global,
+    rows: u64,
+    ran: &PlayedRun<ShelfMemory, NoStore>,
+) -> Result<Vec<u8>, AllocError>
     requires counters { ran.now.counters ≡ counters 0 ran.now.journal.items }
-    ensures { IfOk result (λ text. HasClosingLines rows ran.now.replies.items
+    ensures whole { IfOk result (λ text. ran.now.whole ≡ true) }
+    ensures text { IfOk result (λ text. HasClosingLines rows (map said_in ran.now.replies.items)
         ran.now.journal.items text.items) }
 {
-    match closing_lines(ran.replies.as_slice()) {
+    if !ran.whole {
+        return Err(AllocError);
+    }
+    // The files are in order and so is the query: where they were not stored, memory ran out.
+    let [said] = ran.replies.as_slice() else {
+        return Err(AllocError);
+    };
+    match closing_lines(said.as_slice()) {
         Some(lines) => text_bytes(alloc, rows, lines, &ran.counters),
-        // The files are in order and so is the query, so that memory ran out.
         None => Err(AllocError),
     }
 }
 
-// Runs the script over the files of so many rows.
-#[tactic(auto, using(crate::proofs::GeneratedRuns::has_generated))]
-fn generate(alloc: Global, rows: u64) -> Result<Generated, AllocError>
-    ensures { IfOk result (λ g. HasGeneratedText rows (names_of g.names)
-        g.journal.items g.text.items) }
-{
-    let cubes = generated_cubes(alloc)?;
-    let said = generated_sentences(alloc)?;
-    let mut shelf = generated_shelf(alloc, rows)?;
-    let ran = run_script(alloc, &mut shelf, cubes, said)?;
-    if !ran.whole {
-        return Err(AllocError);
-    }
-    let text = generated_bytes(alloc, rows, &ran)?;
-    let Ran { journal, names, .. } = ran;
-    Ok(Generated {
-        text,
-        journal,
-        names,
-    })
-}
-
 // Writes the text, and ends the run.
-fn finish_generated<K: Sink>(sink: &mut K, generated: Generated) -> Finish
+fn finish_generated<K: Sink>(
+    sink: &mut K,
+    text: &[u8],
+    ran: PlayedRun<ShelfMemory, NoStore>,
+) -> Finish
     ensures status { result.status ≡ status_of result.fault }
-    ensures journal { result.journal.items ≡ generated.journal.items }
-    ensures names { result.names ≡ generated.names }
+    ensures journal { result.journal.items ≡ ran.journal.items }
+    ensures names { result.names ≡ ran.names }
     ensures output { OutputRises result.fault (K.fault_count sink.old) (K.fault_count sink.new) }
-    ensures written { IsWritten (K.taken sink.old) generated.text.items
-        (K.taken sink.new) result.fault }
-    ensures known { result.fault ≢ Some NoMemory }
+    ensures shards { result.shards ≡ ran.shards }
+    ensures saved { result.fault ≡ None → has_saved ran.last_round ≡ true }
+    ensures written { IsWrittenFirst (K.taken sink.old) text.now (K.taken sink.new) result.fault }
 {
-    let Generated {
-        text,
+    let PlayedRun {
         journal,
         names,
-    } = generated;
-    let fault = put_text(sink, text.as_slice());
+        shards,
+        last_round,
+        ..
+    } = ran;
+    let fault = match put_text(sink, text) {
+        None => match last_round {
+            Some(RoundResult::Safe(_)) => None,
+            Some(RoundResult::Idle(_)) => None,
+            _ => Some(Fault::NoMemory),
+        },
+        Some(fault) => Some(fault),
+    };
     Finish {
         status: status_of(&fault),
         fault,
         journal,
         names,
+        shards,
     }
 }
 
-/// Runs the script over the files of so many rows, and writes the text.
-#[tactic(auto, using(crate::proofs::GeneratedRuns::ends_written, crate::proofs::GeneratedRuns::ends_unwritten))]
-pub(crate) fn run_generator<K: Sink>(alloc: Global, rows: u64, sink: &mut K) -> Finish
+// Writes the text of what was played.
+fn write_generated<K: Sink>(
+    alloc: Global,
+    command: GenerateCommand,
+    ran: PlayedRun<ShelfMemory, NoStore>,
+    sink: &mut K,
+) -> Finish
+    requires played { OnTrue ran.whole (PlaysGenerated command
+        (map said_in ran.replies.items) ran.names ran.journal.items (has_saved ran.last_round)
+        ran.shards.items) }
+    requires counters { ran.counters ≡ counters 0 ran.journal.items }
     ensures status { result.status ≡ status_of result.fault }
-    ensures not_words { result.fault ≢ Some Words }
     ensures output { OutputRises result.fault (K.fault_count sink.old) (K.fault_count sink.new) }
-    ensures ended { GeneratedEnds rows (K.taken sink.old) (K.taken sink.new) result result.fault }
+    ensures ended { GeneratedEnds command (K.taken sink.old) (K.taken sink.new) result
+        result.fault }
 {
-    match generate(alloc, rows) {
-        Ok(generated) => finish_generated(sink, generated),
-        Err(_) => finish(alloc, Fault::NoMemory),
+    match generated_bytes(alloc, command.rows as u64, &ran) {
+        Ok(text) => finish_generated(sink, text.as_slice(), ran),
+        Err(_) => finish_unplayed(alloc, Fault::NoMemory),
+    }
+}
+
+/// Plays the script over the files of so many rows, and writes the text.
+pub(crate) fn run_generator<R: Threads + Wait + Sync, K: Sink, G: Gate + Sync>(
+    rt: &R,
+    alloc: Global,
+    starter: ThreadStarter,
+    command: GenerateCommand,
+    gate: &G,
+    sink: &mut K,
+) -> Finish
+    requires some_shards { 1 ≤ command.settings.shards }
+    requires few_shards { command.settings.shards ≤ 64 }
+    ensures status { result.status ≡ status_of result.fault }
+    ensures output { OutputRises result.fault (K.fault_count sink.old) (K.fault_count sink.new) }
+    ensures ended { GeneratedEnds command (K.taken sink.old) (K.taken sink.new) result
+        result.fault }
+{
+    match play_generated(rt, alloc, starter, command, gate) {
+        Ok(ran) => write_generated(alloc, command, ran, sink),
+        Err(_) => finish_unplayed(alloc, Fault::NoMemory),
     }
 }

@@ -1,13 +1,15 @@
-//! The run of the program: from its words to its text.
+//! The run of the program: its words, its files, its store, the scripts of its sessions on threads, and the text.
 #![tactic(auto)]
 
 mod fault;
-mod files;
 mod generating;
+mod opening;
+mod playing;
+mod reading;
 mod running;
-mod words;
+mod surroundings;
 mod writing;
 
-pub use fault::{BuiltPart, Fault, Finish};
-pub use running::{finish, run};
-pub use words::MOST_GENERATED;
+pub use fault::{Fault, Finish, finish_unplayed};
+pub use running::run;
+pub use surroundings::{Ended, Outside};

@@ -13,7 +13,9 @@ returns c =
     (c.in_ok-extend_from_slice.ensures.items
     ∙ ap (λ (x : List ℕ). c.in_ok-out.out.items ++ x) (c.as_slice.ensures.value ∙ c.in_ok-script.ensures))
     (c.in_ok-extend_from_slice-2.ensures.items
-    ∙ ap (λ (x : List ℕ). c.extend_from_slice.new.self.items ++ x) (c.as_slice-2.ensures.value ∙ c.in_ok-script-2.ensures))
+    ∙ ap (λ (x : List ℕ). c.extend_from_slice.new.self.items ++ x)
+    (c.as_slice-2.ensures.value ∙ c.in_ok-script-2.ensures))
     (c.in_ok-extend_from_slice-3.ensures.items
-    ∙ ap (λ (x : List ℕ). c.extend_from_slice-2.new.self.items ++ x) (c.as_slice-3.ensures.value ∙ c.in_ok-script-3.ensures))
+    ∙ ap (λ (x : List ℕ). c.extend_from_slice-2.new.self.items ++ x)
+    (c.as_slice-3.ensures.value ∙ c.in_ok-script-3.ensures))
     c.in_ok-extend_from_slice-4.ensures.items
