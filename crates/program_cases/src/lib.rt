@@ -1,11 +1,29 @@
-//! Cases of the program: runs over files and output in memory.
+//! Cases of the program: whole runs over files, disks and output in memory.
 #![tactic(auto)]
 
 #[cfg(test)]
+mod bytes;
+#[cfg(test)]
+mod endings;
+#[cfg(test)]
+mod files;
+#[cfg(test)]
 mod generated;
+#[cfg(test)]
+mod orders;
 #[cfg(test)]
 mod refusals;
 #[cfg(test)]
 mod rows;
 #[cfg(test)]
 mod runs;
+#[cfg(test)]
+mod sessions;
+#[cfg(test)]
+mod stops;
+#[cfg(test)]
+mod stores;
+#[cfg(test)]
+mod tables;
+#[cfg(test)]
+mod watches;

@@ -1,421 +1,205 @@
-//! Runs over files and output in memory.
+//! One run, over files, disks and output in memory.
 
-use cubrick_top::run;
+ghost use Rattle.std.specs.Prelude.{IfOk, IsSome};
+ghost use Rattle.outside_disk.specs.Memory.{disk_view};
+ghost use Rattle.outside_disk.specs.Views.{IsSynced};
+
+use crate::files::FILES;
+use cubrick_top::{Ended, Finish, Outside, run};
 use outside::{ShelfMemory, SinkMemory};
+use outside_disk::{DiskMemory, Gate};
 use std::alloc::{AllocError, Global};
-use std::process::Abort;
-use std::test::Fail;
+use std::sync::Wait;
+use std::thread::Threads;
+use threaded_callers::ThreadStarter;
 
-pub(crate) const CUBES: &[u8] = b"cube t\ndim x int 5 2\nmetric m\n";
+// How many shelves a run has.
+const SHELVES: usize = 16;
 
-pub(crate) const VISITS: &[u8] =
-    b"cube visits\ndim region text 4 2\ndim gender text 4 1\nmetric likes\nmetric comments\n";
+// The room of a disk: each call uses up one, and one for each byte.
+const DISK_ROOM: u64 = 20_000;
 
-const SCRIPT: &[u8] =
-    b"INSERT INTO t VALUES (4,7); INSERT INTO t VALUES (0,-2); SELECT SUM(m) FROM t;";
-
-fn strings(alloc: Global, texts: &[&str]) -> Result<Vec<String>, AllocError> {
-    let mut strings = Vec::new(alloc);
-    for text in texts {
-        strings.push(String::from_str(alloc, text)?)?;
-    }
-    Ok(strings)
+/// A disk: its file, the calls that fail, and the call from which on all do.
+#[derive(Clone, Copy)]
+pub(crate) struct OnDisk<'a> {
+    pub(crate) file: &'a [u8],
+    pub(crate) failing: &'a [u64],
+    pub(crate) stop: Option<u64>,
 }
 
-// A shelf with the cubes file c, the script s and the file f, whose calls of these numbers fail.
-fn shelf(
+/// A disk on which no call fails.
+pub(crate) fn sound_disk(file: &[u8]) -> OnDisk {
+    OnDisk {
+        file,
+        failing: &[],
+        stop: None,
+    }
+}
+
+/// What a run has of the outside.
+#[derive(Clone, Copy)]
+pub(crate) struct Given<'a> {
+    /// The scripts, one on each line. On the shelves they are the files `1`, `2` and so on.
+    pub(crate) scripts: &'a str,
+    /// Files that the first shelf has besides.
+    pub(crate) own: &'a [(&'a str, &'a [u8])],
+    /// The calls on the first shelf that fail.
+    pub(crate) shelf_failing: &'a [u64],
+    /// How many bytes the output takes.
+    pub(crate) room: u64,
+    /// The calls on the output that fail.
+    pub(crate) sink_failing: &'a [u64],
+    pub(crate) disk: OnDisk<'a>,
+    pub(crate) other: OnDisk<'a>,
+}
+
+/// Scripts with disks that hold nothing, and nothing that fails.
+pub(crate) fn given_scripts(scripts: &str) -> Given {
+    Given {
+        scripts,
+        own: &[],
+        shelf_failing: &[],
+        room: 100_000,
+        sink_failing: &[],
+        disk: sound_disk(&[]),
+        other: sound_disk(&[]),
+    }
+}
+
+/// How a run ended, and what it left.
+#[derive(Drop)]
+pub(crate) struct Outcome {
+    /// The status, and behind it the text of the fault, if there is one.
+    pub(crate) ends: String,
+    pub(crate) text: Vec<u8>,
+    pub(crate) finish: Finish,
+    pub(crate) disk: DiskMemory,
+    pub(crate) other: DiskMemory,
+}
+
+// The words of a line.
+fn words_of(alloc: Global, line: &str) -> Result<Vec<String>, AllocError> {
+    let mut words = Vec::new(alloc);
+    for word in line.split(' ') {
+        if !word.is_empty() {
+            words.push(String::from_str(alloc, word)?)?;
+        }
+    }
+    Ok(words)
+}
+
+// Puts a file on a shelf.
+fn put_file(
     alloc: Global,
-    cubes: &[u8],
-    script: &[u8],
-    file: Vec<u8>,
-    failing: &[u64],
-) -> Result<ShelfMemory, AllocError> {
+    files: &mut Vec<(String, Vec<u8>)>,
+    name: &str,
+    bytes: &[u8],
+) -> Result<(), AllocError> {
+    let name = String::from_str(alloc, name)?;
+    let bytes = Vec::from_slice(alloc, bytes)?;
+    files.push((name, bytes))?;
+    Ok(())
+}
+
+// The files that each shelf has.
+fn files_of(alloc: Global, scripts: &str) -> Result<Vec<(String, Vec<u8>)>, AllocError> {
     let mut files = Vec::new(alloc);
-    files.push((
-        String::from_str(alloc, "c")?,
-        Vec::from_slice(alloc, cubes)?,
-    ))?;
-    files.push((
-        String::from_str(alloc, "s")?,
-        Vec::from_slice(alloc, script)?,
-    ))?;
-    files.push((String::from_str(alloc, "f")?, file))?;
-    Ok(ShelfMemory::new(files, Vec::from_slice(alloc, failing)?))
-}
-
-// The status of a run of these words and the text of its fault.
-pub(crate) fn outcome(
-    alloc: Global,
-    words: &[&str],
-    shelf: &mut ShelfMemory,
-    sink: &mut SinkMemory,
-) -> Result<(u8, String), AllocError> {
-    let words = strings(alloc, words)?;
-    let finish = run(alloc, words.as_slice(), shelf, sink);
-    let text = match &finish.fault {
-        None => String::new(alloc),
-        Some(fault) => format!(in alloc; "{fault}")?,
-    };
-    Ok((finish.status, text))
-}
-
-// The status of a run over these cubes, this script and these bytes of the file f, the text of its fault, and what it
-// wrote.
-fn run_of(
-    alloc: Global,
-    cubes: &[u8],
-    script: &[u8],
-    file: Vec<u8>,
-    failing: &[u64],
-) -> Result<(u8, String, Vec<u8>), AllocError> {
-    let mut shelf = shelf(alloc, cubes, script, file, failing)?;
-    let mut sink = SinkMemory::new(alloc, 10_000, Vec::new(alloc))?;
-    let (status, fault) = outcome(alloc, &["c", "s"], &mut shelf, &mut sink)?;
-    Ok((status, fault, Vec::from_slice(alloc, sink.taken())?))
-}
-
-// A script over cubes, with the bytes of the file f, the calls on the shelf that fail, and the text that it has to write.
-// The calls are counted from 0: the first four are for the cubes file and the script, a size and a read each.
-pub(crate) struct Row {
-    pub(crate) cubes: &'static [u8],
-    pub(crate) file: &'static [u8],
-    pub(crate) failing: &'static [u64],
-    pub(crate) script: &'static [u8],
-    pub(crate) text: &'static str,
-}
-
-// Runs the script of each row, and compares what it wrote.
-pub(crate) fn rows_write_their_texts(
-    rt: &impl Abort,
-    alloc: Global,
-    rows: &[Row],
-) -> Result<(), Fail> {
-    for (place, row) in rows.iter().enumerate() {
-        let file = Vec::from_slice(alloc, row.file)?;
-        let (status, fault, text) = run_of(alloc, row.cubes, row.script, file, row.failing)?;
-        assert_eq!(rt; status, 0, "row {place}: {fault}");
-        assert_eq!(rt; text.as_slice(), row.text.as_bytes(), "row {place}");
+    for (name, bytes) in FILES {
+        put_file(alloc, &mut files, name, bytes)?;
     }
-    Ok(())
-}
-
-// Runs a script over cubes, where the file f has so many bytes, and compares what it wrote.
-pub(crate) fn script_writes(
-    rt: &impl Abort,
-    alloc: Global,
-    script: &[u8],
-    size: usize,
-    text: &str,
-) -> Result<(), Fail> {
-    let (status, fault, written) = run_of(alloc, CUBES, script, vec![in alloc; b' '; size]?, &[])?;
-    assert_eq!(rt; status, 0, "{fault}");
-    assert_eq!(rt; written.as_slice(), text.as_bytes());
-    Ok(())
-}
-
-// A cubes file and a script that are refused whole, and the fault that says why.
-struct Refused {
-    cubes: &'static [u8],
-    script: &'static [u8],
-    fault: &'static str,
-}
-
-const BROKEN: &[u8] = b"a\xff";
-
-const REFUSED: [Refused; 16] = [
-    Refused {
-        cubes: BROKEN,
-        script: BROKEN,
-        fault: "cubes: NotUtf8 1",
-    },
-    Refused {
-        cubes: b"cube t\nmetric m\ncube t\nx",
-        script: BROKEN,
-        fault: "cubes: BadLine 4",
-    },
-    Refused {
-        cubes: b"cube t\nmetric m\n\ncube t",
-        script: BROKEN,
-        fault: "cubes: DuplicateCube 4",
-    },
-    Refused {
-        cubes: b"cube a\ncube b\ncube c\ncube d\ncube e\ncube f\ncube g\ncube h\ncube i\ncube j\ncube k\ncube l\ncube m\ncube n\ncube o\ncube p\ncube q",
-        script: BROKEN,
-        fault: "cubes: TooManyCubes 17",
-    },
-    Refused {
-        cubes: b"cube t\ndim x int 5 2\nmetric x\n",
-        script: BROKEN,
-        fault: "cubes: Schema t DuplicateName x",
-    },
-    Refused {
-        cubes: b"cube t\ndim x int 5 0\nmetric m\n",
-        script: BROKEN,
-        fault: "cubes: Schema t ZeroCardinality x",
-    },
-    Refused {
-        cubes: b"cube t\ndim x int 5 6\nmetric m\n",
-        script: BROKEN,
-        fault: "cubes: Schema t RangeTooLarge x",
-    },
-    Refused {
-        cubes: b"cube t\ndim x int 4294967295 1\ndim y int 4294967295 1\ndim z int 4294967295 1\nmetric m\n",
-        script: BROKEN,
-        fault: "cubes: Schema t TooManyBricks",
-    },
-    Refused {
-        cubes: b"cube t\nmetric a\nmetric b\nmetric c\nmetric d\nmetric e\nmetric f\nmetric g\nmetric h\nmetric i\nmetric j\nmetric k\nmetric l\nmetric m\nmetric n\nmetric o\nmetric p\nmetric q",
-        script: BROKEN,
-        fault: "cubes: Schema t TooManyColumns",
-    },
-    Refused {
-        cubes: b"cube t\ndim x int 5 5\n",
-        script: BROKEN,
-        fault: "cubes: Schema t NoMetric",
-    },
-    Refused {
-        cubes: CUBES,
-        script: BROKEN,
-        fault: "script 1: NotUtf8 1",
-    },
-    Refused {
-        cubes: CUBES,
-        script: b"FLUSH; \xc3",
-        fault: "script 1: NotUtf8 7",
-    },
-    Refused {
-        cubes: b"",
-        script: b"SHOW WATCH; x",
-        fault: "not built: script",
-    },
-    Refused {
-        cubes: CUBES,
-        script: b"SELECT SUM(m) FROM t; WATCH SELECT SUM(m) FROM t",
-        fault: "not built: script",
-    },
-    Refused {
-        cubes: CUBES,
-        script: b"SHOW WATCH",
-        fault: "not built: script",
-    },
-    Refused {
-        cubes: b"",
-        script: b"SHOW WATCH; \xff",
-        fault: "script 1: NotUtf8 12",
-    },
-];
-
-#[test]
-fn what_is_refused_whole_writes_nothing(rt: HostRuntime) -> Result<(), Fail> {
-    let alloc = rt.alloc();
-    for (place, row) in REFUSED.iter().enumerate() {
-        let (status, fault, text) = run_of(alloc, row.cubes, row.script, Vec::new(alloc), &[])?;
-        assert_eq!(rt; status, 4, "row {place}");
-        assert_eq!(rt; fault.as_str(), row.fault, "row {place}");
-        assert!(rt; text.is_empty(), "row {place}");
+    for (place, script) in scripts.split('\n').enumerate() {
+        let name = format!(in alloc; "{}", place.saturating_add(1))?;
+        put_file(alloc, &mut files, name.as_str(), script.as_bytes())?;
     }
-    Ok(())
+    Ok(files)
 }
 
-// How a run with a cubes file and a script of so many of a byte each ends.
-fn outcome_of_sizes(
+// The shelves of a run.
+fn shelves_of(alloc: Global, given: Given) -> Result<Vec<ShelfMemory>, AllocError> {
+    let mut files = files_of(alloc, given.scripts)?;
+    for (name, bytes) in given.own {
+        put_file(alloc, &mut files, name, bytes)?;
+    }
+    let failing = Vec::from_slice(alloc, given.shelf_failing)?;
+    let mut shelves = Vec::new(alloc);
+    shelves.push(ShelfMemory::new(files, failing))?;
+    for _ in 1..SHELVES {
+        let files = files_of(alloc, given.scripts)?;
+        shelves.push(ShelfMemory::new(files, Vec::new(alloc)))?;
+    }
+    Ok(shelves)
+}
+
+fn disk_of(alloc: Global, on: OnDisk) -> Result<DiskMemory, AllocError>
+    ensures told { IfOk result (λ disk. IsSome (disk_view disk).told) }
+    ensures synced { IfOk result (λ disk. IsSynced (disk_view disk)) }
+{
+    let file = Vec::from_slice(alloc, on.file)?;
+    let failing = Vec::from_slice(alloc, on.failing)?;
+    DiskMemory::new(alloc, file, DISK_ROOM, failing, on.stop)
+}
+
+// The status, and behind it the text of the fault.
+fn ends_of(alloc: Global, finish: &Finish) -> Result<String, AllocError> {
+    let status = finish.status;
+    match &finish.fault {
+        None => format!(in alloc; "{status}"),
+        Some(fault) => format!(in alloc; "{status} {fault}"),
+    }
+}
+
+// The outside of a run.
+fn outside_of(alloc: Global, given: Given) -> Result<Outside<ShelfMemory, DiskMemory>, AllocError>
+    ensures first_told { IfOk result (λ outside. IsSome (disk_view outside.disk).told) }
+    ensures second_told { IfOk result (λ outside. IsSome (disk_view outside.other).told) }
+    ensures first_synced { IfOk result (λ outside. IsSynced (disk_view outside.disk)) }
+    ensures second_synced { IfOk result (λ outside. IsSynced (disk_view outside.other)) }
+{
+    Ok(Outside {
+        shelves: shelves_of(alloc, given)?,
+        disk: disk_of(alloc, given.disk)?,
+        other: disk_of(alloc, given.other)?,
+    })
+}
+
+/// How a run of these words ends, whose threads a gate may hold up.
+pub(crate) fn run_held<R: Threads + Wait + Sync, G: Gate + Sync>(
+    rt: &R,
     alloc: Global,
-    cubes: usize,
-    script: usize,
-    byte: u8,
-) -> Result<(u8, String), AllocError> {
-    let cubes = vec![in alloc; b'#'; cubes]?;
-    let script = vec![in alloc; byte; script]?;
-    let mut shelf = shelf(
+    words: &str,
+    given: Given,
+    gate: &G,
+) -> Result<Outcome, AllocError> {
+    let words = words_of(alloc, words)?;
+    let outside = outside_of(alloc, given)?;
+    let failing = Vec::from_slice(alloc, given.sink_failing)?;
+    let mut sink = SinkMemory::new(alloc, given.room, failing)?;
+    if outside.shelves.len() != SHELVES {
+        return Err(AllocError);
+    }
+    let starter = ThreadStarter::new(u64::MAX);
+    let Ended { finish, outside } = run(
+        rt,
         alloc,
-        cubes.as_slice(),
-        script.as_slice(),
-        Vec::new(alloc),
-        &[],
-    )?;
-    let mut sink = SinkMemory::new(alloc, 100, Vec::new(alloc))?;
-    outcome(alloc, &["c", "s"], &mut shelf, &mut sink)
-}
-
-#[test]
-fn sizes_at_their_limits(rt: HostRuntime) -> Result<(), Fail> {
-    let alloc = rt.alloc();
-    for (cubes, script, byte, status, wanted) in [
-        (1_048_576, 4_194_304, b' ', 0, ""),
-        (1_048_577, 4_194_305, b' ', 4, "cubes: CubesTooLong 1048577"),
-        (0, 4_194_305, b' ', 4, "script 1: ScriptTooLong 4194305"),
-        (0, 65_537, b'x', 4, "script 1: StatementTooLong 1"),
-    ] {
-        let (found, fault) = outcome_of_sizes(alloc, cubes, script, byte)?;
-        assert_eq!(rt; found, status, "{wanted}");
-        assert_eq!(rt; fault.as_str(), wanted);
+        starter,
+        words.as_slice(),
+        outside,
+        &mut sink,
+        gate,
+    );
+    let Outside {
+        shelves,
+        disk,
+        other,
+    } = outside;
+    if shelves.len() != SHELVES {
+        return Err(AllocError);
     }
-    Ok(())
-}
-
-#[test]
-fn more_statements_than_are_allowed(rt: HostRuntime) -> Result<(), Fail> {
-    let alloc = rt.alloc();
-    let mut script = Vec::new(alloc);
-    for _ in 0..65_537 {
-        script.extend_from_slice(b"x;")?;
-    }
-    let mut shelf = shelf(alloc, CUBES, script.as_slice(), Vec::new(alloc), &[])?;
-    let mut sink = SinkMemory::new(alloc, 100, Vec::new(alloc))?;
-    let (status, fault) = outcome(alloc, &["c", "s"], &mut shelf, &mut sink)?;
-    assert_eq!(rt; status, 4);
-    assert_eq!(rt; fault.as_str(), "script 1: TooManyStatements");
-    Ok(())
-}
-
-// Words, how the shelf and the sink fail, and how a run ends: its status, its fault and how many bytes were written.
-struct Ending {
-    words: &'static [&'static str],
-    shelf_failing: &'static [u64],
-    room: u64,
-    sink_failing: &'static [u64],
-    status: u8,
-    fault: &'static str,
-    written: usize,
-}
-
-const USAGE: &str = "usage: cubrick CUBES SCRIPT";
-
-const TEXT: &str =
-    "session 1\n1.1 stored 1 epoch 1\n1.2 stored 1 epoch 2\n1.3 rows 1 epoch 2\n5\njournal 8\nbegin 1.1 epoch 1 deps []\ncommitted 1.1 epoch 1\nbegin 1.2 epoch 2 deps []\ncommitted 1.2 epoch 2\nread 1.3 epoch 2\nreadend 1.3\nround 2\nsafe 2\nend ec 3 lce 2 lse 2\n";
-
-const ENDINGS: [Ending; 13] = [
-    Ending {
-        words: &["c"],
-        shelf_failing: &[],
-        room: 1000,
-        sink_failing: &[],
-        status: 2,
-        fault: USAGE,
-        written: 0,
-    },
-    Ending {
-        words: &["c", "s", "s"],
-        shelf_failing: &[],
-        room: 1000,
-        sink_failing: &[],
-        status: 2,
-        fault: USAGE,
-        written: 0,
-    },
-    Ending {
-        words: &["d", "s"],
-        shelf_failing: &[],
-        room: 1000,
-        sink_failing: &[],
-        status: 3,
-        fault: "no file d",
-        written: 0,
-    },
-    Ending {
-        words: &["d", "e"],
-        shelf_failing: &[],
-        room: 1000,
-        sink_failing: &[],
-        status: 3,
-        fault: "no file d",
-        written: 0,
-    },
-    Ending {
-        words: &["c", "d"],
-        shelf_failing: &[],
-        room: 1000,
-        sink_failing: &[],
-        status: 3,
-        fault: "no file d",
-        written: 0,
-    },
-    Ending {
-        words: &["s", "d"],
-        shelf_failing: &[],
-        room: 1000,
-        sink_failing: &[],
-        status: 4,
-        fault: "cubes: BadLine 1",
-        written: 0,
-    },
-    Ending {
-        words: &["c", "s"],
-        shelf_failing: &[0],
-        room: 1000,
-        sink_failing: &[],
-        status: 3,
-        fault: "cannot read c",
-        written: 0,
-    },
-    Ending {
-        words: &["c", "s"],
-        shelf_failing: &[1],
-        room: 1000,
-        sink_failing: &[],
-        status: 3,
-        fault: "cannot read c",
-        written: 0,
-    },
-    Ending {
-        words: &["c", "s"],
-        shelf_failing: &[2],
-        room: 1000,
-        sink_failing: &[],
-        status: 3,
-        fault: "cannot read s",
-        written: 0,
-    },
-    Ending {
-        words: &["c", "s"],
-        shelf_failing: &[3],
-        room: 1000,
-        sink_failing: &[],
-        status: 3,
-        fault: "cannot read s",
-        written: 0,
-    },
-    Ending {
-        words: &["c", "s"],
-        shelf_failing: &[],
-        room: 1000,
-        sink_failing: &[0],
-        status: 7,
-        fault: "output fault",
-        written: 0,
-    },
-    Ending {
-        words: &["c", "s"],
-        shelf_failing: &[],
-        room: 20,
-        sink_failing: &[],
-        status: 7,
-        fault: "output fault",
-        written: 20,
-    },
-    Ending {
-        words: &["c", "s"],
-        shelf_failing: &[],
-        room: 1000,
-        sink_failing: &[],
-        status: 0,
-        fault: "",
-        written: TEXT.len(),
-    },
-];
-
-#[test]
-fn words_files_and_output_decide_how_a_run_ends(rt: HostRuntime) -> Result<(), Fail> {
-    let alloc = rt.alloc();
-    for (place, row) in ENDINGS.iter().enumerate() {
-        let mut shelf = shelf(alloc, CUBES, SCRIPT, Vec::new(alloc), row.shelf_failing)?;
-        let failing = Vec::from_slice(alloc, row.sink_failing)?;
-        let mut sink = SinkMemory::new(alloc, row.room, failing)?;
-        let (status, fault) = outcome(alloc, row.words, &mut shelf, &mut sink)?;
-        assert_eq!(rt; status, row.status, "row {place}");
-        assert_eq!(rt; fault.as_str(), row.fault, "row {place}");
-        assert!(rt; TEXT.as_bytes().starts_with(sink.taken()), "row {place}");
-        assert_eq!(rt; sink.taken().len(), row.written, "row {place}");
-    }
-    Ok(())
+    Ok(Outcome {
+        ends: ends_of(alloc, &finish)?,
+        text: Vec::from_slice(alloc, sink.taken())?,
+        finish,
+        disk,
+        other,
+    })
 }
