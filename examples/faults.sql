@@ -1,4 +1,4 @@
--- What is refused says why, and changes nothing. A fault inside a transaction ends it.
+-- What is refused says why, and changes nothing. A load with too many bad records ends the transaction that is open.
 SELEC region FROM visits;
 SELECT town, COUNT(*) FROM visits GROUP BY town;
 SELECT region, COUNT(*) FROM visits;

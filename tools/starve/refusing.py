@@ -10,13 +10,16 @@ import signal
 import struct
 import subprocess
 import tempfile
+import threading
 
 ALLOCATING = (b"rattle_alloc", b"rattle_realloc")
-TRACE_ME, PEEK_DATA, PEEK_REGISTER, POKE_DATA, POKE_REGISTER, GO_ON = 0, 2, 3, 5, 6, 7
+TRACE_ME, PEEK_DATA, PEEK_REGISTER, POKE_DATA, POKE_REGISTER, GO_ON, SET_OPTIONS = 0, 2, 3, 5, 6, 7, 0x4200
+TRACE_THREADS, END_WITH_TRACER = 0x8, 0x100000  # options: each thread that is begun is traced too
+ALL_THREADS = 0x40000000  # of a wait, which else passes over threads
 RAX, RDX, RIP, RSP = 80, 96, 128, 152  # places of registers in what ptrace calls a user area
 FIRST_INSTRUCTION = bytes.fromhex("f30f1efa")  # endbr64, which does nothing: a trap can take its place
 NO_RANDOM_PLACES = 0x0040000
-SECONDS = 20
+SECONDS, MOST_SECONDS = 20, 60  # of a processor, and by the clock
 
 libc = ctypes.CDLL(None, use_errno=True)
 libc.ptrace.argtypes = [ctypes.c_long, ctypes.c_long, ctypes.c_void_p, ctypes.c_void_p]
@@ -83,33 +86,46 @@ def run(path, places, words, folder, refused, last=None):
         code = {place: ptrace(PEEK_DATA, child.pid, place) for place in traps.values()}
         for place, word in code.items():
             ptrace(POKE_DATA, child.pid, place, word & ~0xFF | 0xCC)
-        allocations, given = 0, 0
+        ptrace(SET_OPTIONS, child.pid, 0, TRACE_THREADS | END_WITH_TRACER)
+        hung = threading.Timer(MOST_SECONDS, os.kill, (child.pid, signal.SIGKILL))
+        hung.start()
+        allocations, threads = 0, {child.pid}
+        ptrace(GO_ON, child.pid)
         while True:
-            ptrace(GO_ON, child.pid, 0, given)
-            _, state = os.waitpid(child.pid, 0)
+            thread, state = os.waitpid(-1, ALL_THREADS)
             if not os.WIFSTOPPED(state):
-                break
+                if thread == child.pid:  # it is told last
+                    break
+                continue
             given = os.WSTOPSIG(state)
-            at = ptrace(PEEK_REGISTER, child.pid, RIP) if given == signal.SIGTRAP else None
+            if state >> 16 or (given == signal.SIGSTOP and thread not in threads):  # a thread begins
+                given = 0
+            threads.add(thread)
+            at = ptrace(PEEK_REGISTER, thread, RIP) if given == signal.SIGTRAP else None
             if at in traps:
                 allocations, given = allocations + 1, 0
                 if refused(allocations):
-                    return_no_memory(child.pid)
+                    return_no_memory(thread)
                 else:
-                    ptrace(POKE_REGISTER, child.pid, RIP, traps[at] + len(FIRST_INSTRUCTION))
+                    ptrace(POKE_REGISTER, thread, RIP, traps[at] + len(FIRST_INSTRUCTION))
                 if allocations == last:
                     for place, word in code.items():
-                        ptrace(POKE_DATA, child.pid, place, word)
+                        ptrace(POKE_DATA, thread, place, word)
+            try:
+                ptrace(GO_ON, thread, 0, given)
+            except ProcessLookupError:  # it was killed meanwhile
+                pass
+        hung.cancel()
         child.returncode = os.waitstatus_to_exitcode(state)
         for it in (output, errors):
             it.seek(0)
         return Ended(child.returncode, output.read(), errors.read(), allocations)
 
 
-def return_no_memory(process):
+def return_no_memory(thread):
     """Returns from a function that was just entered, with the answer that there is no memory."""
-    top = ptrace(PEEK_REGISTER, process, RSP)
-    ptrace(POKE_REGISTER, process, RIP, ptrace(PEEK_DATA, process, top))
-    ptrace(POKE_REGISTER, process, RSP, top + 8)
-    ptrace(POKE_REGISTER, process, RAX, 0)
-    ptrace(POKE_REGISTER, process, RDX, top)
+    top = ptrace(PEEK_REGISTER, thread, RSP)
+    ptrace(POKE_REGISTER, thread, RIP, ptrace(PEEK_DATA, thread, top))
+    ptrace(POKE_REGISTER, thread, RSP, top + 8)
+    ptrace(POKE_REGISTER, thread, RAX, 0)
+    ptrace(POKE_REGISTER, thread, RDX, top)

@@ -60,9 +60,13 @@ class Session:
         self.pending.remove(self.epoch)
         self.note(f"aborted {self.here()} epoch {self.epoch} {cause}")
 
+    def target(self):
+        """Where the open transaction began, or else the latest epoch that is committed."""
+        return self.bound if self.pending else self.committed()
+
     def flush_round(self):
-        """The safe epoch rises to where the open transaction began, or else to the latest that is committed."""
-        target = self.bound if self.pending else self.committed()
+        """The safe epoch rises to the target."""
+        target = self.target()
         if target == self.safe:
             self.note(f"idle {target}")
         else:
@@ -237,6 +241,10 @@ class Session:
 
     # ---- the whole
 
+    def close(self):
+        """The round behind the script."""
+        self.flush_round()
+
     def run(self, script):
         """The whole text of a script: the replies, the journal and the counters."""
         for text in pieces(script):
@@ -244,7 +252,7 @@ class Session:
         if self.state == "open":
             self.statement += 1
             self.abort("EndOfScript")
-        self.flush_round()
+        self.close()
         end = f"end ec {self.next_epoch} lce {self.committed()} lse {self.safe}"
         lines = ["session 1"] + self.lines + [f"journal {len(self.journal)}"] + self.journal + [end]
         return "".join(line + "\n" for line in lines)
