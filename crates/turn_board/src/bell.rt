@@ -3,6 +3,7 @@ use std::hint::spin_loop;
 use std::sync::Wait;
 use std::sync::atomic::AtomicU64;
 use std::sync::atomic::Ordering::SeqCst;
+use std::thread;
 use std::time::Duration;
 
 const QUIET: u64 = 0;
@@ -11,8 +12,11 @@ const RUNG: u64 = 1;
 
 const ASLEEP: u64 = 2;
 
-// How often a caller looks at its bell before it sleeps.
-const LOOKS: u32 = 300;
+// How often a caller looks at its bell at first.
+const LOOKS: u32 = 50;
+
+// How often it then lets another thread have the processor between two looks, before it sleeps.
+const YIELDS: u32 = 300;
 
 // The longest sleep, so that a bell that nobody rings delays its caller and does not stop it.
 const LONGEST: u64 = 10_000;
@@ -40,20 +44,36 @@ impl Bell {
         }
     }
 
-    // Whether the bell was rung, which it then no longer is.
+    // Whether the bell was rung, which it then no longer is. Its caller alone makes it quiet.
     fn answers(&self) -> bool {
-        self.state
-            .compare_exchange(RUNG, QUIET, SeqCst, SeqCst)
-            .is_ok()
+        if self.state.load(SeqCst) != RUNG {
+            return false;
+        }
+        self.state.store(QUIET, SeqCst);
+        true
+    }
+
+    // Whether the bell is rung while its caller looks.
+    fn looks(&self) -> bool {
+        for _ in 0..LOOKS {
+            if self.answers() {
+                return true;
+            }
+            spin_loop();
+        }
+        for _ in 0..YIELDS {
+            if self.answers() {
+                return true;
+            }
+            thread::yield_now();
+        }
+        false
     }
 
     /// Returns once the bell is rung, or was, and after some milliseconds in any case.
     pub fn rest<R: Wait>(&self, rt: &R) {
-        for _ in 0..LOOKS {
-            if self.answers() {
-                return;
-            }
-            spin_loop();
+        if self.looks() {
+            return;
         }
         if self
             .state
