@@ -70,6 +70,8 @@ fn add_copied<D: Disk>(
     ensures failed { IfFault result (λ f.
         Rose (D.view disk.old).faults (D.view disk.new).faults
         ⊎ Rose (D.view other.old).faults (D.view other.new).faults) }
+    ensures first_count { (D.view disk.old).faults ≤ (D.view disk.new).faults }
+    ensures second_count { (D.view other.old).faults ≤ (D.view other.new).faults }
 {
     if is_storable(round) {
         store.add_round(disk, other, round)
@@ -121,6 +123,8 @@ pub fn keep_round<R: Wait, P: CellCaller<ShardCells>, D: Disk>(
     ensures failed { result ≡ end.Lost cause.Disk
         → Rose (D.view disk.old).faults (D.view disk.new).faults
         ⊎ Rose (D.view other.old).faults (D.view other.new).faults }
+    ensures first_count { (D.view disk.old).faults ≤ (D.view disk.new).faults }
+    ensures second_count { (D.view other.old).faults ≤ (D.view other.new).faults }
     ensures kept { (kept : Kept) → TakesRound (P.opening caller.old) (P.number caller.old)
         (P.own caller.old) store.old kept span (D.view disk.old) (D.view other.old)
         → HoldsAfterEnd (P.opening caller.new) (P.number caller.new) client (P.own caller.old)

@@ -1,6 +1,6 @@
 //! A new store for a run.
 
-ghost use Rattle.std.specs.Prelude.{◌≡◌, ◌⊎◌, ◌↔◌, IfOk, IsErrOf, IsSome};
+ghost use Rattle.std.specs.Prelude.{◌≡◌, ◌≤◌, ◌⊎◌, ◌↔◌, IfOk, IsErrOf, IsSome};
 ghost use Rattle.cube_rounds.specs.Stands.{kept_of_cubes};
 ghost use Rattle.cube_schema.specs.Texts.{AreDeclared};
 ghost use Rattle.cube_values.specs.Faults.{IfFault};
@@ -54,6 +54,10 @@ pub(crate) fn create_for_run<D: Disk>(
     ensures moves { WhereTold (D.view disk.old) (D.view other.old) (λ f g.
         KeepTo (AreCreating cubes.now f g) f (D.view disk.old) (D.view disk.new)
         (D.view other.old) (D.view other.new)) }
+    ensures first_tells { IsSome (D.view disk.old).told ↔ IsSome (D.view disk.new).told }
+    ensures second_tells { IsSome (D.view other.old).told ↔ IsSome (D.view other.new).told }
+    ensures first_count { (D.view disk.old).faults ≤ (D.view disk.new).faults }
+    ensures second_count { (D.view other.old).faults ≤ (D.view other.new).faults }
     ensures memory { IsErrOf result NoMemory
         → (disk.new ≡ disk.old) × (other.new ≡ other.old) }
     ensures failed { IfFault result (λ fault.

@@ -1,6 +1,6 @@
 //! The store of a run.
 
-ghost use Rattle.std.specs.Prelude.{◌≡◌, ◌⊎◌, ◌↔◌, false, IfOk, IsErrOf, IsSome};
+ghost use Rattle.std.specs.Prelude.{◌≡◌, ◌≤◌, ◌⊎◌, ◌↔◌, false, IfOk, IsErrOf, IsSome};
 ghost use Rattle.cube_schema.specs.Texts.{AreDeclared};
 ghost use Rattle.cube_values.specs.declared.call_error.CallError.TheVariants.{Fault, NoMemory};
 ghost use Rattle.kept_data.specs.KeptFiles.{IsKeptByFile};
@@ -42,6 +42,10 @@ fn store_on<D: Disk>(
         (D.view other.old) (D.view other.new)) }
     ensures still { (is_new ≡ false) ⊎ IsErrOf result NoMemory
         → AreUntouched (D.view disk.old) (D.view disk.new) (D.view other.old) (D.view other.new) }
+    ensures first_tells { IsSome (D.view disk.old).told ↔ IsSome (D.view disk.new).told }
+    ensures second_tells { IsSome (D.view other.old).told ↔ IsSome (D.view other.new).told }
+    ensures first_count { (D.view disk.old).faults ≤ (D.view disk.new).faults }
+    ensures second_count { (D.view other.old).faults ≤ (D.view other.new).faults }
     ensures failed { IsErrOf result (Fault DiskFault)
         → Rose (D.view disk.old).faults (D.view disk.new).faults
         ⊎ Rose (D.view other.old).faults (D.view other.new).faults }
@@ -56,7 +60,8 @@ fn store_on<D: Disk>(
 /// Takes the store of a run over these cubes, which some text declares. Its two files are those of the name
 /// on `disk` and of the name with `.2` at its end on `other`; they are fixed first. Each disk has one image;
 /// both tell their files, or neither does. A new store is created in place of what the files were. An old
-/// one is opened, and the disks stay as they are; so they do where memory runs out.
+/// one is opened, and the disks stay as they are; so they do where memory runs out. In any case each disk
+/// tells its file where it did before, and its count of faults has not fallen.
 ///
 /// Of an old store the first fault that applies is answered: a disk failed; the first fault of the two
 /// files; the cubes of its header are not those of the run; no epochs are left. A new store is refused only
@@ -84,6 +89,10 @@ pub fn take_store<D: Disk>(
         (D.view other.old) (D.view other.new)) }
     ensures still { (is_new ≡ false) ⊎ IsErrOf result NoMemory
         → AreUntouched (D.view disk.old) (D.view disk.new) (D.view other.old) (D.view other.new) }
+    ensures first_tells { IsSome (D.view disk.old).told ↔ IsSome (D.view disk.new).told }
+    ensures second_tells { IsSome (D.view other.old).told ↔ IsSome (D.view other.new).told }
+    ensures first_count { (D.view disk.old).faults ≤ (D.view disk.new).faults }
+    ensures second_count { (D.view other.old).faults ≤ (D.view other.new).faults }
     ensures failed { IsErrOf result (Fault DiskFault)
         → Rose (D.view disk.old).faults (D.view disk.new).faults
         ⊎ Rose (D.view other.old).faults (D.view other.new).faults }

@@ -63,6 +63,8 @@ fn shut_any_front<D: Disk>(disk: &mut D) -> Result<bool, Failed>
     ensures shut { OnOk result (IsShutNow (D.view disk.old) (D.view disk.new)) }
     ensures answer { IfSome (D.view disk.old).told (λ f.
         IfOk result (λ some. has_shut_gate (with_any_front_shut f) ≡ some)) }
+    ensures tells { IsSome (D.view disk.old).told ↔ IsSome (D.view disk.new).told }
+    ensures count { (D.view disk.old).faults ≤ (D.view disk.new).faults }
     ensures failed { OnErr result (Rose (D.view disk.old).faults (D.view disk.new).faults) }
 {
     if is_empty(disk)? {
@@ -83,6 +85,7 @@ fn begin_first<D: Disk>(disk: &mut D, bytes: &[u8]) -> Result<(), Failed>
         OnOk result ((D.view disk.new).told ≡ Some (open_gate ∷ bytes.now))) }
     ensures tells { IsSome (D.view disk.old).told ↔ IsSome (D.view disk.new).told }
     ensures synced { OnOk result (IsSynced (D.view disk.new)) }
+    ensures count { (D.view disk.old).faults ≤ (D.view disk.new).faults }
     ensures failed { OnErr result (Rose (D.view disk.old).faults (D.view disk.new).faults) }
 {
     shut_front(disk)?;
@@ -101,6 +104,9 @@ fn begin_files<D: Disk>(disk: &mut D, other: &mut D, bytes: &[u8]) -> Result<boo
     ensures written { IfSome (D.view disk.old).told (λ f.
         OnOk result ((D.view disk.new).told ≡ Some (open_gate ∷ bytes.now))) }
     ensures tells { IsSome (D.view disk.old).told ↔ IsSome (D.view disk.new).told }
+    ensures second_tells { IsSome (D.view other.old).told ↔ IsSome (D.view other.new).told }
+    ensures first_count { (D.view disk.old).faults ≤ (D.view disk.new).faults }
+    ensures second_count { (D.view other.old).faults ≤ (D.view other.new).faults }
     ensures shut { OnOk result (IsShutNow (D.view other.old) (D.view other.new)) }
     ensures answer { IfSome (D.view other.old).told (λ g.
         IfOk result (λ some. has_shut_gate (with_any_front_shut g) ≡ some)) }
@@ -121,7 +127,8 @@ fn begin_files<D: Disk>(disk: &mut D, other: &mut D, bytes: &[u8]) -> Result<boo
 /// The first disk is not called before the gate of the second is shut. At every moment the two files
 /// stand for none, are the old ones with any byte at the front of each, or stand for the new store; after
 /// Ok it is the last. A fault comes only where a disk's count rose. Want of memory leaves both disks as
-/// they were. It takes time by the number of bytes.
+/// they were. In any case each disk tells its file where it did before. It takes time by the number of
+/// bytes.
 pub fn create_store<D: Disk>(
     alloc: Global,
     disk: &mut D,
@@ -143,8 +150,12 @@ pub fn create_store<D: Disk>(
         IsAt s (kept_of_cubes list) (D.view disk.new) (D.view other.new)) }
     ensures order { IfFault result (λ f. (disk.new ≡ disk.old)
         ⊎ IsShutNow (D.view other.old) (D.view other.new)) }
+    ensures first_tells { IsSome (D.view disk.old).told ↔ IsSome (D.view disk.new).told }
+    ensures second_tells { IsSome (D.view other.old).told ↔ IsSome (D.view other.new).told }
     ensures memory { IsErrOf result NoMemory
         → (disk.new ≡ disk.old) × (other.new ≡ other.old) }
+    ensures first_count { (D.view disk.old).faults ≤ (D.view disk.new).faults }
+    ensures second_count { (D.view other.old).faults ≤ (D.view other.new).faults }
     ensures failed { IfFault result (λ f. Rose (D.view disk.old).faults (D.view disk.new).faults
         ⊎ Rose (D.view other.old).faults (D.view other.new).faults) }
 {

@@ -52,6 +52,8 @@ impl Store {
         ensures failed { IfFault result (λ f.
             Rose (D.view disk.old).faults (D.view disk.new).faults
             ⊎ Rose (D.view other.old).faults (D.view other.new).faults) }
+        ensures first_count { (D.view disk.old).faults ≤ (D.view disk.new).faults }
+        ensures second_count { (D.view other.old).faults ≤ (D.view other.new).faults }
     {
         if self.wants_whole() {
             if self.place.second {
