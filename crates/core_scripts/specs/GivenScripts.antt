@@ -54,7 +54,7 @@ module _ {H : Type 0} where
   AreReadyWorks size from (work ∷ works) = IsReadyWork size from work × AreReadyWorks size (from + 1) works
 
 module _ {H M : Type 0} (told : H → ShelfTold) (fault_count absence_count : H → ℕ) (serves : M → OpeningCells → Type 0)
-    (has_kept : M → KeptClaim) (becomes : M → M → Type 0) where
+    (has_kept : M → M → KeptClaim) (becomes : M → M → Type 0) where
   -- The works of sessions ran on threads over a core with these cells.
   pub record HavePlayedOnThreads (size : CoreSize) (cells : OpeningCells) (works : List (ScriptWork H)) (maker : M)
       (ran : RanCore (ScriptWork H) M) : Type 0 where

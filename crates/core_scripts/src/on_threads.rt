@@ -42,7 +42,7 @@ pub fn play_on_threads<
     requires core { AreCellsOfCore size.shards size.sessions cells.items }
     requires as_many { length works.items ≡ size.sessions }
     requires works { AreReadyWorks size 1 works.items }
-    requires keeps { KeepsRounds M.serves M.has_kept size.sessions maker cells.items
+    requires keeps { KeepsRounds M.serves M.has_kept size.sessions maker maker cells.items
         (size.sessions + 1 + size.shards) [] }
     ensures threads { IfOk result
         (λ ran. HaveThreads (1 + size.shards) ran.began starter ran.starter) }

@@ -29,8 +29,8 @@ committer_may w callers cells caller =
 abbrev pub serves_any : NoStore → OpeningCells → Type 0
 serves_any maker cells = Unit {0}
 
-abbrev pub keeps_none : NoStore → KeptClaim
-keeps_none maker kept o run calls = Unit {0}
+abbrev pub keeps_none : NoStore → NoStore → KeptClaim
+keeps_none begun maker kept o run calls = Unit {0}
 
 -- A core of such sessions may run without a store.
 abbrev pub CommittersMayRun : ReadyCore Committer NoStore → Type 0

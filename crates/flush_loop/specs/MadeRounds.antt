@@ -40,6 +40,16 @@ module _ {S : Type 0} (fits : Opening → ℕ → ShardCall → Type 0) (stands 
         → IsLaterRun fits stands says cells o caller own log run → AreEventsOf (IsEntryEvent fits stands says o) own es
         → Holds kept o run (calls_of client es)
 
+  module _ {M : Type 0} (has_kept : M → M → KeptClaim) where
+    -- Since it was begun, whatever it then was, a maker of rounds has kept what it says.
+    abbrev pub HasKeptSince : M → List CoreEntry → Type 0
+    HasKeptSince maker own = (begun : M) × HoldsInRuns (has_kept begun maker) own
+
+    -- Whatever it had kept since it was begun, it has kept by more calls as well.
+    abbrev pub GoesOnKeeping : M → M → List CoreEntry → List CoreEntry → Type 0
+    GoesOnKeeping before after own now =
+        (begun : M) → HoldsInRuns (has_kept begun before) own → HoldsInRuns (has_kept begun after) now
+
   -- Its calls go on by those of a round that ended so.
   pub record GoOnByOwnRound (result : RoundResult) (o : Opening) (own : List CoreEntry) (es : List CoreEvent)
       : Type 0 where

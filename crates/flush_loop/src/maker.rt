@@ -4,7 +4,7 @@ ghost use Rattle.core_events.specs.Events.{Opening, ClientCall, CoreEvent};
 ghost use Rattle.core_program.specs.Flushing.{IsFlusherOf};
 ghost use Rattle.cube_core.specs.declared.cell.CoreCell.{CoreCell};
 ghost use Rattle.cube_rounds.specs.Stands.{Kept};
-ghost use Rattle.flush_loop.specs.MadeRounds.{HoldsInRuns, KnowsBetween, LearnsOfOwnRound};
+ghost use Rattle.flush_loop.specs.MadeRounds.{GoesOnKeeping, HasKeptSince, KnowsBetween, LearnsOfOwnRound};
 ghost use Rattle.flush_loop.specs.RoundResults.{loses_store};
 ghost use Rattle.job_groups.specs.AskedEach.{AreShardMails, HasMore};
 ghost use Rattle.turn_board.specs.Passes.{callers_of};
@@ -22,8 +22,9 @@ pub trait MakesRounds<S: LinkedShard> {
     /// It makes rounds of a core that opened with these cells.
     ghost serves: { Self → List (CoreCell S) → Type 0 };
 
-    /// It has kept this, of a run in which the flusher has made these calls, the newest first.
-    ghost has_kept: { Self → Kept → Opening → List CoreEvent → List ClientCall → Type 0 };
+    /// Since it was begun, as it then was, it has kept this by now, of a run in which the flusher has made
+    /// these calls, the newest first.
+    ghost has_kept: { Self → Self → Kept → Opening → List CoreEvent → List ClientCall → Type 0 };
 
     /// What may become of it by rounds.
     ghost becomes: { Self → Self → Type 0 };
@@ -47,8 +48,8 @@ pub trait MakesRounds<S: LinkedShard> {
         requires serves { serves self.old (P.opening caller.old) }
         requires between { KnowsBetween S.fits S.stands S.says (P.opening caller.old)
             (P.number caller.old) (size.now.sessions + 1) false (P.own caller.old) }
-        requires kept { HoldsInRuns S.fits S.stands S.says (P.opening caller.old)
-            (P.number caller.old) (size.now.sessions + 1) (has_kept self.old) (P.own caller.old) }
+        requires kept { HasKeptSince S.fits S.stands S.says (P.opening caller.old)
+            (P.number caller.old) (size.now.sessions + 1) has_kept self.old (P.own caller.old) }
         ensures board { P.calls_on board.now caller.new }
         ensures opening { P.opening caller.new ≡ P.opening caller.old }
         ensures number { P.number caller.new ≡ P.number caller.old }
@@ -60,8 +61,9 @@ pub trait MakesRounds<S: LinkedShard> {
         ensures between { KnowsBetween S.fits S.stands S.says (P.opening caller.new)
             (P.number caller.new) (size.now.sessions + 1) (loses_store result) (P.own caller.new) }
         ensures serves { serves self.new (P.opening caller.new) }
-        ensures kept { HoldsInRuns S.fits S.stands S.says (P.opening caller.new)
-            (P.number caller.new) (size.now.sessions + 1) (has_kept self.new) (P.own caller.new) }
+        ensures kept { GoesOnKeeping S.fits S.stands S.says (P.opening caller.old)
+            (P.number caller.old) (size.now.sessions + 1) has_kept self.old self.new
+            (P.own caller.old) (P.own caller.new) }
         ensures becomes { becomes self.old self.new };
 
     /// Without a round it stays what it is, and one round may come after others.

@@ -22,7 +22,7 @@ pub struct NoStore;
 impl<S: LinkedShard> MakesRounds<S> for NoStore {
     ghost serves = { λ m cells. Unit {0} };
 
-    ghost has_kept = { λ m kept o run calls. Unit {0} };
+    ghost has_kept = { λ begun m kept o run calls. Unit {0} };
 
     ghost becomes = { λ m n. Unit {0} };
 

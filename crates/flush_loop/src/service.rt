@@ -3,7 +3,7 @@ ghost use Rattle.std.specs.Prelude.{◌≡◌, ◌+◌, ◌≤◌, false, true};
 ghost use Rattle.core_program.specs.Knowing.{IsMailAt};
 ghost use Rattle.core_program.specs.Flushing.{IsFlusherOf, KnowsPart};
 ghost use Rattle.flush_loop.specs.FlushTurns.{LearnsOfLastRound, LearnsOfService, lost_at_end};
-ghost use Rattle.flush_loop.specs.MadeRounds.{HoldsInRuns};
+ghost use Rattle.flush_loop.specs.MadeRounds.{GoesOnKeeping, HasKeptSince};
 ghost use Rattle.flusher_mail.specs.FlusherMail.{HasFlush, HasNoFlush};
 ghost use Rattle.job_groups.specs.AskedEach.{AreShardMails, HasMore};
 ghost use Rattle.turn_board.specs.Passes.{callers_of};
@@ -39,8 +39,8 @@ pub(crate) fn serve_flush<S: LinkedShard, R: Wait, P: CellCaller<CoreCells<S>>, 
     requires mails { AreShardMails S.fits S.stands S.says (P.opening caller.old)
         (size.now.sessions + 1) size.now.shards (2 + size.now.shards) }
     requires serves { M.serves maker.old (P.opening caller.old) }
-    requires kept { HoldsInRuns S.fits S.stands S.says (P.opening caller.old)
-        (P.number caller.old) (size.now.sessions + 1) (M.has_kept maker.old) (P.own caller.old) }
+    requires kept { HasKeptSince S.fits S.stands S.says (P.opening caller.old)
+        (P.number caller.old) (size.now.sessions + 1) M.has_kept maker.old (P.own caller.old) }
     requires taken { KnowsPart S.fits S.stands S.says (P.opening caller.old) (P.number caller.old)
         (P.own caller.old) (HasFlush to lost) }
     ensures board { P.calls_on board.now caller.new }
@@ -54,8 +54,9 @@ pub(crate) fn serve_flush<S: LinkedShard, R: Wait, P: CellCaller<CoreCells<S>>, 
     ensures free { KnowsPart S.fits S.stands S.says (P.opening caller.new) (P.number caller.new)
         (P.own caller.new) (HasNoFlush result) }
     ensures serves { M.serves maker.new (P.opening caller.new) }
-    ensures kept { HoldsInRuns S.fits S.stands S.says (P.opening caller.new)
-        (P.number caller.new) (size.now.sessions + 1) (M.has_kept maker.new) (P.own caller.new) }
+    ensures kept { GoesOnKeeping S.fits S.stands S.says (P.opening caller.old)
+        (P.number caller.old) (size.now.sessions + 1) M.has_kept maker.old maker.new
+        (P.own caller.old) (P.own caller.new) }
     ensures becomes { M.becomes maker.old maker.new }
 {
     if lost {
@@ -114,8 +115,8 @@ fn make_asked_round<S: LinkedShard, R: Wait, P: CellCaller<CoreCells<S>>, M: Mak
     requires mails { AreShardMails S.fits S.stands S.says (P.opening caller.old)
         (size.now.sessions + 1) size.now.shards (2 + size.now.shards) }
     requires serves { M.serves maker.old (P.opening caller.old) }
-    requires kept { HoldsInRuns S.fits S.stands S.says (P.opening caller.old)
-        (P.number caller.old) (size.now.sessions + 1) (M.has_kept maker.old) (P.own caller.old) }
+    requires kept { HasKeptSince S.fits S.stands S.says (P.opening caller.old)
+        (P.number caller.old) (size.now.sessions + 1) M.has_kept maker.old (P.own caller.old) }
     requires taken { KnowsPart S.fits S.stands S.says (P.opening caller.old) (P.number caller.old)
         (P.own caller.old) (HasFlush to false) }
     ensures board { P.calls_on board.now caller.new }
@@ -129,8 +130,9 @@ fn make_asked_round<S: LinkedShard, R: Wait, P: CellCaller<CoreCells<S>>, M: Mak
     ensures free { KnowsPart S.fits S.stands S.says (P.opening caller.new) (P.number caller.new)
         (P.own caller.new) (HasNoFlush result) }
     ensures serves { M.serves maker.new (P.opening caller.new) }
-    ensures kept { HoldsInRuns S.fits S.stands S.says (P.opening caller.new)
-        (P.number caller.new) (size.now.sessions + 1) (M.has_kept maker.new) (P.own caller.new) }
+    ensures kept { GoesOnKeeping S.fits S.stands S.says (P.opening caller.old)
+        (P.number caller.old) (size.now.sessions + 1) M.has_kept maker.old maker.new
+        (P.own caller.old) (P.own caller.new) }
     ensures becomes { M.becomes maker.old maker.new }
 {
     let ended = maker.make_round(rt, board, caller, size);
@@ -160,8 +162,8 @@ pub(crate) fn make_last_round<
     requires mails { AreShardMails S.fits S.stands S.says (P.opening caller.old)
         (size.now.sessions + 1) size.now.shards (2 + size.now.shards) }
     requires serves { M.serves maker.old (P.opening caller.old) }
-    requires kept { HoldsInRuns S.fits S.stands S.says (P.opening caller.old)
-        (P.number caller.old) (size.now.sessions + 1) (M.has_kept maker.old) (P.own caller.old) }
+    requires kept { HasKeptSince S.fits S.stands S.says (P.opening caller.old)
+        (P.number caller.old) (size.now.sessions + 1) M.has_kept maker.old (P.own caller.old) }
     requires free { KnowsPart S.fits S.stands S.says (P.opening caller.old) (P.number caller.old)
         (P.own caller.old) (HasNoFlush lost) }
     ensures board { P.calls_on board.now caller.new }
@@ -175,8 +177,9 @@ pub(crate) fn make_last_round<
     ensures free { KnowsPart S.fits S.stands S.says (P.opening caller.new) (P.number caller.new)
         (P.own caller.new) (HasNoFlush (lost_at_end result)) }
     ensures serves { M.serves maker.new (P.opening caller.new) }
-    ensures kept { HoldsInRuns S.fits S.stands S.says (P.opening caller.new)
-        (P.number caller.new) (size.now.sessions + 1) (M.has_kept maker.new) (P.own caller.new) }
+    ensures kept { GoesOnKeeping S.fits S.stands S.says (P.opening caller.old)
+        (P.number caller.old) (size.now.sessions + 1) M.has_kept maker.old maker.new
+        (P.own caller.old) (P.own caller.new) }
     ensures becomes { M.becomes maker.old maker.new }
 {
     if lost {

@@ -51,7 +51,7 @@ pub fn a_store_keeps_rounds_of_its_core<D: Disk>()
         → IsKeptByFile kept → AreCellsOver kept shards sessions cells
         → StandsAt D.view maker kept
         → KeepsRounds ⟦<StoredRounds<D> as MakesRounds<CoreShard>>⟧.serves
-        ⟦<StoredRounds<D> as MakesRounds<CoreShard>>⟧.has_kept sessions maker cells caller [] }
+        ⟦<StoredRounds<D> as MakesRounds<CoreShard>>⟧.has_kept sessions maker maker cells caller [] }
 {
     an_opened_core_opens_for_rounds();
     what_is_kept_is_there_in_each_run();
@@ -62,7 +62,7 @@ pub fn a_core_without_a_store_keeps_no_rounds()
     ensures { (sessions caller : ℕ) (cells : List (CoreCell CoreShard)) (maker : NoStore)
         (own : List CoreEntry)
         → KeepsRounds ⟦<NoStore as MakesRounds<CoreShard>>⟧.serves
-        ⟦<NoStore as MakesRounds<CoreShard>>⟧.has_kept sessions maker cells caller own }
+        ⟦<NoStore as MakesRounds<CoreShard>>⟧.has_kept sessions maker maker cells caller own }
 {}
 
 /// On a board over the cells of a core that opened over what a store keeps, with all its callers, the

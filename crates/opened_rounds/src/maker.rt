@@ -34,7 +34,7 @@ pub fn rounds_of_store<D: Disk>(
     ensures keeps { (shards sessions caller : ℕ) (cells : List (CoreCell CoreShard))
         → AreCellsOver opened.kept shards sessions cells
         → KeepsRounds ⟦<StoredRounds<D> as MakesRounds<CoreShard>>⟧.serves
-        ⟦<StoredRounds<D> as MakesRounds<CoreShard>>⟧.has_kept sessions result cells caller [] }
+        ⟦<StoredRounds<D> as MakesRounds<CoreShard>>⟧.has_kept sessions result result cells caller [] }
 {
     a_store_keeps_rounds_of_its_core::<D>();
     let OpenedStore { store, kept: _ } = opened;

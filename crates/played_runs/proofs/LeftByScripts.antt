@@ -59,7 +59,7 @@ saved-so (Some result.NoMemory) is = absurd (none-saved is)
 saved-so (Some (result.Lost cause)) is = absurd (none-saved is)
 
 module _ {H M : Type 0} (told : H → ShelfTold) (fault_count absence_count : H → ℕ) (serves : M → OpeningCells → Type 0)
-    (has_kept : M → KeptClaim) (becomes : M → M → Type 0) (kept : Kept) (size : CoreSize) (every : ℕ)
+    (has_kept : M → M → KeptClaim) (becomes : M → M → Type 0) (kept : Kept) (size : CoreSize) (every : ℕ)
     (cells : OpeningCells) (works : List (ScriptWork H)) (rest given : List H) (maker : M)
     (ran : RanCore (ScriptWork H) M) (many : length works ≡ size.sessions) (some : 1 ≤ size.sessions)
     (ready : AreReadyWorks size 1 works)

@@ -46,7 +46,7 @@ with-files IsFile Other every scripts replies o es same p = record {
 }
 
 module _ {H M : Type 0} (told : H → ShelfTold) (fault_count absence_count : H → ℕ) (serves : M → OpeningCells → Type 0)
-    (has_kept : M → KeptClaim) (becomes : M → M → Type 0) (size : CoreSize) (every : ℕ) (cells : OpeningCells)
+    (has_kept : M → M → KeptClaim) (becomes : M → M → Type 0) (size : CoreSize) (every : ℕ) (cells : OpeningCells)
     (works : List (ScriptWork H)) (rest given : List H) (maker : M) (ran : RanCore (ScriptWork H) M)
     (many : length works ≡ size.sessions) (some : 1 ≤ size.sessions) (ready : AreReadyWorks size 1 works)
     (rounds : (k : ℕ) (d : ScriptWork H) → k < size.sessions

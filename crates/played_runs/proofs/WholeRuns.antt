@@ -49,7 +49,7 @@ use Rattle.played_runs.specs.Shelves.{ShelvesGoOn}
 use Rattle.played_runs.specs.declared.running.PlayedRun.{PlayedRun}
 
 module _ {H M : Type 0} (told : H → ShelfTold) (fault_count absence_count : H → ℕ) (serves : M → OpeningCells → Type 0)
-    (has_kept : M → KeptClaim) (becomes : M → M → Type 0) (kept : Kept) (size : CoreSize) (every : ℕ)
+    (has_kept : M → M → KeptClaim) (becomes : M → M → Type 0) (kept : Kept) (size : CoreSize) (every : ℕ)
     (cells : OpeningCells) (works : List (ScriptWork H)) (rest given : List H) (maker : M)
     (ran : RanCore (ScriptWork H) M) (many : length works ≡ size.sessions) (some : 1 ≤ size.sessions)
     (ready : AreReadyWorks size 1 works)
@@ -57,7 +57,7 @@ module _ {H M : Type 0} (told : H → ShelfTold) (fault_count absence_count : H 
     → unwrap_or (get_or works k d).player.session.round_every 0 ≡ every)
     (shelves : map shelf_of works ++ rest ≡ given) (opens : OpenOver kept size.shards size.sessions cells)
     (h : HavePlayedOnThreads told fault_count absence_count serves has_kept becomes size cells works maker ran)
-    (keeps : KeepsRounds serves has_kept size.sessions maker cells (size.sessions + 1 + size.shards) [])
+    (keeps : KeepsRounds serves has_kept size.sessions maker maker cells (size.sessions + 1 + size.shards) [])
     (given_scripts : List (Vec Said)) (scripts_are : map script_of works ≡ given_scripts)
     (few : AllByRecursion (λ (script : List Sentence). length script ≤ MOST_STATEMENTS)
     (map sentences_of given_scripts))
@@ -161,8 +161,8 @@ module _ {H M : Type 0} (told : H → ShelfTold) (fault_count absence_count : H 
       journal_is = same_journal;
       names_are = same_names;
       shards_are = same_shards;
-      keeps = coe 1 0 (i. HasKeptOf has_kept (same_maker i) o l.to.es)
-          (kept-in-run serves has_kept becomes o ran.maker cells h.run.left h.run.log (opens h.run.log) l.to
+      keeps = coe 1 0 (i. HasKeptOf has_kept maker (same_maker i) o l.to.es)
+          (kept-in-run serves has_kept becomes o maker ran.maker cells h.run.left h.run.log (opens h.run.log) l.to
           (keeps-at-end serves has_kept becomes ran.flushed size.shards size.sessions maker ran.maker ran.last_round
           cells (caller_here o) (of_caller (caller_here o) h.run.log) h.run.order.flushes keeps));
       plays = on-true r.whole _ (run-is law end);
@@ -197,9 +197,9 @@ few-scripts (x ∷ ready) all = (
 )
 
 -- What the flusher made of the maker of rounds, also where it did not begin.
-pub made-by : {M : Type 0} (serves : M → OpeningCells → Type 0) (has_kept : M → KeptClaim) (becomes : M → M → Type 0)
-    (flushed : Bool) (shards sessions : ℕ) (before after : M) (last : Option RoundResult) (cells : OpeningCells)
-    (caller : ℕ) (own : List CoreEntry)
+pub made-by : {M : Type 0} (serves : M → OpeningCells → Type 0) (has_kept : M → M → KeptClaim)
+    (becomes : M → M → Type 0) (flushed : Bool) (shards sessions : ℕ) (before after : M) (last : Option RoundResult)
+    (cells : OpeningCells) (caller : ℕ) (own : List CoreEntry)
     → FlusherEnds serves has_kept becomes flushed shards sessions before after last cells caller own
     → becomes before before → becomes before after
 made-by serves has_kept becomes true shards sessions before after last cells caller own ends stays = ends.made

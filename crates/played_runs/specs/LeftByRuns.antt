@@ -33,11 +33,12 @@ abbrev pub IsFullFor : Kept → ℕ → CallError FullShard → Type 0
 IsFullFor kept shards (Fault full) = IsTooFull kept shards full
 IsFullFor kept shards NoMemory = Unit {0}
 
--- What makes the rounds has kept something of which its claim holds in a run, by the flusher's calls in it.
-pub record HasKeptOf {M : Type 0} (has_kept : M → KeptClaim) (maker : M) (o : Opening) (run : List CoreEvent)
+-- Since what makes the rounds was begun it has kept something of which its claim holds in a run, by the flusher's calls
+-- in it.
+pub record HasKeptOf {M : Type 0} (has_kept : M → M → KeptClaim) (begun maker : M) (o : Opening) (run : List CoreEvent)
     : Type 0 where
   pub saved : Kept
-  pub holds : has_kept maker saved o run (calls_of (flusher o) run)
+  pub holds : has_kept begun maker saved o run (calls_of (flusher o) run)
 
 module _ {H M : Type 0} where
   -- The shelves and the maker of rounds are as they were given.
@@ -45,12 +46,12 @@ module _ {H M : Type 0} where
     pub same_shelves : run.shelves.items ≡ shelves
     pub same_maker : run.maker ≡ maker
 
-  module _ (told : H → ShelfTold) (has_kept : M → KeptClaim) where
+  module _ (told : H → ShelfTold) (has_kept : M → M → KeptClaim) where
     -- The journal, the names and the shards are what one history over what is kept leaves, also where a script was not
     -- played to its end, and the maker of rounds has kept of it what it says. Where each script was played to its end,
     -- that history has played them, with these replies, and is on record.
     pub record IsOfOneRun (kept : Kept) (size : CoreSize) (every : ℕ) (scripts : List (Vec Said)) (shelves : List H)
-        (ran : PlayedRun H M) : Type 0 where
+        (maker : M) (ran : PlayedRun H M) : Type 0 where
       pub log : List CoreEntry
       pub cells : OpeningCells
       pub left : CoreLeft
@@ -58,19 +59,19 @@ module _ {H M : Type 0} where
       pub journal_is : ran.journal.items ≡ left.desk.register.journal
       pub names_are : ran.names ≡ left.names
       pub shards_are : ran.shards ≡ left.shards
-      pub keeps : HasKeptOf has_kept ran.maker (opening_over kept size.shards size.sessions log) by_run.to.es
+      pub keeps : HasKeptOf has_kept maker ran.maker (opening_over kept size.shards size.sessions log) by_run.to.es
       pub plays : OnTrue ran.whole (HasPlayedOver kept every (map told shelves) (map sentences_of scripts)
           (map said_in ran.replies.items) ran.names ran.journal.items (has_saved ran.last_round) ran.shards.items
           (opening_over kept size.shards size.sessions log) by_run.to.es)
 
-  module _ (told : H → ShelfTold) (fault_count absence_count : H → ℕ) (has_kept : M → KeptClaim)
+  module _ (told : H → ShelfTold) (fault_count absence_count : H → ℕ) (has_kept : M → M → KeptClaim)
       (becomes : M → M → Type 0) where
     -- A run over what is kept leaves a legal journal and its counters, and gives the shelves back. Where each of these
     -- scripts was played to its end, it is on record with them and with their replies.
     pub record IsLeftByScripts (kept : Kept) (size : CoreSize) (every : ℕ) (scripts : List (Vec Said))
         (shelves : List H) (maker : M) (ran : PlayedRun H M) : Type 0 where
       pub as_many : length ran.replies.items ≡ size.sessions
-      pub of_run : IsOfOneRun told has_kept kept size every scripts shelves ran
+      pub of_run : IsOfOneRun told has_kept kept size every scripts shelves maker ran
       pub legal : LeavesLegal kept ran.journal.items
       pub counted : ran.counters ≡ counters kept.epoch ran.journal.items
       pub run : OnTrue ran.whole (IsRunOver kept every (map told shelves) (map sentences_of scripts)

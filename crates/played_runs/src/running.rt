@@ -151,7 +151,7 @@ fn play_over<
     requires no_reply { room.replies.items ≡ [] }
     requires for_replies { size.sessions ≤ vec_capacity room.replies }
     requires shelves { size.sessions ≤ length shelves.items }
-    requires keeps { KeepsRounds M.serves M.has_kept size.sessions maker cells.items
+    requires keeps { KeepsRounds M.serves M.has_kept size.sessions maker maker cells.items
         (size.sessions + 1 + size.shards) [] }
     ensures left { IfOk result (IsLeftByScripts H.told H.fault_count H.absence_count M.has_kept
         M.becomes kept.now size (unwrap_or round_every 0) (map script_ready room.scripts.items)
@@ -231,7 +231,7 @@ pub fn play_run<
     requires shelves { size.sessions ≤ length shelves.items }
     requires keeps { (cells : List (CoreCell CoreShard))
         → AreCellsOver kept.now size.shards size.sessions cells
-        → KeepsRounds M.serves M.has_kept size.sessions maker cells
+        → KeepsRounds M.serves M.has_kept size.sessions maker maker cells
         (size.sessions + 1 + size.shards) [] }
     ensures left { IfOk result (IsLeftByScripts H.told H.fault_count H.absence_count M.has_kept
         M.becomes kept.now size (unwrap_or round_every 0) scripts.items shelves.items maker) }

@@ -69,7 +69,7 @@ Learns cells caller client mail how own =
     LearnsOfFlushes FitsShard CoreShardStands ShardAnswerSays cells caller client mail (Some how) [] own
 
 -- A flusher with a last round had begun.
-flusher-learns : {M : Type 0} (serves : M → OpeningCells → Type 0) (has_kept : M → KeptClaim)
+flusher-learns : {M : Type 0} (serves : M → OpeningCells → Type 0) (has_kept : M → M → KeptClaim)
     (becomes : M → M → Type 0) (began : Bool) (shards sessions : ℕ) (before after : M) (last : Option RoundResult) (how : RoundResult)
     (cells : OpeningCells) (caller : ℕ) (own : List CoreEntry)
     → FlusherEnds serves has_kept becomes began shards sessions before after last cells caller own → last ≡ Some how
@@ -85,7 +85,7 @@ some-and P x y is p = coe 1 0 (i. IsSomeAnd (is i) P) p
 
 -- ---- the run
 
-module _ {W M : Type 0} {done : SessionDone W} {serves : M → OpeningCells → Type 0} {has_kept : M → KeptClaim}
+module _ {W M : Type 0} {done : SessionDone W} {serves : M → OpeningCells → Type 0} {has_kept : M → M → KeptClaim}
     {becomes : M → M → Type 0} (shards sessions : ℕ) (cells : OpeningCells) (works : List W) (maker : M)
     (ran : RanCore W M) (h : HasRunOnThreads done serves has_kept becomes shards sessions cells works maker ran)
     (o : Opening) (opens : OpensCells FitsShard CoreShardStands ShardAnswerSays o cells h.log)

@@ -31,12 +31,14 @@ pub record MayServeShard (shards sessions number callers : ℕ) (cells : Opening
   pub there : number < shards
   pub worker : IsWorkerOf FitsShard CoreShardStands ShardAnswerSays cells caller number (2 + shards + number)
 
-module _ {M : Type 0} (serves : M → OpeningCells → Type 0) (has_kept : M → KeptClaim) where
-  -- What makes the rounds of a core has kept what it says, in each run in which the flusher's calls begin with these.
-  pub record KeepsRounds (sessions : ℕ) (maker : M) (cells : OpeningCells) (caller : ℕ) (own : List CoreEntry)
+module _ {M : Type 0} (serves : M → OpeningCells → Type 0) (has_kept : M → M → KeptClaim) where
+  -- What makes the rounds of a core has kept what it says since it was begun, in each run in which the flusher's calls
+  -- begin with these.
+  pub record KeepsRounds (sessions : ℕ) (begun maker : M) (cells : OpeningCells) (caller : ℕ) (own : List CoreEntry)
       : Type 0 where
     pub serves_core : serves maker cells
-    pub kept : HoldsInRuns FitsShard CoreShardStands ShardAnswerSays cells caller (sessions + 1) (has_kept maker) own
+    pub kept : HoldsInRuns FitsShard CoreShardStands ShardAnswerSays cells caller (sessions + 1) (has_kept begun maker)
+        own
 
   -- The caller is the flusher, which has made no call.
   pub record MayFlush (shards sessions : ℕ) (maker : M) (callers : ℕ) (cells : OpeningCells) (caller : ℕ) : Type 0 where
@@ -45,14 +47,14 @@ module _ {M : Type 0} (serves : M → OpeningCells → Type 0) (has_kept : M →
     pub flusher : IsFlusherOf FitsShard CoreShardStands ShardAnswerSays cells caller (sessions + 1) shards
     pub mail : IsMailAt FitsShard CoreShardStands ShardAnswerSays cells shards (2 + shards + shards)
     pub mails : AreShardMails FitsShard CoreShardStands ShardAnswerSays cells (sessions + 1) shards (2 + shards)
-    pub keeps : KeepsRounds sessions maker cells caller []
+    pub keeps : KeepsRounds sessions maker maker cells caller []
 
   -- It served its mail by these calls until that was closed, and made its last round.
   pub record HasFlushedAll (becomes : M → M → Type 0) (shards sessions : ℕ) (before after : M)
       (last : Option RoundResult) (cells : OpeningCells) (caller : ℕ) (own : List CoreEntry) : Type 0 where
     pub learns : LearnsOfFlushes FitsShard CoreShardStands ShardAnswerSays cells caller (sessions + 1) shards last []
         own
-    pub keeps : KeepsRounds sessions after cells caller own
+    pub keeps : KeepsRounds sessions before after cells caller own
     pub made : becomes before after
 
 -- Main may close each mail of the core, and have the shards purge.

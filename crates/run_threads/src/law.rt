@@ -34,7 +34,7 @@ pub fn callers_of_an_opened_core_may_begin<M: MakesRounds<CoreShard>>()
         (cells : List (CoreCell CoreShard))
         → AreCellsOver kept shards sessions cells → OpenOver kept shards sessions cells
         → 1 ≤ shards → sessions + 2 + shards ≤ callers
-        → KeepsRounds M.serves M.has_kept sessions maker cells (sessions + 1 + shards) []
+        → KeepsRounds M.serves M.has_kept sessions maker maker cells (sessions + 1 + shards) []
         → MayFlush M.serves M.has_kept shards sessions maker callers cells
         (sessions + 1 + shards) }
 {

@@ -44,10 +44,11 @@ use Rattle.round_store.specs.Counts.{counts_of}
 use Rattle.round_store.specs.States.{goes_second, header_cubes, kept_after, kept_before, wants_whole}
 use Rattle.rows_of_rounds.specs.RowsOfRounds.{HasRowsOfRun}
 use Rattle.rows_of_rounds.proofs.RowsThen.{rows-of-none, rows-with-round}
+use Rattle.stored_rounds.proofs.FaultCounts.{failed-since, go-on}
 use Rattle.stored_rounds.proofs.OpeningCubes.{opening-with-round}
-use Rattle.stored_rounds.proofs.OwnRounds.{kept-in-runs}
-use Rattle.stored_rounds.specs.OwnKnowledge.{ClosesRound, HasContentOfRuns, IsKeptByCalls, IsReadyForRound, IsRoundOfRuns}
-use Rattle.stored_rounds.specs.RoundsInStore.{EndsAs, HasLostRound, KeepsOfRun, StandsAt, result_of_end}
+use Rattle.stored_rounds.proofs.OwnRounds.{in-run, kept-in-runs}
+use Rattle.stored_rounds.specs.OwnKnowledge.{ClosesRound, GoesByRoundsOfRuns, HasContentOfRuns, IsKeptByCalls, IsReadyForRound, IsRoundOfRuns}
+use Rattle.stored_rounds.specs.RoundsInStore.{CountsGoOn, EndsAs, HasFailedDisk, HasLostRound, IsTrueRound, KeepsOfRun, StandsAt, kept_by_end, result_of_end}
 use Rattle.stored_rounds.specs.SafeEpochs.{safe_after_call, safe_by_calls}
 use Rattle.stored_rounds.specs.declared.stored.StoredRounds.{StoredRounds}
 
@@ -237,28 +238,108 @@ module _ (cells : List (CoreCell CoreShard)) (caller client shards : ℕ)
               (rows-behind o run (wants_whole m.store) kept later.is_run (ready.by_calls.content o log run was).rows);
         }
 
+    abbrev Spares : RoundEnd → Type 0
+    Spares how = how ≡ end.Lost Memory → new ≡ m
+
+    abbrev Failed : RoundEnd → Type 0
+    Failed how = how ≡ end.Lost Disk → Rose (view m.first).faults (view new.first).faults
+        ⊎ Rose (view m.second).faults (view new.second).faults
+
+    -- Of the round that was added, or was lost as it was, this holds, with what it comes behind.
+    abbrev HoldsOfRound : (Kept → Round → Type 0) → (how : RoundEnd) → After how → Type 0
+    HoldsOfRound Holds end.Safe after = Holds behind after.adds.round
+    HoldsOfRound Holds (end.Lost Disk) after = Holds behind after.round
+    HoldsOfRound Holds (end.Lost Memory) after = Unit {0}
+
+    abbrev kept_at_end : (how : RoundEnd) → After how → Kept
+    kept_at_end end.Safe after = kept_after m.store kept after.adds.round
+    kept_at_end (end.Lost cause) after = kept
+
+    -- It ended so, and then that is kept.
+    ended : (Holds : Kept → Round → Type 0) (how : RoundEnd) (after : After how) → HoldsOfRound Holds how after → Spares how → Failed how
+        → (ends : EndsAs view Holds (result_of_end span.epoch how) kept m new)
+        × (kept_by_end view Holds span.epoch how kept m new ends ≡ kept_at_end how after)
+    ended Holds end.Safe after holds memory failed = (
+      record {
+        round = after.adds.round;
+        ends = after.adds.ends;
+        holds = holds;
+        adds = record { at = ready.takes.at; first_still = first_still; second_still = second_still; either = after.adds.either };
+        stands = after.at;
+      },
+      refl,
+    )
+    ended Holds (end.Lost Disk) after holds memory failed = (
+      record {
+        round = after.round;
+        holds = holds;
+        adds = record { at = ready.takes.at; first_still = first_still; second_still = second_still; either = after.either };
+        failed = failed refl;
+      },
+      refl,
+    )
+    ended Holds (end.Lost Memory) after holds memory failed = ((ready.takes.at, memory refl), refl)
+
+    -- The round is one of each run with these calls.
+    there-so : (how : RoundEnd) (after : After how) → HoldsOfRound (IsRoundOfRuns cells caller client mid) how after
+    there-so end.Safe after = round-there after.adds.round after.adds.copied
+    there-so (end.Lost Disk) after = round-there after.round after.copied
+    there-so (end.Lost Memory) after = tt
+
+    there-now : (how : RoundEnd) (now : List CoreEntry) → now ≡ mid ++ desk_entry caller (call.RoundClose span.epoch how) answer.Done ∷ []
+        → (after : After how) → HoldsOfRound (IsRoundOfRuns cells caller client now) how after
+    there-now end.Safe now is after = λ o log run later.
+        there-so end.Safe after o log run (was-later span.epoch end.Safe mid now is o log run later)
+    there-now (end.Lost Disk) now is after = λ o log run later.
+        there-so (end.Lost Disk) after o log run (was-later span.epoch (end.Lost Disk) mid now is o log run later)
+    there-now (end.Lost Memory) now is after = tt
+
+    -- It is true to each such run.
+    true-so : (how : RoundEnd) (after : After how) (o : Opening) (log : List CoreEntry) (run : List CoreEvent)
+        → IsLaterRun FitsShard CoreShardStands ShardAnswerSays cells o caller mid log run → HoldsOfRound (IsTrueRound o run) how after
+    true-so end.Safe after o log run later =
+        record { first = after.adds.of_runs o log run later; content = content-added after.adds.round after.adds.copied o log run later }
+    true-so (end.Lost Disk) after o log run later =
+        record { first = after.of_runs o log run later; content = content-added after.round after.copied o log run later }
+    true-so (end.Lost Memory) after o log run later = tt
+
     pub ends-so : (how : RoundEnd) (now : List CoreEntry)
         → now ≡ mid ++ desk_entry caller (call.RoundClose span.epoch how) answer.Done ∷ []
-        → After how → (how ≡ end.Lost Memory → new ≡ m)
-        → (how ≡ end.Lost Disk → Rose (view m.first).faults (view new.first).faults
-        ⊎ Rose (view m.second).faults (view new.second).faults)
+        → After how → Spares how → Failed how
         → EndsAs view (IsRoundOfRuns cells caller client now) (result_of_end span.epoch how) kept m new
-    ends-so end.Safe now is after memory failed = record {
-      round = after.adds.round;
-      ends = after.adds.ends;
-      holds = λ o log run later.
-          round-there after.adds.round after.adds.copied o log run (was-later span.epoch end.Safe mid now is o log run later);
-      adds = record { at = ready.takes.at; first_still = first_still; second_still = second_still; either = after.adds.either };
-      stands = after.at;
-    }
-    ends-so (end.Lost Disk) now is after memory failed = record {
-      round = after.round;
-      holds = λ o log run later.
-          round-there after.round after.copied o log run (was-later span.epoch (end.Lost Disk) mid now is o log run later);
-      adds = record { at = ready.takes.at; first_still = first_still; second_still = second_still; either = after.either };
-      failed = failed refl;
-    }
-    ends-so (end.Lost Memory) now is after memory failed = (ready.takes.at, memory refl)
+    ends-so how now is after memory failed =
+        (ended (IsRoundOfRuns cells caller client now) how after (there-now how now is after) memory failed).0
+
+    -- With it the store has come by rounds of each run to what is then kept.
+    module _ (begun : StoredRounds D) (rounds : GoesByRoundsOfRuns cells caller client own view begun m kept) where
+      rounds-so : (how : RoundEnd) (now : List CoreEntry)
+          → now ≡ mid ++ desk_entry caller (call.RoundClose span.epoch how) answer.Done ∷ []
+          → (after : After how) → Spares how → Failed how
+          → GoesByRoundsOfRuns cells caller client now view begun new (kept_at_end how after)
+      rounds-so how now is after memory failed o log run es later are =
+          let close_it = OnDesk (RoundClose span.epoch how) in
+          let c = closing span.epoch how mid now is o log run es later are in
+          let later_mid = was-later span.epoch how mid now is o log run later in
+          let w = within o log run c.before later_mid c.events in
+          let later_own = before-more cells caller client own more.more mid log o run more.whole later_mid in
+          let did = ended (IsTrueRound o run) how after (true-so how after o log run later_mid) memory failed in
+          let before = rounds o log run w.before later_own w.events in
+          record {
+            starts = record { store = m; kept = kept; calls = calls_of client w.before } ∷ before.starts;
+            are = (
+              record {
+                behind = in-run cells caller client shards flush kept own ready.by_calls o log run w.before later_own w.events;
+                epoch = span.epoch;
+                how = how;
+                ends = did.0;
+                leaves = did.1;
+                later = close_it ∷ w.added;
+                since = c.calls
+                    ∙ ap (λ (l : List ClientCall). close_it ∷ l) (ap (calls_of client) w.whole ∙ calls-added client w.added w.before);
+              },
+              before.are,
+            );
+          }
 
     -- What was kept before a round that was lost.
     lost-kept : (cause : LostCause) (now : List CoreEntry)
@@ -268,53 +349,56 @@ module _ (cells : List (CoreCell CoreShard)) (caller client shards : ℕ)
         let by = kept-within own mid kept ready.by_calls more within in
         kept-by-close span.epoch (end.Lost cause) mid now is kept by.of_runs by.told by.up_to by.content
 
-    pub holds-so : (how : RoundEnd) (now : List CoreEntry) → now ≡ mid ++ desk_entry caller (call.RoundClose span.epoch how) answer.Done ∷ []
-        → After how → (how ≡ end.Lost Memory → new ≡ m)
-        → KnowsBetween FitsShard CoreShardStands ShardAnswerSays cells caller client (is_lost_to_disk how) now
-        → HoldsInRuns FitsShard CoreShardStands ShardAnswerSays cells caller client (KeepsOfRun view new) now
-    holds-so end.Safe now is after memory between =
-        let all = kept_after m.store kept after.adds.round in
-        kept-in-runs cells caller client shards flush view new all now
-        (kept-by-close span.epoch end.Safe mid now is all after.adds.of_runs after.adds.told
-        (λ o log run es later are. after.adds.ends) (content-added after.adds.round after.adds.copied))
-        after.at between
-    holds-so (end.Lost Memory) now is after memory between =
-        coe 1 0
-        (i. HoldsInRuns FitsShard CoreShardStands ShardAnswerSays cells caller client (KeepsOfRun view (memory refl i)) now)
-        (kept-in-runs cells caller client shards flush view m kept now (lost-kept Memory now is) ready.takes.at between)
-    holds-so (end.Lost Disk) now is after memory between =
-        let by = lost-kept Disk now is in
-        record {
-          kept = kept;
-          in_runs = λ o log run es later are.
-              let calls = calls_of client es in
-              let same = flush.client_is o log later.opens in
-              let lost = coe 0 1 (i. (state_from_calls o (same i) calls).store_lost ≡ true) (between o log run es later are).store in
-              let gone : HasLostRound view new kept o run =
-              record {
-                before = m;
-                round = after.round;
-                adds = record {
-                  at = ready.takes.at;
-                  first_still = first_still;
-                  second_still = second_still;
-                  either = after.either;
+    module _ (begun : StoredRounds D) (rounds : GoesByRoundsOfRuns cells caller client own view begun m kept)
+        (before : CountsGoOn view begun m) (counts : CountsGoOn view m new) where
+      pub holds-so : (how : RoundEnd) (now : List CoreEntry) → now ≡ mid ++ desk_entry caller (call.RoundClose span.epoch how) answer.Done ∷ []
+          → After how → Spares how → Failed how
+          → KnowsBetween FitsShard CoreShardStands ShardAnswerSays cells caller client (is_lost_to_disk how) now
+          → HoldsInRuns FitsShard CoreShardStands ShardAnswerSays cells caller client (KeepsOfRun view begun new) now
+      holds-so end.Safe now is after memory failed between =
+          let all = kept_after m.store kept after.adds.round in
+          kept-in-runs cells caller client shards flush view begun new all now
+          (kept-by-close span.epoch end.Safe mid now is all after.adds.of_runs after.adds.told
+          (λ o log run es later are. after.adds.ends) (content-added after.adds.round after.adds.copied))
+          after.at (rounds-so begun rounds end.Safe now is after memory failed) (go-on view begun m new before counts)
+          between
+      holds-so (end.Lost Memory) now is after memory failed between =
+          kept-in-runs cells caller client shards flush view begun new kept now (lost-kept Memory now is)
+          (coe 1 0 (i. StandsAt view (memory refl i) kept) ready.takes.at)
+          (rounds-so begun rounds (end.Lost Memory) now is after memory failed) (go-on view begun m new before counts)
+          between
+      holds-so (end.Lost Disk) now is after memory failed between =
+          let by = lost-kept Disk now is in
+          record {
+            kept = kept;
+            in_runs = λ o log run es later are.
+                let calls = calls_of client es in
+                let same = flush.client_is o log later.opens in
+                let lost = coe 0 1 (i. (state_from_calls o (same i) calls).store_lost ≡ true) (between o log run es later are).store in
+                let gone : HasLostRound view new kept o run =
+                record {
+                  before = m;
+                  round = after.round;
+                  adds = record {
+                    at = ready.takes.at;
+                    first_still = first_still;
+                    second_still = second_still;
+                    either = after.either;
+                  };
+                  with_round = after.of_runs o log run (was-later span.epoch (end.Lost Disk) mid now is o log run later);
+                  content = content-added after.round after.copied o log run
+                      (was-later span.epoch (end.Lost Disk) mid now is o log run later);
+                  failed = failed refl;
+                }
+                in
+                record {
+                  rounds = rounds-so begun rounds (end.Lost Disk) now is after memory failed o log run es later are;
+                  in_run = in-run cells caller client shards flush kept now by o log run es later are;
+                  stands = subst (λ (b : Bool). MatchBool b (HasLostRound view new kept o run) (StandsAt view new kept)) (sym lost) gone;
+                  counts = coe 1 0 (i. MatchBool (lost i) (HasFailedDisk view begun new) (CountsGoOn view begun new))
+                      (failed-since view begun m new before (failed refl));
                 };
-                with_round = after.of_runs o log run (was-later span.epoch (end.Lost Disk) mid now is o log run later);
-                content = content-added after.round after.copied o log run
-                    (was-later span.epoch (end.Lost Disk) mid now is o log run later);
-              }
-              in
-              record {
-                in_run = record {
-                  first = by.of_runs o log run later;
-                  told = coe 0 1 (i. IsToldOfKept kept (state_from_calls o (same i) calls)) (by.told o log run es later are);
-                  up_to = by.up_to o log run es later are;
-                  content = by.content o log run later;
-                };
-                stands = subst (λ (b : Bool). MatchBool b (HasLostRound view new kept o run) (StandsAt view new kept)) (sym lost) gone;
-              };
-        }
+          }
 
 -- Whatever holds of a round, it ended so.
 pub ends-anyway : {D : Type 0} (view : D → View) (Holds : Kept → Round → Type 0) (result : RoundResult) (kept : Kept)

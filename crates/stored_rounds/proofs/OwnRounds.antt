@@ -1,5 +1,5 @@
 -- What the flusher's store keeps before it opens a round is kept once it has, and the store takes that round.
-use Rattle.std.proofs.Common.{◌≡◌, ◌∙◌, ℕ, Bool, true, false, List, [], ◌∷◌, ◌++◌, length, Option, Some, None, MatchBool, if◌then◌else◌, refl, sym, ap, subst}
+use Rattle.std.proofs.Common.{◌≡◌, ◌∙◌, ℕ, Bool, true, false, List, [], ◌∷◌, ◌++◌, append_assoc, length, Option, Some, None, MatchBool, if◌then◌else◌, refl, sym, ap, subst}
 use Rattle.std.specs.Option.{option_map_or}
 use Rattle.aosi_desk.specs.declared.answer.RoundAnswer.{RoundAnswer}
 use Rattle.aosi_desk.specs.declared.answer.RoundAnswer.TheVariants.{Target}
@@ -33,8 +33,8 @@ use Rattle.round_store.specs.Counts.{counts_of}
 use Rattle.round_store.specs.States.{header_cubes, kept_before, wants_whole}
 use Rattle.stored_rounds.proofs.KeptHeaders.{kept-behind}
 use Rattle.stored_rounds.proofs.SafeRounds.{AreOpenedRight, all-opened-right}
-use Rattle.stored_rounds.specs.OwnKnowledge.{IsKeptByCalls, IsReadyForRound}
-use Rattle.stored_rounds.specs.RoundsInStore.{AlwaysOpenForRounds, HasLostRound, KeepsOfRun, StandsAt}
+use Rattle.stored_rounds.specs.OwnKnowledge.{GoesByRoundsOfRuns, IsKeptByCalls, IsReadyForRound}
+use Rattle.stored_rounds.specs.RoundsInStore.{AlwaysOpenForRounds, AreRoundsOfRun, CountsGoOn, GoesByRoundsOfRun, HasFailedDisk, HasLostRound, IsKeptInRun, KeepsOfRun, RoundStart, StandsAt}
 use Rattle.stored_rounds.specs.SafeEpochs.{safe_after_call, safe_by_calls}
 use Rattle.stored_rounds.specs.declared.stored.StoredRounds.{StoredRounds}
 
@@ -43,6 +43,28 @@ asked-safe : (client : ℕ) (asked : Option RoundAnswer) (k : ClientState) (safe
     → safe_after_call (desk_event client k call.RoundOpen (option_map_or answer.Round asked answer.NoMemory)) safe ≡ safe
 asked-safe client (Some a) k safe = refl
 asked-safe client None k safe = refl
+
+-- Rounds of a run are its rounds by more calls as well.
+module _ {D : Type 0} (view : D → View) (o : Opening) (run : List CoreEvent) (begun m : StoredRounds D) (kept : Kept)
+    (calls added now : List ClientCall) (is : now ≡ added ++ calls) where
+  are-more : (starts : List (RoundStart D)) → AreRoundsOfRun view o run begun starts m kept calls
+      → AreRoundsOfRun view o run begun starts m kept now
+  are-more [] are = are
+  are-more (last ∷ older) are = (
+    record {
+      behind = are.0.behind;
+      epoch = are.0.epoch;
+      how = are.0.how;
+      ends = are.0.ends;
+      leaves = are.0.leaves;
+      later = added ++ are.0.later;
+      since = is ∙ ap (λ (l : List ClientCall). added ++ l) are.0.since ∙ sym (append_assoc added are.0.later last.calls);
+    },
+    are.1,
+  )
+
+  pub more-calls : GoesByRoundsOfRun view o run begun m kept calls → GoesByRoundsOfRun view o run begun m kept now
+  more-calls rounds = record { starts = rounds.starts; are = are-more rounds.starts rounds.are }
 
 module _ (cells : List (CoreCell CoreShard)) (caller client shards : ℕ)
     (flush : IsFlusherOf FitsShard CoreShardStands ShardAnswerSays cells caller client shards) where
@@ -66,30 +88,41 @@ module _ (cells : List (CoreCell CoreShard)) (caller client shards : ℕ)
       in
       (g.before, g.events)
 
-  module _ {D : Type 0} (view : D → View) (m : StoredRounds D) where
+  -- What is kept by its own calls is there in each run.
+  pub in-run : (kept : Kept) (own : List CoreEntry) → IsKeptByCalls cells caller client own kept → (o : Opening)
+      (log : List CoreEntry) (run es : List CoreEvent) → Later o own log run → Of o own es
+      → IsKeptInRun kept o run (calls_of client es)
+  in-run kept own by o log run es later are =
+      let is = flush.client_is o log later.opens in
+      record {
+        first = by.of_runs o log run later;
+        told = coe 0 1 (i. IsToldOfKept kept (state_from_calls o (is i) (calls_of client es))) (by.told o log run es later are);
+        up_to = by.up_to o log run es later are;
+        content = by.content o log run later;
+      }
+
+  module _ {D : Type 0} (view : D → View) (begun m : StoredRounds D) where
     -- What is kept, as it is known by own calls, holds in runs.
     pub kept-in-runs : (kept : Kept) (own : List CoreEntry) → IsKeptByCalls cells caller client own kept → StandsAt view m kept
+        → GoesByRoundsOfRuns cells caller client own view begun m kept → CountsGoOn view begun m
         → KnowsBetween FitsShard CoreShardStands ShardAnswerSays cells caller client false own
-        → HoldsInRuns FitsShard CoreShardStands ShardAnswerSays cells caller client (KeepsOfRun view m) own
-    kept-in-runs kept own by at between = record {
+        → HoldsInRuns FitsShard CoreShardStands ShardAnswerSays cells caller client (KeepsOfRun view begun m) own
+    kept-in-runs kept own by at rounds counts between = record {
       kept = kept;
       in_runs = λ o log run es later are.
           let calls = calls_of client es in
           let is = flush.client_is o log later.opens in
           let none = coe 0 1 (i. (state_from_calls o (is i) calls).store_lost ≡ false) (between o log run es later are).store in
           record {
-            in_run = record {
-              first = by.of_runs o log run later;
-              told = coe 0 1 (i. IsToldOfKept kept (state_from_calls o (is i) calls)) (by.told o log run es later are);
-              up_to = by.up_to o log run es later are;
-              content = by.content o log run later;
-            };
+            rounds = rounds o log run es later are;
+            in_run = in-run kept own by o log run es later are;
             stands = subst (λ (lost : Bool). MatchBool lost (HasLostRound view m kept o run) (StandsAt view m kept)) (sym none) at;
+            counts = coe 1 0 (i. MatchBool (none i) (HasFailedDisk view begun m) (CountsGoOn view begun m)) counts;
           };
     }
 
     module _ (asked : Option RoundAnswer) (own now : List CoreEntry) (is : now ≡ own ++ opening_entry caller asked ∷ [])
-        (held : HoldsInRuns FitsShard CoreShardStands ShardAnswerSays cells caller client (KeepsOfRun view m) own)
+        (held : HoldsInRuns FitsShard CoreShardStands ShardAnswerSays cells caller client (KeepsOfRun view begun m) own)
         (between : KnowsBetween FitsShard CoreShardStands ShardAnswerSays cells caller client false own) where
       abbrev asks : List ClientCall → Opening → ClientCall
       asks calls o =
@@ -109,7 +142,7 @@ module _ (cells : List (CoreCell CoreShard)) (caller client shards : ℕ)
           log run later
 
       kept-then : (o : Opening) (log : List CoreEntry) (run es : List CoreEvent) (later : Later o now log run) (are : Of o now es)
-          → KeepsOfRun view m held.kept o run (calls_of client (goes o log run es later are).before)
+          → KeepsOfRun view begun m held.kept o run (calls_of client (goes o log run es later are).before)
       kept-then o log run es later are =
           let g = goes o log run es later are in held.in_runs o log run g.before (was-later o log run later) g.events
 
@@ -138,6 +171,13 @@ module _ (cells : List (CoreCell CoreShard)) (caller client shards : ℕ)
             let own_es = own-events o now log run later in (kept-then o log run own_es.0 later own_es.1).in_run.content;
       }
 
+      pub rounds-by-asking : GoesByRoundsOfRuns cells caller client now view begun m held.kept
+      rounds-by-asking o log run es later are =
+          let g = goes o log run es later are in
+          let calls = calls_of client g.before in
+          more-calls view o run begun m held.kept calls (asks calls o ∷ []) (calls_of client es) g.calls
+          (kept-then o log run es later are).rounds
+
       module _ (history : HasHistory cells caller now) where
         -- A run of that history.
         abbrev o : Opening
@@ -162,6 +202,17 @@ module _ (cells : List (CoreCell CoreShard)) (caller client shards : ℕ)
             in
             subst (λ (lost : Bool). MatchBool lost (HasLostRound view m held.kept o run.run) (StandsAt view m held.kept)) none
             (kept-then o history.log run.run run.es run.is_later run.events).stands
+
+        pub counts-then : CountsGoOn view begun m
+        counts-then =
+            let same = flush.client_is o history.log run.is_later.opens in
+            let calls = calls_of client gone.before in
+            let none =
+            coe 0 1 (i. (state_from_calls o (same i) calls).store_lost ≡ false)
+            (between o history.log run.run gone.before (was-later o history.log run.run run.is_later) gone.events).store
+            in
+            subst (λ (lost : Bool). MatchBool lost (HasFailedDisk view begun m) (CountsGoOn view begun m)) none
+            (kept-then o history.log run.run run.es run.is_later run.events).counts
 
         -- It begins where the store ends.
         pub begins-then : (from epoch : ℕ) → asked ≡ Some (Target from epoch) → from ≡ held.kept.epoch

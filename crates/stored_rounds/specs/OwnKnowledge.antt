@@ -6,7 +6,11 @@ use Rattle.core_program.specs.ClientCalls.{desk_entry}
 use Rattle.core_cells.specs.declared.desk.DeskAnswer.TheVariants as answer
 use Rattle.core_cells.specs.declared.desk.DeskCall.TheVariants as call
 use Rattle.core_program.specs.CoreFits.{CoreEntry}
+use Rattle.core_events.specs.Clients.{calls_of}
 use Rattle.core_events.specs.Events.{Opening, CoreEvent}
+use Rattle.cube_core.specs.BoardCells.{IsEntryEvent}
+use Rattle.cube_core.specs.Links.{AreEventsOf}
+use Rattle.flush_loop.specs.MadeRounds.{HoldsInRuns}
 use Rattle.core_program.specs.Knowing.{IsLaterRun, Knows}
 use Rattle.cube_core.specs.declared.cell.CoreCell.{CoreCell}
 use Rattle.copied_rounds.specs.CopiedRounds.{IsRoundBehindKept}
@@ -20,7 +24,7 @@ use Rattle.linked_shards.specs.declared.cell.CoreShard.{CoreShard}
 use Rattle.outside_disk.specs.Views.{View}
 use Rattle.round_copies.specs.WithinRounds.{KnowsOfFlusher, StaysWithinRound}
 use Rattle.round_copies.specs.declared.span.RoundSpan.{RoundSpan}
-use Rattle.stored_rounds.specs.RoundsInStore.{HasContentOfRun}
+use Rattle.stored_rounds.specs.RoundsInStore.{CountsGoOn, GoesByRoundsOfRun, HasContentOfRun, KeepsOfRun}
 use Rattle.stored_rounds.specs.SafeEpochs.{safe_by_calls}
 use Rattle.stored_rounds.specs.declared.stored.StoredRounds.{StoredRounds}
 
@@ -50,6 +54,20 @@ module _ (cells : List (CoreCell CoreShard)) (caller client : ℕ) (own : List C
       : Type 0 where
     pub by_calls : IsKeptByCalls kept
     pub takes : TakesRound cells caller own m.store kept span (view m.first) (view m.second)
+
+  module _ {D : Type 0} (view : D → View) where
+    -- By rounds of each run with these calls the store has come to keep this.
+    abbrev pub GoesByRoundsOfRuns : StoredRounds D → StoredRounds D → Kept → Type 0
+    GoesByRoundsOfRuns begun m kept = (o : Opening) (log : List CoreEntry) (run es : List CoreEvent)
+        → IsLaterRun FitsShard CoreShardStands ShardAnswerSays cells o caller own log run
+        → AreEventsOf (IsEntryEvent FitsShard CoreShardStands ShardAnswerSays o) own es
+        → GoesByRoundsOfRun view o run begun m kept (calls_of client es)
+
+    -- Where it has come by rounds to what it then keeps, and takes the round that is open, it keeps on with that round.
+    abbrev pub KeepsOnByRound : RoundSpan → StoredRounds D → StoredRounds D → List CoreEntry → Type 0
+    KeepsOnByRound span before after now = (begun : StoredRounds D) (kept : Kept) → IsReadyForRound view span before kept
+        → GoesByRoundsOfRuns begun before kept → CountsGoOn view begun before
+        → HoldsInRuns FitsShard CoreShardStands ShardAnswerSays cells caller client (KeepsOfRun view begun after) now
 
   -- By more calls the flusher stays within its round, and then closes it so.
   pub record ClosesRound (epoch : ℕ) (how : RoundEnd) (now : List CoreEntry) : Type 0 where

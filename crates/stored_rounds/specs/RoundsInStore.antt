@@ -8,11 +8,11 @@
 --
 -- Source: Cubrick (VLDB 2016), flush rounds; AOSI (ICDE 2018), LSE and recovery; two files are this project's own.
 use mathlib.Core.List.{IsPrefix}
-use Rattle.std.specs.Prelude.{◌≡◌, ◌⊎◌, ℕ, true, false, List, [], ◌∷◌, ◌++◌, MatchBool}
+use Rattle.std.specs.Prelude.{◌≡◌, ◌≤◌, ◌⊎◌, ℕ, true, false, List, [], ◌∷◌, ◌++◌, MatchBool}
 use Rattle.aosi_desk.specs.declared.answer.RoundEnd.{RoundEnd}
 use Rattle.aosi_desk.specs.declared.answer.RoundEnd.TheVariants as end
 use Rattle.cube_journal.specs.declared.journal_entry.LostCause.TheVariants.{Disk}
-use Rattle.cube_rounds.specs.Stands.{Kept}
+use Rattle.cube_rounds.specs.Stands.{Kept, kept_with}
 use Rattle.cube_rounds.specs.declared.round.Round.{Round}
 use Rattle.cube_core.specs.Links.{AreEventsOf}
 use Rattle.core_events.specs.Cells.{desk_of}
@@ -49,6 +49,15 @@ pub record HasContentOfRun (o : Opening) (run : List CoreEvent) (kept : Kept) : 
   pub opening : IsPrefix o.cubes kept.cubes
   pub rows : HasRowsOfRun o run kept
 
+-- It is true to a run: its cubes and names are the first of the run's, and it has the content of the run.
+pub record IsTrueToRun (o : Opening) (run : List CoreEvent) (kept : Kept) : Type 0 where
+  pub first : IsKeptAfter o run kept.cubes kept.names
+  pub content : HasContentOfRun o run kept
+
+-- So is a round with what it comes behind.
+abbrev pub IsTrueRound : Opening → List CoreEvent → Kept → Round → Type 0
+IsTrueRound o run behind round = IsTrueToRun o run (kept_with behind round)
+
 -- What is kept is there in a run with these calls of the flusher, which was told of it. It ends at the latest safe epoch.
 pub record IsKeptInRun (kept : Kept) (o : Opening) (run : List CoreEvent) (calls : List ClientCall) : Type 0 where
   pub first : IsKeptAfter o run kept.cubes kept.names
@@ -61,10 +70,26 @@ abbrev pub result_of_end : ℕ → RoundEnd → RoundResult
 result_of_end epoch end.Safe = Safe epoch
 result_of_end epoch (end.Lost cause) = Lost cause
 
+-- Where a round was opened: the store, what it kept, and the flusher's calls by then, the newest first.
+pub record RoundStart (D : Type 0) : Type 0 where
+  pub store : StoredRounds D
+  pub kept : Kept
+  pub calls : List ClientCall
+
 module _ {D : Type 0} (view : D → View) where
   -- A store stands on its two disks for what is kept.
   abbrev pub StandsAt : StoredRounds D → Kept → Type 0
   StandsAt m kept = IsAt m.store kept (view m.first) (view m.second)
+
+  -- One of the two disks has failed meanwhile, and counted it.
+  abbrev pub HasFailedDisk : StoredRounds D → StoredRounds D → Type 0
+  HasFailedDisk before after = Rose (view before.first).faults (view after.first).faults
+      ⊎ Rose (view before.second).faults (view after.second).faults
+
+  -- Their counts of faults have not fallen.
+  pub record CountsGoOn (before after : StoredRounds D) : Type 0 where
+    pub first_count : (view before.first).faults ≤ (view after.first).faults
+    pub second_count : (view before.second).faults ≤ (view after.second).faults
 
   -- A round is added to what is kept: at every moment two images stand for what was kept, or for that with the round. One
   -- of the disks stays as it is.
@@ -80,8 +105,7 @@ module _ {D : Type 0} (view : D → View) where
     pub round : Round
     pub holds : Holds (kept_before before.store kept) round
     pub adds : AddsTo kept round before after
-    pub failed : Rose (view before.first).faults (view after.first).faults
-        ⊎ Rose (view before.second).faults (view after.second).faults
+    pub failed : HasFailedDisk before after
 
   -- A round up to the epoch was added, of which this holds with what it comes behind, and the store stands for what is kept
   -- with it.
@@ -114,19 +138,55 @@ module _ {D : Type 0} (view : D → View) where
     pub steps : List (StoredRounds D)
     pub are : AreRoundsOn before steps after
 
-  -- A round was lost to a disk, which was being added to what is kept of the run.
+  -- What is kept once a round has ended that was closed so.
+  abbrev pub kept_by_end : (Holds : Kept → Round → Type 0) (epoch : ℕ) (how : RoundEnd) (kept : Kept)
+      (before after : StoredRounds D) → EndsAs Holds (result_of_end epoch how) kept before after → Kept
+  kept_by_end Holds epoch end.Safe kept before after ends = kept_after before.store kept ends.round
+  kept_by_end Holds epoch (end.Lost cause) kept before after ends = kept
+
+  module _ (o : Opening) (run : List CoreEvent) where
+    -- A round that was opened there, on what was kept of the run by then, was closed in one way or another, and this was
+    -- kept. What it added is true to the run, even if it was lost as it was added. The flusher has made more calls since.
+    pub record IsRoundOfRun (start : RoundStart D) (after : StoredRounds D) (kept : Kept) (calls : List ClientCall)
+        : Type 0 where
+      pub behind : IsKeptInRun start.kept o run start.calls
+      pub epoch : ℕ
+      pub how : RoundEnd
+      pub ends : EndsAs (IsTrueRound o run) (result_of_end epoch how) start.kept start.store after
+      pub leaves : kept_by_end (IsTrueRound o run) epoch how start.kept start.store after ends ≡ kept
+      pub later : List ClientCall
+      pub since : calls ≡ later ++ start.calls
+
+    -- Rounds, the newest first, each on the store that the one before it left, and behind what that kept.
+    abbrev pub AreRoundsOfRun : StoredRounds D → List (RoundStart D) → StoredRounds D → Kept → List ClientCall → Type 0
+    AreRoundsOfRun begun [] now kept calls = begun ≡ now
+    AreRoundsOfRun begun (last ∷ older) now kept calls =
+        IsRoundOfRun last now kept calls × AreRoundsOfRun begun older last.store last.kept last.calls
+
+    -- By all rounds that the flusher opened the store has come to keep this.
+    pub record GoesByRoundsOfRun (begun now : StoredRounds D) (kept : Kept) (calls : List ClientCall) : Type 0 where
+      pub starts : List (RoundStart D)
+      pub are : AreRoundsOfRun begun starts now kept calls
+
+  -- A round was lost to a disk, which was being added to what is kept of the run. One of the two had failed.
   pub record HasLostRound (m : StoredRounds D) (kept : Kept) (o : Opening) (run : List CoreEvent) : Type 0 where
     pub before : StoredRounds D
     pub round : Round
     pub adds : AddsTo kept round before m
     pub with_round : IsKeptAfter o run (kept_after before.store kept round).cubes (kept_after before.store kept round).names
     pub content : HasContentOfRun o run (kept_after before.store kept round)
+    pub failed : HasFailedDisk before m
 
   -- What is kept of a run with these calls of the flusher: the store stands for it, or was lost as a round was added to it.
-  pub record KeepsOfRun (m : StoredRounds D) (kept : Kept) (o : Opening) (run : List CoreEvent) (calls : List ClientCall)
-      : Type 0 where
+  -- It has come to that by rounds of the run since it was begun. Where it was lost, one of its
+  -- disks has failed since, and else no count of faults has fallen.
+  pub record KeepsOfRun (begun m : StoredRounds D) (kept : Kept) (o : Opening) (run : List CoreEvent)
+      (calls : List ClientCall) : Type 0 where
+    pub rounds : GoesByRoundsOfRun o run begun m kept calls
     pub in_run : IsKeptInRun kept o run calls
     pub stands : MatchBool (state_from_calls o (flusher o) calls).store_lost (HasLostRound m kept o run) (StandsAt m kept)
+    pub counts : MatchBool (state_from_calls o (flusher o) calls).store_lost (HasFailedDisk begun m)
+        (CountsGoOn begun m)
 
   -- Without a round a store stays what it is, and rounds may come after others.
 

@@ -13,7 +13,7 @@ use turn_board::Board;
 impl<D: Disk> MakesRounds<CoreShard> for StoredRounds<D> {
     ghost serves = { λ m cells. AlwaysOpenForRounds cells };
 
-    ghost has_kept = { λ m kept o run calls. KeepsOfRun D.view m kept o run calls };
+    ghost has_kept = { λ begun m kept o run calls. KeepsOfRun D.view begun m kept o run calls };
 
     ghost becomes = { λ before after. GoesByRounds D.view before after };
 

@@ -4,14 +4,14 @@ ghost use Rattle.aosi_desk.specs.declared.answer.RoundAnswer.TheVariants as aske
 ghost use Rattle.core_events.specs.Clients.{is_lost_to_disk};
 ghost use Rattle.core_program.specs.Flushing.{IsFlusherOf};
 ghost use Rattle.cube_rounds.specs.Stands.{Kept};
-ghost use Rattle.flush_loop.specs.MadeRounds.{HoldsInRuns, KnowsBetween, LearnsOfOwnRound};
+ghost use Rattle.flush_loop.specs.MadeRounds.{GoesOnKeeping, HasKeptSince, KnowsBetween, LearnsOfOwnRound};
 ghost use Rattle.flush_loop.specs.RoundResults.{loses_store};
 ghost use Rattle.job_groups.specs.AskedEach.{AreShardMails, HasMore};
 ghost use Rattle.linked_shards.specs.CellShards.{CoreShardStands};
 ghost use Rattle.shard_events.specs.ShardsInRuns.{FitsShard, ShardAnswerSays};
 ghost use Rattle.round_copies.specs.RoundCopies.{HasOpened};
 ghost use Rattle.round_copies.specs.WithinRounds.{KnowsOfFlusher};
-ghost use Rattle.stored_rounds.specs.OwnKnowledge.{ClosesRound, IsReadyForRound, IsRoundOfRuns};
+ghost use Rattle.stored_rounds.specs.OwnKnowledge.{ClosesRound, IsReadyForRound, IsRoundOfRuns, KeepsOnByRound};
 ghost use Rattle.stored_rounds.specs.RoundsInStore.{AlwaysOpenForRounds, EndsAs, KeepsOfRun, result_of_end};
 ghost use Rattle.turn_board.specs.Passes.{callers_of};
 
@@ -68,9 +68,9 @@ impl<D: Disk> StoredRounds<D> {
         ensures between { KnowsBetween FitsShard CoreShardStands ShardAnswerSays
             (P.opening caller.new) (P.number caller.new) (size.now.sessions + 1)
             (is_lost_to_disk result) (P.own caller.new) }
-        ensures kept { HoldsInRuns FitsShard CoreShardStands ShardAnswerSays
-            (P.opening caller.new) (P.number caller.new) (size.now.sessions + 1)
-            (KeepsOfRun D.view self.new) (P.own caller.new) }
+        ensures kept { KeepsOnByRound (P.opening caller.old) (P.number caller.old)
+            (size.now.sessions + 1) (P.own caller.old) D.view span self.old self.new
+            (P.own caller.new) }
         ensures ends { (kept : Kept) × EndsAs D.view (IsRoundOfRuns (P.opening caller.new)
             (P.number caller.new) (size.now.sessions + 1) (P.own caller.new))
             (result_of_end span.epoch result) kept self.old self.new }
@@ -114,9 +114,9 @@ impl<D: Disk> StoredRounds<D> {
         requires between { KnowsBetween FitsShard CoreShardStands ShardAnswerSays
             (P.opening caller.old) (P.number caller.old) (size.now.sessions + 1) false
             (P.own caller.old) }
-        requires kept { HoldsInRuns FitsShard CoreShardStands ShardAnswerSays
+        requires kept { HasKeptSince FitsShard CoreShardStands ShardAnswerSays
             (P.opening caller.old) (P.number caller.old) (size.now.sessions + 1)
-            (KeepsOfRun D.view self.old) (P.own caller.old) }
+            (KeepsOfRun D.view) self.old (P.own caller.old) }
         ensures board { P.calls_on board.now caller.new }
         ensures opening { P.opening caller.new ≡ P.opening caller.old }
         ensures number { P.number caller.new ≡ P.number caller.old }
@@ -128,9 +128,9 @@ impl<D: Disk> StoredRounds<D> {
         ensures between { KnowsBetween FitsShard CoreShardStands ShardAnswerSays
             (P.opening caller.new) (P.number caller.new) (size.now.sessions + 1)
             (loses_store result) (P.own caller.new) }
-        ensures kept { HoldsInRuns FitsShard CoreShardStands ShardAnswerSays
-            (P.opening caller.new) (P.number caller.new) (size.now.sessions + 1)
-            (KeepsOfRun D.view self.new) (P.own caller.new) }
+        ensures kept { GoesOnKeeping FitsShard CoreShardStands ShardAnswerSays
+            (P.opening caller.old) (P.number caller.old) (size.now.sessions + 1)
+            (KeepsOfRun D.view) self.old self.new (P.own caller.old) (P.own caller.new) }
         ensures ends { (kept : Kept) × EndsAs D.view (IsRoundOfRuns (P.opening caller.new)
             (P.number caller.new) (size.now.sessions + 1) (P.own caller.new)) result kept self.old
             self.new }

@@ -22,7 +22,7 @@ module _ (size : CoreSize) (callers : ℕ) (cells : OpeningCells) where
       (subst (λ n. MayServeShard size.shards size.sessions n callers cells caller) (sym number-is)
       (subst (λ n. MayServeShard size.shards size.sessions number callers cells n) caller-is may))
 
-  pub flusher_begins : {M : Type 0} (serves : M → OpeningCells → Type 0) (has_kept : M → KeptClaim) (w : FlusherWork M)
+  pub flusher_begins : {M : Type 0} (serves : M → OpeningCells → Type 0) (has_kept : M → M → KeptClaim) (w : FlusherWork M)
       (maker : M) (caller : ℕ) → w.size ≡ size → w.maker ≡ maker → size.sessions + 1 + size.shards ≡ caller
       → MayFlush serves has_kept size.shards size.sessions maker callers cells (size.sessions + 1 + size.shards)
       → flusher_may serves has_kept w callers cells caller

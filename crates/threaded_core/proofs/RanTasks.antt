@@ -48,12 +48,12 @@ abbrev pub worker_done : {G : Type 0} → WorkDone (CoreCell CoreShard) CoreCall
 worker_done before after cells caller own =
     HasServedAll caller before.number (2 + before.size.shards + before.number) [] own
 
-abbrev pub flusher_done : {M : Type 0} → (M → OpeningCells → Type 0) → (M → KeptClaim) → (M → M → Type 0)
+abbrev pub flusher_done : {M : Type 0} → (M → OpeningCells → Type 0) → (M → M → KeptClaim) → (M → M → Type 0)
     → WorkDone (CoreCell CoreShard) CoreCall CoreAnswer (FlusherWork M)
 flusher_done serves has_kept becomes before after cells caller own = HasFlushedAll serves has_kept becomes
     before.size.shards before.size.sessions before.maker after.maker after.last_round cells caller own
 
-module _ {M : Type 0} (serves : M → OpeningCells → Type 0) (has_kept : M → KeptClaim) (becomes : M → M → Type 0) where
+module _ {M : Type 0} (serves : M → OpeningCells → Type 0) (has_kept : M → M → KeptClaim) (becomes : M → M → Type 0) where
   flusher_ends : (size : CoreSize) (maker : M) (cells : OpeningCells) (began : Bool) (caller : ℕ)
       (own : List CoreEntry) (f f' : FlusherWork M) → f.size ≡ size → f.maker ≡ maker → f.last_round ≡ None
       → EndsAs (flusher_done serves has_kept becomes) cells began caller own f f'
@@ -86,7 +86,7 @@ AreRuns = (o : Opening) (callers : ℕ) (opening cells : List (CoreCell CoreShar
     cells log → IsRunTo o cells log
 
 module _ {C W M G : Type 0} {g : Ghosts C (CoreCell CoreShard) CoreCall CoreAnswer} (may : SessionMay W)
-    (done : SessionDone W) (serves : M → OpeningCells → Type 0) (has_kept : M → KeptClaim) (becomes : M → M → Type 0)
+    (done : SessionDone W) (serves : M → OpeningCells → Type 0) (has_kept : M → M → KeptClaim) (becomes : M → M → Type 0)
     (size : CoreSize) (callers : ℕ) (cells : OpeningCells) (works : List W) (maker : M) (tasks : Begun C W M G g)
     (e : AllEnded C W M G g) (all : callers ≡ size.sessions + 2 + size.shards)
     (given : MayRun may serves has_kept size.shards size.sessions cells works maker)

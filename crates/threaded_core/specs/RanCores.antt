@@ -41,7 +41,7 @@ SessionMay W = W → ℕ → OpeningCells → ℕ → Type 0
 abbrev pub SessionDone : Type 0 → Type 1
 SessionDone W = WorkDone (CoreCell CoreShard) CoreCall CoreAnswer W
 
-module _ {W M : Type 0} (may : SessionMay W) (serves : M → OpeningCells → Type 0) (has_kept : M → KeptClaim) where
+module _ {W M : Type 0} (may : SessionMay W) (serves : M → OpeningCells → Type 0) (has_kept : M → M → KeptClaim) where
   -- A core with these cells may run: each session may begin with its work, and what makes the rounds has kept what it
   -- says.
   pub record MayRun (shards sessions : ℕ) (cells : OpeningCells) (works : List W) (maker : M) : Type 0 where
@@ -49,9 +49,9 @@ module _ {W M : Type 0} (may : SessionMay W) (serves : M → OpeningCells → Ty
     pub opened : AreOpenedCells shards sessions cells
     pub as_many : length works ≡ sessions
     pub begin : (k : ℕ) (d : W) → k < sessions → may (slice_index_or works k d) (sessions + 2 + shards) cells (1 + k)
-    pub keeps : KeepsRounds serves has_kept sessions maker cells (sessions + 1 + shards) []
+    pub keeps : KeepsRounds serves has_kept sessions maker maker cells (sessions + 1 + shards) []
 
-module _ {M : Type 0} (serves : M → OpeningCells → Type 0) (has_kept : M → KeptClaim) (becomes : M → M → Type 0) where
+module _ {M : Type 0} (serves : M → OpeningCells → Type 0) (has_kept : M → M → KeptClaim) (becomes : M → M → Type 0) where
   -- By these calls the flusher served its mail and made its last round, where it began; else there are none, and no
   -- round.
   abbrev pub FlusherEnds : Bool → ℕ → ℕ → M → M → Option RoundResult → OpeningCells → ℕ → List CoreEntry → Type 0
@@ -59,7 +59,7 @@ module _ {M : Type 0} (serves : M → OpeningCells → Type 0) (has_kept : M →
       (HasFlushedAll serves has_kept becomes shards sessions before after last cells caller own)
       ((own ≡ []) × (after ≡ before) × (last ≡ None))
 
-module _ {W M : Type 0} (done : SessionDone W) (serves : M → OpeningCells → Type 0) (has_kept : M → KeptClaim)
+module _ {W M : Type 0} (done : SessionDone W) (serves : M → OpeningCells → Type 0) (has_kept : M → M → KeptClaim)
     (becomes : M → M → Type 0) (shards sessions : ℕ) (cells : OpeningCells) (works : List W) (maker : M)
     (ran : RanCore W M) where
   -- First the sessions ended, and then main closed the flusher's mail. The flusher ended, and then main had the shards

@@ -38,7 +38,7 @@ main_may w callers cells = MayClose w.size.shards w.size.sessions callers cells
 abbrev pub worker_may : {G : Type 0} → ShardWorker G → ℕ → OpeningCells → ℕ → Type 0
 worker_may w callers cells caller = MayServeShard w.size.shards w.size.sessions w.number callers cells caller
 
-abbrev pub flusher_may : {M : Type 0} → (M → OpeningCells → Type 0) → (M → KeptClaim) → FlusherWork M → ℕ
+abbrev pub flusher_may : {M : Type 0} → (M → OpeningCells → Type 0) → (M → M → KeptClaim) → FlusherWork M → ℕ
     → OpeningCells → ℕ → Type 0
 flusher_may serves has_kept w callers cells caller =
     MayFlush serves has_kept w.size.shards w.size.sessions w.maker callers cells caller

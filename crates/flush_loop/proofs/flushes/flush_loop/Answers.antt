@@ -3,7 +3,7 @@ use Rattle.mail_cell.specs.declared.answer.Taken.TheVariants.{Job, Empty, Closed
 use Rattle.flush_loop.proofs.FlushTurning.{kept-by-take, not-turned, turns-end, turns-idle, turns-on}
 use Rattle.flush_loop.proofs.ServedFlushes.{more-and-more, one-more}
 use Rattle.flush_loop.specs.FlushTurns.{LearnsOfLastRound, LearnsOfService}
-use Rattle.flush_loop.specs.MadeRounds.{HoldsInRuns}
+use Rattle.flush_loop.specs.MadeRounds.{GoesOnKeeping, HoldsInRuns}
 use Rattle.flusher_mail.specs.FlusherMail.{LearnsOfTake, take_entry}
 use Rattle.flush_loop.proofs.flushes.flush_loop.Goals as goal
 
@@ -17,7 +17,7 @@ flushes-init g c = (
       (g.P.CellCaller.number c.args.caller.now) (c.args.size.now.sessions + 1) c.args.size.now.shards (g.P.CellCaller.own c.args.caller.now),
   c.requires.free,
   c.requires.serves,
-  c.requires.kept,
+  (λ begun held. held),
   g.met.M.MakesRounds.stays c.args.maker.now,
 )
 
@@ -38,15 +38,20 @@ serve_flush-lost-requires-clause-kept g c =
     let own = g.P.CellCaller.own in
     let shards = c.args.size.now.shards in
     let client = c.args.size.now.sessions + 1 in
+    let held = c.flushes.invariant in
     let took = c.in-Job.ensures in
     let before = c.flushes.caller in
     let after = c.take_flush.new.caller in
-    let kept = g.M.MakesRounds.has_kept c.flushes.maker in
-    coe 1 0 (i. HoldsInRuns F T A (took.opening i) (took.number i) client kept (own after))
-    (kept-by-take F T A (g.P.CellCaller.opening before) (g.P.CellCaller.number before) client shards (Job c.in-Job.client c.in-Job.job) (own before)
-    (own after) kept
-    (one-more (own before) (own after) (take_entry (g.P.CellCaller.number before) (2 + shards + shards) (Job c.in-Job.client c.in-Job.job)) took.own)
-    took.learns c.flushes.invariant.7)
+    let some = c.requires.kept in
+    let kept = g.M.MakesRounds.has_kept some.0 c.flushes.maker in (
+      some.0,
+      coe 1 0 (i. HoldsInRuns F T A ((took.opening ∙ held.1) i) ((took.number ∙ held.2) i) client kept (own after))
+          (kept-by-take F T A (g.P.CellCaller.opening c.args.caller.now) (g.P.CellCaller.number c.args.caller.now) client shards (Job c.in-Job.client c.in-Job.job) (own before)
+          (own after) kept
+          (one-more (own before) (own after) (take_entry (g.P.CellCaller.number before) (2 + shards + shards) (Job c.in-Job.client c.in-Job.job)) took.own)
+          (coe 0 1 (i. LearnsOfTake F T A (held.1 i) (held.2 i) shards (Job c.in-Job.client c.in-Job.job) (own before) (own after)) took.learns)
+          (held.7 some.0 some.1)),
+    )
 
 pub flushes-preserved-in-Job : goal.flushes-preserved-in-Job
 flushes-preserved-in-Job g c =
@@ -76,7 +81,13 @@ flushes-preserved-in-Job g c =
           c.serve_flush-lost.result (own mid) (own after)) did.learns),
       did.free,
       did.serves,
-      did.kept,
+      λ begun was. coe 0 1
+          (i. GoesOnKeeping F T A ((took.opening ∙ held.1) i) ((took.number ∙ held.2) i) client g.M.MakesRounds.has_kept c.flushes.maker
+          c.serve_flush-lost.new.maker (own mid) (own after)) did.kept begun
+          (kept-by-take F T A (g.P.CellCaller.opening c.args.caller.now) (g.P.CellCaller.number c.args.caller.now) client shards job (own before)
+          (own mid) (g.M.MakesRounds.has_kept begun c.flushes.maker)
+          (one-more (own before) (own mid) (take_entry (g.P.CellCaller.number before) (2 + shards + shards) job) took.own)
+          (coe 0 1 (i. LearnsOfTake F T A (held.1 i) (held.2 i) shards job (own before) (own mid)) took.learns) (held.7 begun was)),
       g.met.M.MakesRounds.goes_on c.args.maker.now c.flushes.maker c.serve_flush-lost.new.maker held.8 did.becomes,
     )
 
@@ -92,7 +103,6 @@ flushes-preserved g c =
     let took = c.in-Empty.ensures in
     let before = c.flushes.caller in
     let after = c.take_flush.new.caller in
-    let kept = g.M.MakesRounds.has_kept c.flushes.maker in
     let more = one-more (own before) (own after) (take_entry (g.P.CellCaller.number before) (2 + shards + shards) Empty) took.own in (
       took.board,
       took.opening ∙ held.1,
@@ -103,9 +113,9 @@ flushes-preserved g c =
           (coe 0 1 (i. LearnsOfTake F T A (held.1 i) (held.2 i) shards Empty (own before) (own after)) took.learns),
       took.after c.flushes.lost held.5,
       subst (λ cells. g.M.MakesRounds.serves c.flushes.maker cells) (sym took.opening) held.6,
-      coe 1 0 (i. HoldsInRuns F T A (took.opening i) (took.number i) client kept (own after))
-          (kept-by-take F T A (g.P.CellCaller.opening before) (g.P.CellCaller.number before) client shards Empty (own before) (own after) kept more
-          took.learns held.7),
+      λ begun was. kept-by-take F T A (g.P.CellCaller.opening c.args.caller.now) (g.P.CellCaller.number c.args.caller.now) client shards Empty
+          (own before) (own after) (g.M.MakesRounds.has_kept begun c.flushes.maker) more
+          (coe 0 1 (i. LearnsOfTake F T A (held.1 i) (held.2 i) shards Empty (own before) (own after)) took.learns) (held.7 begun was),
       held.8,
     )
 
@@ -149,15 +159,43 @@ make_last_round-requires-clause-kept g c =
     let own = g.P.CellCaller.own in
     let shards = c.args.size.now.shards in
     let client = c.args.size.now.sessions + 1 in
+    let held = c.flushes.invariant in
     let took = c.in-Closed.ensures in
     let before = c.flushes.caller in
     let after = c.take_flush.new.caller in
-    let kept = g.M.MakesRounds.has_kept c.flushes.maker in
-    coe 1 0 (i. HoldsInRuns F T A (took.opening i) (took.number i) client kept (own after))
-    (kept-by-take F T A (g.P.CellCaller.opening before) (g.P.CellCaller.number before) client shards Closed (own before) (own after) kept
-    (one-more (own before) (own after) (take_entry (g.P.CellCaller.number before) (2 + shards + shards) Closed) took.own) took.learns
-    c.flushes.invariant.7)
+    let some = c.requires.kept in
+    let kept = g.M.MakesRounds.has_kept some.0 c.flushes.maker in (
+      some.0,
+      coe 1 0 (i. HoldsInRuns F T A ((took.opening ∙ held.1) i) ((took.number ∙ held.2) i) client kept (own after))
+          (kept-by-take F T A (g.P.CellCaller.opening c.args.caller.now) (g.P.CellCaller.number c.args.caller.now) client shards Closed (own before)
+          (own after) kept
+          (one-more (own before) (own after) (take_entry (g.P.CellCaller.number before) (2 + shards + shards) Closed) took.own)
+          (coe 0 1 (i. LearnsOfTake F T A (held.1 i) (held.2 i) shards Closed (own before) (own after)) took.learns)
+          (held.7 some.0 some.1)),
+    )
 
 pub returns-in-Closed-clause-becomes : goal.returns-in-Closed-clause-becomes
 returns-in-Closed-clause-becomes g c =
     g.met.M.MakesRounds.goes_on c.args.maker.now c.flushes.maker c.make_last_round.new.maker c.flushes.invariant.8 c.make_last_round.ensures.becomes
+
+pub returns-in-Closed-clause-kept : goal.returns-in-Closed-clause-kept
+returns-in-Closed-clause-kept g c =
+    let F = g.S.LinkedShard.fits in
+    let T = g.S.LinkedShard.stands in
+    let A = g.S.LinkedShard.says in
+    let own = g.P.CellCaller.own in
+    let shards = c.args.size.now.shards in
+    let client = c.args.size.now.sessions + 1 in
+    let held = c.flushes.invariant in
+    let took = c.in-Closed.ensures in
+    let last = c.make_last_round.ensures in
+    let before = c.flushes.caller in
+    let mid = c.take_flush.new.caller in
+    let after = c.make_last_round.new.caller in
+    λ begun was. coe 0 1
+    (i. GoesOnKeeping F T A ((took.opening ∙ held.1) i) ((took.number ∙ held.2) i) client g.M.MakesRounds.has_kept c.flushes.maker
+    c.make_last_round.new.maker (own mid) (own after)) last.kept begun
+    (kept-by-take F T A (g.P.CellCaller.opening c.args.caller.now) (g.P.CellCaller.number c.args.caller.now) client shards Closed (own before) (own mid)
+    (g.M.MakesRounds.has_kept begun c.flushes.maker)
+    (one-more (own before) (own mid) (take_entry (g.P.CellCaller.number before) (2 + shards + shards) Closed) took.own)
+    (coe 0 1 (i. LearnsOfTake F T A (held.1 i) (held.2 i) shards Closed (own before) (own mid)) took.learns) (held.7 begun was))

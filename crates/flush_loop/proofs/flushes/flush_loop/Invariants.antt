@@ -1,7 +1,7 @@
 use Rattle.std.proofs.Common.{◌≡◌, ◌+◌}
 use Rattle.core_program.specs.Flushing.{KnowsPart}
 use Rattle.flush_loop.proofs.FlushTurning.{HasTurned}
-use Rattle.flush_loop.specs.MadeRounds.{HoldsInRuns}
+use Rattle.flush_loop.specs.MadeRounds.{GoesOnKeeping}
 use Rattle.flusher_mail.specs.FlusherMail.{HasNoFlush}
 use Rattle.flush_loop.proofs.flushes.flush_loop.Given as goal
 
@@ -16,6 +16,7 @@ invariant-flushes g l =
     × KnowsPart g.S.LinkedShard.fits g.S.LinkedShard.stands g.S.LinkedShard.says (g.P.CellCaller.opening l.caller) (g.P.CellCaller.number l.caller)
     (g.P.CellCaller.own l.caller) (HasNoFlush l.lost)
     × g.M.MakesRounds.serves l.maker (g.P.CellCaller.opening l.caller)
-    × HoldsInRuns g.S.LinkedShard.fits g.S.LinkedShard.stands g.S.LinkedShard.says (g.P.CellCaller.opening l.caller) (g.P.CellCaller.number l.caller)
-    (l.size.sessions + 1) (g.M.MakesRounds.has_kept l.maker) (g.P.CellCaller.own l.caller)
+    × GoesOnKeeping g.S.LinkedShard.fits g.S.LinkedShard.stands g.S.LinkedShard.says (g.P.CellCaller.opening l.fn.caller)
+    (g.P.CellCaller.number l.fn.caller) (l.size.sessions + 1) g.M.MakesRounds.has_kept l.fn.maker l.maker (g.P.CellCaller.own l.fn.caller)
+    (g.P.CellCaller.own l.caller)
     × g.M.MakesRounds.becomes l.fn.maker l.maker

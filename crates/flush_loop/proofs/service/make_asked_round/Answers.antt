@@ -5,7 +5,7 @@ use Rattle.core_program.specs.Flushing.{KnowsPart, MayReplyTo}
 use Rattle.cube_core.specs.declared.jobs.JobAnswer.TheVariants as reply
 use Rattle.flush_loop.proofs.ServedFlushes.{after-own-round, between-known, kept-by-reply, may-say, more-and-more, one-more, served-by-round}
 use Rattle.flush_loop.specs.FlushTurns.{LearnsOfService}
-use Rattle.flush_loop.specs.MadeRounds.{HoldsInRuns, KnowsBetween}
+use Rattle.flush_loop.specs.MadeRounds.{KnowsBetween}
 use Rattle.flush_loop.specs.RoundResults.{loses_store}
 use Rattle.flusher_mail.specs.FlusherMail.{HasFlush, HasNoFlush, LearnsOfReply, reply_entry}
 use Rattle.flush_loop.proofs.service.make_asked_round.Goals as goal
@@ -90,14 +90,15 @@ returns-clause-kept g c =
     let T = g.S.LinkedShard.stands in
     let A = g.S.LinkedShard.says in
     let own = g.P.CellCaller.own in
+    let first = c.args.caller.now in
     let mid = c.make_round-ended.new.caller in
     let now = c.reply_flush.new.caller in
     let shards = c.args.size.now.shards in
     let client = c.args.size.now.sessions + 1 in
+    let made = c.make_round-ended.ensures in
     let did = c.reply_flush.ensures in
-    let kept = g.M.MakesRounds.has_kept c.make_round-ended.new.self in
-    coe 1 0 (i. HoldsInRuns F T A (did.opening i) (did.number i) client kept (own now))
-    (kept-by-reply F T A (g.P.CellCaller.opening mid) (g.P.CellCaller.number mid) client shards c.args.to c.answer_to_flush.result (own mid) (own now)
-    kept
+    λ begun held. kept-by-reply F T A (g.P.CellCaller.opening first) (g.P.CellCaller.number first) client shards c.args.to c.answer_to_flush.result
+    (own mid) (own now) (g.M.MakesRounds.has_kept begun c.make_round-ended.new.self)
     (one-more (own mid) (own now) (reply_entry (g.P.CellCaller.number mid) (2 + shards + shards) c.args.to c.answer_to_flush.result) did.own)
-    did.learns c.make_round-ended.ensures.kept)
+    (coe 0 1 (i. LearnsOfReply F T A (made.opening i) (made.number i) shards c.args.to c.answer_to_flush.result (own mid) (own now)) did.learns)
+    (made.kept begun held)

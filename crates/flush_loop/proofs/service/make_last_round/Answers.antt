@@ -53,3 +53,6 @@ returns-clause-free g c =
     (after-own-round F T A cells number client c.args.size.now.shards c.requires.flusher result own now made.more made.learns
     (coe 0 1 (i. KnowsBetween F T A (made.opening i) (made.number i) client (loses_store result) now) made.between) Free
     (subst (λ (b : Bool). KnowsPart F T A cells number own (HasNoFlush b)) c.if-lost.false c.requires.free))
+
+pub returns-then-lost-clause-kept : goal.returns-then-lost-clause-kept
+returns-then-lost-clause-kept g c = λ begun held. held

@@ -2,7 +2,6 @@ use Rattle.std.proofs.Common.{◌+◌, Bool, true, sym, subst}
 use Rattle.core_program.specs.Flushing.{KnowsPart}
 use Rattle.flush_loop.proofs.ServedFlushes.{kept-by-refusal}
 use Rattle.flush_loop.specs.FlushTurns.{LearnsOfService}
-use Rattle.flush_loop.specs.MadeRounds.{HoldsInRuns}
 use Rattle.flusher_mail.specs.FlusherMail.{HasFlush}
 use Rattle.flush_loop.proofs.service.serve_flush.Goals as goal
 
@@ -31,9 +30,8 @@ returns-then-lost-clause-kept g c =
     let own = g.P.CellCaller.own c.args.caller.now in
     let now = g.P.CellCaller.own c.refuse_flush.new.caller in
     let did = c.refuse_flush.ensures in
-    let kept = g.M.MakesRounds.has_kept c.args.maker.now in
-    coe 1 0 (i. HoldsInRuns F T A (did.opening i) (did.number i) client kept now)
-    (kept-by-refusal F T A cells number client c.args.size.now.shards c.args.to own now kept did.more did.learns c.requires.kept)
+    λ begun held. kept-by-refusal F T A cells number client c.args.size.now.shards c.args.to own now
+    (g.M.MakesRounds.has_kept begun c.args.maker.now) did.more did.learns held
 
 pub make_asked_round-requires-clause-taken : goal.make_asked_round-requires-clause-taken
 make_asked_round-requires-clause-taken g c =

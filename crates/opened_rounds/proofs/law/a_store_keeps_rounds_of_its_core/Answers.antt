@@ -1,4 +1,4 @@
-use Rattle.std.proofs.Common.{◌+◌, List, subst}
+use Rattle.std.proofs.Common.{◌+◌, List, [], refl, subst, arith}
 use Rattle.core_events.specs.Clients.{calls_of}
 use Rattle.core_events.specs.Events.{CoreEvent}
 use Rattle.stored_rounds.specs.RoundsInStore.{KeepsOfRun}
@@ -11,11 +11,13 @@ returns g c = λ kept shards sessions caller cells maker by over stands. record 
   kept = record {
     kept = kept;
     in_runs = λ o log run es later are.
-        subst (λ (l : List CoreEvent). KeepsOfRun g.D.Disk.view maker kept o run (calls_of (sessions + 1) l)) are
+        subst (λ (l : List CoreEvent). KeepsOfRun g.D.Disk.view maker maker kept o run (calls_of (sessions + 1) l)) are
         (record {
+          rounds = record { starts = []; are = refl };
           in_run = c.what_is_kept_is_there_in_each_run.ensures kept shards sessions cells by over o log run later.opens
               later.is_run;
           stands = stands;
+          counts = record { first_count = omega arith; second_count = omega arith };
         });
   };
 }

@@ -40,7 +40,8 @@ flush_loop-requires-clause-mails g c =
     (omega arith))
 
 pub flush_loop-requires-clause-kept : goal.flush_loop-requires-clause-kept
-flush_loop-requires-clause-kept g c = record { kept = c.requires.begins.core.kept; in_runs = λ o log run es later are. tt }
+flush_loop-requires-clause-kept g c =
+    (record {}, record { kept = c.requires.begins.core.kept; in_runs = λ o log run es later are. tt })
 
 pub flush_loop-requires-clause-free : goal.flush_loop-requires-clause-free
 flush_loop-requires-clause-free g c =

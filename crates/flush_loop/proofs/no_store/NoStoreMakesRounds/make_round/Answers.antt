@@ -32,7 +32,7 @@ returns-in-Some-clause-learns g c =
     (closed.own ∙ (λ i. mid ++ closing_entries (opened.number i) (Some asked))))
 
 pub returns-in-None-clause-kept : goal.returns-in-None-clause-kept
-returns-in-None-clause-kept g c = record { kept = c.requires.kept.kept; in_runs = λ o log run es later are. tt }
+returns-in-None-clause-kept g c = λ begun held. record { kept = held.kept; in_runs = λ o log run es later are. tt }
 
 pub returns-in-Some-clause-kept : goal.returns-in-Some-clause-kept
-returns-in-Some-clause-kept g c = record { kept = c.requires.kept.kept; in_runs = λ o log run es later are. tt }
+returns-in-Some-clause-kept g c = λ begun held. record { kept = held.kept; in_runs = λ o log run es later are. tt }

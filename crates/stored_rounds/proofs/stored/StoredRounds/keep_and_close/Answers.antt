@@ -4,7 +4,7 @@ use Rattle.core_cells.specs.declared.desk.DeskAnswer.TheVariants as answer
 use Rattle.core_cells.specs.declared.desk.DeskCall.TheVariants as call
 use Rattle.core_events.specs.Clients.{calls_of, is_lost_to_disk, state_from_calls}
 use Rattle.core_program.specs.Flushing.{IsFlusherOf}
-use Rattle.flush_loop.specs.MadeRounds.{HoldsInRuns, KnowsBetween}
+use Rattle.flush_loop.specs.MadeRounds.{KnowsBetween}
 use Rattle.flush_round.proofs.StoreFollows.{told-before}
 use Rattle.flush_round.specs.KeptRounds.{HoldsAfterEnd}
 use Rattle.linked_shards.specs.CellShards.{CoreShardStands}
@@ -12,7 +12,7 @@ use Rattle.round_copies.specs.WithinRounds.{StaysWithinRound}
 use Rattle.shard_events.specs.ShardsInRuns.{FitsShard, ShardAnswerSays}
 use Rattle.stored_rounds.proofs.ClosedRounds.{ends-so, holds-so}
 use Rattle.stored_rounds.specs.OwnKnowledge.{IsRoundOfRuns}
-use Rattle.stored_rounds.specs.RoundsInStore.{EndsAs, KeepsOfRun, result_of_end}
+use Rattle.stored_rounds.specs.RoundsInStore.{EndsAs, result_of_end}
 use Rattle.stored_rounds.specs.declared.stored.StoredRounds.{StoredRounds}
 use Rattle.stored_rounds.proofs.stored.StoredRounds.keep_and_close.Goals as goal
 
@@ -74,23 +74,20 @@ returns-clause-kept g c =
       first = c.keep_round-how.new.disk;
       second = c.keep_round-how.new.other;
     } in
-    let kept = c.requires.ready.0 in
-    coe 1 0
-    (i. HoldsInRuns FitsShard CoreShardStands ShardAnswerSays ((closed.opening ∙ did.opening) i) ((closed.number ∙ did.number) i) client
-    (KeepsOfRun view new) (own now))
-    (holds-so (cells first) (number first) client c.args.size.now.shards c.requires.flusher view c.args.span kept m new (own first)
-    (own mid) c.requires.ready.1 did.more
+    λ begun kept ready rounds counts. holds-so (cells first) (number first) client c.args.size.now.shards c.requires.flusher view c.args.span kept m new
+    (own first) (own mid) ready did.more
     (coe 0 1 (i. StaysWithinRound (did.opening i) (did.number i) client (own first) (own mid)) did.within)
-    did.first_still did.second_still how (own now)
+    did.first_still did.second_still begun rounds counts
+    (record { first_count = did.first_count; second_count = did.second_count }) how (own now)
     (coe 0 1
     (i. own now ≡ own mid ++ desk_entry (did.number i) (call.RoundClose c.args.span.epoch how) answer.Done ∷ []) closed.own)
     (coe 0 1
     (i. HoldsAfterEnd (did.opening i) (did.number i) client (own first) (own mid) m.store new.store kept c.args.span (view m.first) (view m.second)
-    (view new.first) (view new.second) how) (did.kept kept c.requires.ready.1.takes))
-    (λ lost. let same = did.memory lost in λ i. record m { store = same.0 i; first = same.1 i; second = same.2 i })
+    (view new.first) (view new.second) how) (did.kept kept ready.takes))
+    (λ lost. let same = did.memory lost in λ i. record m { store = same.0 i; first = same.1 i; second = same.2 i }) did.failed
     (coe 0 1
     (i. KnowsBetween FitsShard CoreShardStands ShardAnswerSays ((closed.opening ∙ did.opening) i) ((closed.number ∙ did.number) i) client
-    (is_lost_to_disk how) (own now)) closed.between))
+    (is_lost_to_disk how) (own now)) closed.between)
 
 pub returns-clause-ends : goal.returns-clause-ends
 returns-clause-ends g c =
