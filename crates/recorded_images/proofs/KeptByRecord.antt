@@ -41,7 +41,7 @@ use Rattle.recorded_images.proofs.KeptImages.{HoldsOfKept, StandForLost, images-
 abbrev pub LawsOfStores : Type 0
 LawsOfStores = (kept : Kept) (one two : List ℕ) → Stands sha256 kept one two → KeptLaws kept
 
-lse-of-record : (o : Opening) (given : RunScripts) (run : List CoreEvent)
+pub lse-of-record : (o : Opening) (given : RunScripts) (run : List CoreEvent)
     → (counters_of_run o run).lse ≡ lse_on_record (record_of o given run)
 lse-of-record o given run = ap (λ (safe : ℕ). (journal_state safe (journal_of o run)).lse) (run-safe o run)
 

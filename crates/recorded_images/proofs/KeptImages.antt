@@ -28,7 +28,7 @@ current-of s kept current other files = record {
   behind = files.stands.behind;
 }
 
-files-stand : (s : StoreState) (kept : Kept) (second : Bool) (f g : List ℕ)
+pub files-stand : (s : StoreState) (kept : Kept) (second : Bool) (f g : List ℕ)
     → AreFilesOf s kept (file_of second f g) (file_of second g f) → Stands sha256 kept f g
 files-stand s kept true f g files = inr (current-of s kept g f files)
 files-stand s kept false f g files = inl (current-of s kept f g files)

@@ -1,3 +1,5 @@
 pub mod FailedStores
 pub mod KeptImages
 pub mod KeptByRecord
+pub mod ToldDisks
+pub mod KeptThroughout

@@ -1,1 +1,2 @@
 pub mod RecordedImages
+pub mod AtEveryMoment

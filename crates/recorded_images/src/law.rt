@@ -9,6 +9,7 @@ ghost use Rattle.core_events.specs.Runs.{IsCoreRun};
 ghost use Rattle.core_records.specs.CoreRecords.{RunScripts, record_of};
 ghost use Rattle.core_serial.specs.Journals.{journal_of};
 ghost use Rattle.cube_rounds.specs.Stands.{Kept};
+ghost use Rattle.recorded_images.specs.AtEveryMoment.{KeepWhereTold};
 ghost use Rattle.recorded_images.specs.RecordedImages.{HoldsOfImages, StandForEvents, StandForRecord, has_lost_store, lse_on_record};
 ghost use Rattle.stored_rounds.specs.RoundsInStore.{HasLostRound, KeepsOfRun};
 ghost use Rattle.stored_rounds.specs.declared.stored.StoredRounds.{StoredRounds};
@@ -22,14 +23,14 @@ use stored_rounds::two_images_stand_for_either;
 /// kept up to the epoch of that round, where the disks told their files before it.
 pub fn images_of_a_store_stand_for_the_record<D: Disk>()
     ensures kept { (o : Opening) (given : RunScripts) (run : List CoreEvent) (kept : Kept)
-        (calls : List ClientCall) (m : StoredRounds D) → IsScriptedRun o given run
-        → KeepsOfRun D.view m kept o run calls → calls ≡ calls_of (flusher o) run
+        (calls : List ClientCall) (begun m : StoredRounds D) → IsScriptedRun o given run
+        → KeepsOfRun D.view begun m kept o run calls → calls ≡ calls_of (flusher o) run
         → has_lost_store (record_of o given run).journal ≡ false
         → HoldsOfImages (D.view m.first) (D.view m.second) (D.view m.first) (D.view m.second)
         (StandForRecord (record_of o given run) (lse_on_record (record_of o given run))) }
     ensures lost { (o : Opening) (given : RunScripts) (run : List CoreEvent) (kept : Kept)
-        (calls : List ClientCall) (m : StoredRounds D) → IsScriptedRun o given run
-        → KeepsOfRun D.view m kept o run calls → calls ≡ calls_of (flusher o) run
+        (calls : List ClientCall) (begun m : StoredRounds D) → IsScriptedRun o given run
+        → KeepsOfRun D.view begun m kept o run calls → calls ≡ calls_of (flusher o) run
         → has_lost_store (record_of o given run).journal ≡ true
         → (lost : HasLostRound D.view m kept o run)
         × HoldsOfImages (D.view lost.before.first) (D.view lost.before.second) (D.view m.first)
@@ -46,19 +47,50 @@ pub fn images_of_a_store_stand_for_the_record<D: Disk>()
 /// its events.
 pub fn images_of_a_store_stand_for_the_events<D: Disk>()
     ensures kept { (o : Opening) (run : List CoreEvent) (kept : Kept) (calls : List ClientCall)
-        (m : StoredRounds D) → IsCoreRun o run → KeepsOfRun D.view m kept o run calls
+        (begun m : StoredRounds D) → IsCoreRun o run → KeepsOfRun D.view begun m kept o run calls
         → calls ≡ calls_of (flusher o) run
         → has_lost_store (journal_of o run) ≡ false
         → HoldsOfImages (D.view m.first) (D.view m.second) (D.view m.first) (D.view m.second)
         (StandForEvents o run (counters_of_run o run).lse) }
     ensures lost { (o : Opening) (run : List CoreEvent) (kept : Kept) (calls : List ClientCall)
-        (m : StoredRounds D) → IsCoreRun o run → KeepsOfRun D.view m kept o run calls
+        (begun m : StoredRounds D) → IsCoreRun o run → KeepsOfRun D.view begun m kept o run calls
         → calls ≡ calls_of (flusher o) run
         → has_lost_store (journal_of o run) ≡ true
         → (lost : HasLostRound D.view m kept o run)
         × HoldsOfImages (D.view lost.before.first) (D.view lost.before.second) (D.view m.first)
         (D.view m.second) (λ one two. StandForEvents o run (counters_of_run o run).lse one two
         ⊎ StandForEvents o run lost.round.epoch one two) }
+{
+    two_images_stand_for_either::<D>();
+}
+
+/// At every moment of a run whose sessions follow their scripts the disks keep it, where they told their files
+/// when it began. Where a round is opened any two images stand for what is kept of the run on record up to
+/// the epoch before the round; a crash at any moment of it leaves images for that, or for what is kept up to
+/// the epoch of the round. So it is in the end, by LSE.
+pub fn a_store_keeps_the_record_at_every_moment<D: Disk>()
+    ensures { (o : Opening) (given : RunScripts) (run : List CoreEvent) (kept : Kept)
+        (calls : List ClientCall) (begun m : StoredRounds D) → IsScriptedRun o given run
+        → KeepsOfRun D.view begun m kept o run calls → calls ≡ calls_of (flusher o) run
+        → KeepWhereTold D.view (StandForRecord (record_of o given run))
+        (record { first = begun.first; second = begun.second })
+        (record { first = m.first; second = m.second })
+        (lse_on_record (record_of o given run)) (has_lost_store (record_of o given run).journal) }
+{
+    kept_data_are_sound();
+    kept_rounds_lie_in_their_cubes();
+    two_images_stand_for_either::<D>();
+}
+
+/// The same of every run of the core, by its events.
+pub fn a_store_keeps_the_events_at_every_moment<D: Disk>()
+    ensures { (o : Opening) (run : List CoreEvent) (kept : Kept) (calls : List ClientCall)
+        (begun m : StoredRounds D) → IsCoreRun o run → KeepsOfRun D.view begun m kept o run calls
+        → calls ≡ calls_of (flusher o) run
+        → KeepWhereTold D.view (StandForEvents o run)
+        (record { first = begun.first; second = begun.second })
+        (record { first = m.first; second = m.second })
+        (counters_of_run o run).lse (has_lost_store (journal_of o run)) }
 {
     two_images_stand_for_either::<D>();
 }

@@ -3,7 +3,7 @@ use Rattle.recorded_images.proofs.KeptByRecord.{LawsOfStores, kept-of-record, lo
 use Rattle.recorded_images.proofs.law.images_of_a_store_stand_for_the_record.Goals as goal
 
 pub returns-clause-kept : goal.returns-clause-kept
-returns-clause-kept g c = λ o given run kept calls m r keeps all there.
+returns-clause-kept g c = λ o given run kept calls begun m r keeps all there.
     let lie = c.kept_rounds_lie_in_their_cubes.ensures in
     let laws : LawsOfStores = λ k one two stand.
     let by = c.kept_data_are_sound.ensures.either sha256 k one two stand in
@@ -18,7 +18,7 @@ returns-clause-kept g c = λ o given run kept calls m r keeps all there.
     kept-of-record o given run r laws g.D.Disk.view m kept calls keeps.in_run keeps.stands all there
 
 pub returns-clause-lost : goal.returns-clause-lost
-returns-clause-lost g c = λ o given run kept calls m r keeps all gone.
+returns-clause-lost g c = λ o given run kept calls begun m r keeps all gone.
     let lie = c.kept_rounds_lie_in_their_cubes.ensures in
     let laws : LawsOfStores = λ k one two stand.
     let by = c.kept_data_are_sound.ensures.either sha256 k one two stand in
