@@ -6,3 +6,8 @@ pub mod UnreadRuns
 pub mod AskedShards
 pub mod GeneratedRuns
 pub mod JoinedTexts
+pub mod KeptEnds
+pub mod ServedStores
+pub mod ServedRuns
+pub mod RoundFaults
+pub mod EarlierDisks

@@ -1,8 +1,11 @@
 pub mod Statuses
 pub mod Written
 pub mod Unplayed
+pub mod KeptRuns
 pub mod PlayedEnds
+pub mod LostRounds
 pub mod OpenedEnds
 pub mod RunEnds
+pub mod ServedRuns
 pub mod WordsEnds
 pub mod Generated

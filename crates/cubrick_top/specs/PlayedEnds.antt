@@ -8,13 +8,13 @@ use Rattle.cube_journal.specs.declared.journal_entry.JournalEntry.TheVariants.{R
 use Rattle.cube_journal.specs.declared.journal_entry.LostCause.TheVariants.{Disk}
 use Rattle.cube_journal.specs.declared.reply.Reply.{Reply}
 use Rattle.cube_rounds.specs.Stands.{Kept}
-use Rattle.cube_run.specs.RunRecords.{Sentence}
+use Rattle.cube_run.specs.RunRecords.{RunRecord, Sentence}
 use Rattle.flush_loop.specs.declared.round_result.RoundResult.{RoundResult}
 use Rattle.opened_core.specs.KeptShards.{IsTooFull, TakeAllKept}
 use Rattle.opened_store.specs.declared.fault.StoreFault.TheVariants.{DiskFault, ShardFull}
 use Rattle.outside.specs.Counts.{Rose}
 use Rattle.outside.specs.Output.{Gained, GainedPrefix}
-use Rattle.played_runs.specs.RunsOnRecord.{IsRunOver, LeavesLegal, has_saved}
+use Rattle.played_runs.specs.RunsOnRecord.{IsRunOver, LeavesLegal, has_saved, run_over}
 use Rattle.played_runs.specs.Shelves.{ShelvesGoOn}
 use Rattle.cubrick_top.specs.declared.fault.Fault.{Fault}
 use Rattle.cubrick_top.specs.declared.fault.Fault.TheVariants.{Store, OutputFault, NoMemory}
@@ -66,10 +66,12 @@ abbrev pub OutputRises : Option Fault → ℕ → ℕ → Type 0
 OutputRises (Some OutputFault) before now = Rose before now
 OutputRises fault before now = now ≡ before
 
-module _ {H : Type 0} (told : H → Option (List (List ℕ × List ℕ))) (fault_count absence_count : H → ℕ) where
+-- What is known of how a run was kept: of its record, and of a run that left a journal where there is no record.
+module _ {H : Type 0} (told : H → Option (List (List ℕ × List ℕ))) (fault_count absence_count : H → ℕ)
+    (HoldsOfRecord : RunRecord → Type 0) (HoldsOfRun : List JournalEntry → Type 0) where
   -- The scripts were played over what is kept, of which no shard has too much, each with its replies, and this is the
   -- text of the run. There are as many shards as were asked for. Where the last round saved all, the run ended with all
-  -- safe.
+  -- safe. So the run was kept.
   pub record HasText (saved : Bool) (kept : Kept) (shards every : ℕ) (scripts : List (List Sentence))
       (before after : List H) (finish : Finish) (text : List ℕ) : Type 0 where
     pub takes : TakeAllKept kept shards
@@ -77,6 +79,7 @@ module _ {H : Type 0} (told : H → Option (List (List ℕ × List ℕ))) (fault
     pub replies : List (List Reply)
     pub run : IsRunOver kept every (map told before) scripts replies finish.names finish.journal.items saved
         finish.shards.items
+    pub run_kept : HoldsOfRecord (run_over kept scripts run.file every run.names finish.journal.items)
     pub shelves : ShelvesGoOn told fault_count absence_count (length scripts) true replies before after
     pub text_is : text ≡ whole_text kept.epoch replies finish.journal.items
 
@@ -97,7 +100,7 @@ module _ {H : Type 0} (told : H → Option (List (List ℕ × List ℕ))) (fault
       (text : List ℕ) × HasText false kept shards every scripts before after finish text × GainedPrefix taken text now
   PlayedEnds stored kept shards every scripts before after finish taken now (Some NoMemory) =
       (Gained taken [] now × ((LeavesNothing finish × UsesNoShelf fault_count absence_count before after)
-      ⊎ LeavesLegal kept finish.journal.items))
+      ⊎ (LeavesLegal kept finish.journal.items × HoldsOfRun finish.journal.items)))
       ⊎ ((text : List ℕ) × HasText false kept shards every scripts before after finish text × Gained taken text now
       × (stored ≡ true → is_lost finish.journal.items ≡ false))
   PlayedEnds stored kept shards every scripts before after finish taken now (Some fault) = ⊥

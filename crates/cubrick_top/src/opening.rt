@@ -7,7 +7,9 @@ ghost use Rattle.kept_data.specs.KeptFiles.{IsKeptByFile};
 ghost use Rattle.outside_disk.specs.Views.{IsSynced};
 ghost use Rattle.played_runs.specs.ReadySessions.{sentences_of};
 ghost use Rattle.round_store.specs.States.{IsAt};
-ghost use Rattle.cubrick_top.specs.OpenedEnds.{EndsInStore, OpenedEnds};
+ghost use Rattle.cubrick_top.specs.KeptRuns.{KeepRecord, KeepRun};
+ghost use Rattle.cubrick_top.specs.LostRounds.{LosesByFault};
+ghost use Rattle.cubrick_top.specs.OpenedEnds.{EndsInStore, OpenedEnds, disks_in};
 ghost use Rattle.cubrick_top.specs.PlayedEnds.{OutputRises, PlayedEnds};
 ghost use Rattle.cubrick_top.specs.Statuses.{status_of};
 ghost use Rattle.cubrick_top.specs.Unplayed.{fault_of_store};
@@ -21,6 +23,9 @@ use opened_rounds::{a_core_without_a_store_keeps_no_rounds, a_store_keeps_rounds
 use opened_store::{OpenedStore, StoreFault, kept_at_start, take_store};
 use outside::{Shelf, Sink};
 use outside_disk::{Disk, Gate};
+use recorded_images::{
+    a_store_keeps_the_events_at_every_moment, a_store_keeps_the_record_at_every_moment,
+};
 use run_inputs::RunInput;
 use run_words::{Settings, StoreName};
 use script_sentences::Said;
@@ -149,12 +154,21 @@ fn run_over_store<
         (K.fault_count sink.old) (K.fault_count sink.new) }
     ensures same { map H.told result.outside.shelves.items ≡ map H.told outside.shelves.items }
     ensures rounds { EndsInStore D.view opened.kept outside result.outside }
-    ensures ends { PlayedEnds H.told H.fault_count H.absence_count true opened.kept
-        settings.shards (unwrap_or settings.round_every 0) (map sentences_of scripts.items)
+    ensures lost { LosesByFault D.view (disks_in outside) (disks_in result.outside)
+        result.finish.journal.items }
+    ensures ends { PlayedEnds H.told H.fault_count H.absence_count
+        (λ run. KeepRecord D.view (disks_in outside) (disks_in outside)
+        (disks_in result.outside) run)
+        (λ journal. KeepRun D.view (disks_in outside) (disks_in outside)
+        (disks_in result.outside) opened.kept settings.shards
+        (length (map sentences_of scripts.items)) journal)
+        true opened.kept settings.shards (unwrap_or settings.round_every 0) (map sentences_of scripts.items)
         outside.shelves.items result.outside.shelves.items result.finish
         (K.taken sink.old) (K.taken sink.new) result.finish.fault }
 {
     a_store_keeps_rounds_of_its_core::<D>();
+    a_store_keeps_the_record_at_every_moment::<D>();
+    a_store_keeps_the_events_at_every_moment::<D>();
     let Outside {
         shelves,
         disk,

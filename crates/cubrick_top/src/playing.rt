@@ -12,6 +12,7 @@ ghost use Rattle.linked_shards.specs.declared.cell.CoreShard.{CoreShard};
 ghost use Rattle.opened_core.specs.Openings.{AreCellsOver};
 ghost use Rattle.run_threads.specs.CoreWorks.{KeepsRounds};
 ghost use Rattle.played_runs.specs.ReadySessions.{said_in, sentences_of};
+ghost use Rattle.cubrick_top.specs.KeptRuns.{HasKeptOfRecord, HasKeptOfRun};
 ghost use Rattle.cubrick_top.specs.PlayedEnds.{IsLeft, LeavesNothing, OutputRises, PlayedEnds};
 ghost use Rattle.cubrick_top.specs.Statuses.{status_of};
 ghost use Rattle.cubrick_top.specs.Unplayed.{fault_of_full};
@@ -165,14 +166,18 @@ pub(crate) fn play_kept<
     requires shelves { length scripts.items ≤ length shelves.items }
     requires keeps { (cells : List (CoreCell CoreShard))
         → AreCellsOver kept.now settings.shards (length scripts.items) cells
-        → KeepsRounds M.serves M.has_kept (length scripts.items) maker cells
+        → KeepsRounds M.serves M.has_kept (length scripts.items) maker maker cells
         (length scripts.items + 1 + settings.shards) [] }
     ensures status { result.finish.status ≡ status_of result.finish.fault }
     ensures output { OutputRises result.finish.fault
         (K.fault_count sink.old) (K.fault_count sink.new) }
     ensures same { map H.told result.shelves.items ≡ map H.told shelves.items }
     ensures made { M.becomes maker result.maker }
-    ensures ends { PlayedEnds H.told H.fault_count H.absence_count stored kept.now settings.shards
+    ensures ends { PlayedEnds H.told H.fault_count H.absence_count
+        (λ run. HasKeptOfRecord M.has_kept maker result.maker run)
+        (λ journal. HasKeptOfRun M.has_kept maker result.maker kept.now settings.shards
+        (length (map sentences_of scripts.items)) journal)
+        stored kept.now settings.shards
         (unwrap_or settings.round_every 0) (map sentences_of scripts.items)
         shelves.items result.shelves.items result.finish
         (K.taken sink.old) (K.taken sink.new) result.finish.fault }

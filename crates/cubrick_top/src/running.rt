@@ -9,6 +9,7 @@ ghost use Rattle.run_words.specs.declared.fault.WordsFault.{WordsFault};
 ghost use Rattle.cubrick_top.specs.Generated.{GeneratedEnds};
 ghost use Rattle.cubrick_top.specs.PlayedEnds.{OutputRises};
 ghost use Rattle.cubrick_top.specs.RunEnds.{RunEnds};
+ghost use Rattle.cubrick_top.specs.ServedRuns.{FailsOnlyForMemory, InputsAreInOrder, NoFaultCountRose};
 ghost use Rattle.cubrick_top.specs.Statuses.{status_of};
 ghost use Rattle.cubrick_top.specs.WordsEnds.{AreRefused};
 ghost use Rattle.cubrick_top.specs.declared.fault.Fault.TheVariants.{Words};
@@ -17,9 +18,11 @@ use crate::fault::{Fault, finish_unplayed};
 use crate::generating::run_generator;
 use crate::reading::run_command;
 use crate::surroundings::{Ended, Outside};
+use cube_schema::a_text_declares_or_has_one_fault;
 use cube_values::CallError;
 use outside::{Shelf, Sink};
 use outside_disk::{Disk, Gate};
+use run_files::files_decide_their_end;
 use run_words::{Command, read_words, words_ask_for_a_command_or_have_one_fault};
 use std::alloc::Global;
 use std::sync::Wait;
@@ -80,6 +83,15 @@ pub fn run<
         → RunEnds H.told H.call_list H.fault_count H.absence_count D.view command outside
         result.outside (K.taken sink.old) (K.taken sink.new) result.finish }
 
+    // A run whose files and store are in order is served: where no count of faults rose, its
+    // status is 0, or 8.
+    ensures served { (command : RunCommand)
+        → AreWordsOf (map string_bytes words.now) (asked.Run command)
+        → InputsAreInOrder H.told D.view command outside
+        → NoFaultCountRose H.fault_count D.view outside result.outside
+        (K.fault_count sink.old) (K.fault_count sink.new)
+        → FailsOnlyForMemory result.finish.fault }
+
     // How a run over generated rows ended, and what it wrote.
     ensures generated { (command : GenerateCommand)
         → AreWordsOf (map string_bytes words.now) (asked.Generate command)
@@ -87,6 +99,8 @@ pub fn run<
         (K.taken sink.new) result.finish result.finish.fault }
 {
     words_ask_for_a_command_or_have_one_fault();
+    files_decide_their_end();
+    a_text_declares_or_has_one_fault();
     match read_words(alloc, words) {
         Ok(Command::Run(command)) => {
             run_command(rt, alloc, starter, command, outside, gate, sink)

@@ -10,6 +10,7 @@ use Rattle.run_words.specs.declared.fault.WordsFault.{WordsFault}
 use Rattle.cubrick_top.specs.Generated.{GeneratedEnds}
 use Rattle.cubrick_top.specs.RunEnds.{RunEnds}
 use Rattle.cubrick_top.proofs.AskedShards.{generated-shards, run-shards}
+use Rattle.cubrick_top.proofs.ServedRuns.{run-served}
 use Rattle.cubrick_top.proofs.running.run.Goals as goal
 
 pub run_command-requires-clause-some_shards : goal.run_command-requires-clause-some_shards
@@ -42,6 +43,22 @@ returns-in-Ok-Run-clause-run g c command asks =
     subst (λ (x : RunCommand). RunEnds g.H.Shelf.told g.H.Shelf.call_list g.H.Shelf.fault_count g.H.Shelf.absence_count
     g.D.Disk.view x c.args.outside c.run_command.result.outside (g.K.Sink.taken c.args.sink.now)
     (g.K.Sink.taken c.run_command.new.sink) c.run_command.result.finish) same c.run_command.ensures.ends
+
+pub returns-in-Ok-Run-clause-served : goal.returns-in-Ok-Run-clause-served
+returns-in-Ok-Run-clause-served g c command asks ready quiet =
+    let one =
+    c.words_ask_for_a_command_or_have_one_fault.ensures.one_command (map string_bytes c.args.words.now)
+    c.in-Ok-Run.field-0 (asked.Run command) c.in-Ok-Run.ensures.command asks in
+    let same : c.in-Ok-Run.command ≡ command = cc (one, c.in-Ok-Run.field-0-is) in
+    run-served g.H.Shelf.told g.H.Shelf.call_list g.H.Shelf.fault_count g.H.Shelf.absence_count g.D.Disk.view command
+    c.args.outside c.run_command.result.outside (g.K.Sink.fault_count c.args.sink.now)
+    (g.K.Sink.fault_count c.run_command.new.sink) c.run_command.result.finish quiet c.run_command.ensures.output
+    (g.K.Sink.taken c.args.sink.now) (g.K.Sink.taken c.run_command.new.sink)
+    c.files_decide_their_end.ensures.one c.a_text_declares_or_has_one_fault.ensures.one_list ready
+    (subst (λ (x : RunCommand). RunEnds g.H.Shelf.told g.H.Shelf.call_list g.H.Shelf.fault_count
+    g.H.Shelf.absence_count g.D.Disk.view x c.args.outside c.run_command.result.outside
+    (g.K.Sink.taken c.args.sink.now) (g.K.Sink.taken c.run_command.new.sink) c.run_command.result.finish) same
+    c.run_command.ensures.ends)
 
 pub returns-in-Ok-Generate-clause-refused : goal.returns-in-Ok-Generate-clause-refused
 returns-in-Ok-Generate-clause-refused g c cause has =
