@@ -1,6 +1,7 @@
 //! The cells, and the calls on them.
 
 ghost use Rattle.cube_core.specs.CoreSteps.{CanTake, CoreStep};
+ghost use Rattle.cube_core.specs.declared.cell.CoreCall.TheVariants as asked;
 
 use crate::jobs::{Job, JobAnswer};
 use crate::shard::{ShardAnswer, ShardCall, ShardCell};
@@ -41,27 +42,61 @@ pub enum CoreAnswer {
     Mail(MailAnswer<Job, JobAnswer>),
 }
 
+// A function of its own for each kind of call keeps the large answers of the others off the stack.
+
+#[inline(never)]
+fn apply_to_desk<S: ShardCell>(cell: &mut CoreCell<S>, call: DeskCall) -> CoreAnswer
+    requires { CanTake S.ShardCell.can cell.old (asked.Desk call) }
+    ensures { CoreStep S.ShardCell.step cell.old (asked.Desk call) result cell.new }
+{
+    match cell {
+        CoreCell::Desk { desk, alloc } => CoreAnswer::Desk(call_desk(*alloc, desk, call)),
+        _ => unreachable!(),
+    }
+}
+
+#[inline(never)]
+fn apply_to_names<S: ShardCell>(cell: &mut CoreCell<S>, call: NamesCall) -> CoreAnswer
+    requires { CanTake S.ShardCell.can cell.old (asked.Names call) }
+    ensures { CoreStep S.ShardCell.step cell.old (asked.Names call) result cell.new }
+{
+    match cell {
+        CoreCell::Names(names) => CoreAnswer::Names(call_names(names, call)),
+        _ => unreachable!(),
+    }
+}
+
+#[inline(never)]
+fn apply_to_shard<S: ShardCell>(cell: &mut CoreCell<S>, call: ShardCall) -> CoreAnswer
+    requires { CanTake S.ShardCell.can cell.old (asked.Shard call) }
+    ensures { CoreStep S.ShardCell.step cell.old (asked.Shard call) result cell.new }
+{
+    match cell {
+        CoreCell::Shard(shard) => CoreAnswer::Shard(shard.call(call)),
+        _ => unreachable!(),
+    }
+}
+
+#[inline(never)]
+fn apply_to_mail<S: ShardCell>(cell: &mut CoreCell<S>, call: MailCall<Job, JobAnswer>) -> CoreAnswer
+    requires { CanTake S.ShardCell.can cell.old (asked.Mail call) }
+    ensures { CoreStep S.ShardCell.step cell.old (asked.Mail call) result cell.new }
+{
+    match cell {
+        CoreCell::Mail(mail) => CoreAnswer::Mail(call_mail(mail, call)),
+        _ => unreachable!(),
+    }
+}
+
 /// Makes a call on a cell of its kind.
 pub fn apply<S: ShardCell>(cell: &mut CoreCell<S>, call: CoreCall) -> CoreAnswer
     requires { CanTake S.ShardCell.can cell.old call }
     ensures { CoreStep S.ShardCell.step cell.old call result cell.new }
 {
     match call {
-        CoreCall::Desk(call) => match cell {
-            CoreCell::Desk { desk, alloc } => CoreAnswer::Desk(call_desk(*alloc, desk, call)),
-            _ => unreachable!(),
-        },
-        CoreCall::Names(call) => match cell {
-            CoreCell::Names(names) => CoreAnswer::Names(call_names(names, call)),
-            _ => unreachable!(),
-        },
-        CoreCall::Shard(call) => match cell {
-            CoreCell::Shard(shard) => CoreAnswer::Shard(shard.call(call)),
-            _ => unreachable!(),
-        },
-        CoreCall::Mail(call) => match cell {
-            CoreCell::Mail(mail) => CoreAnswer::Mail(call_mail(mail, call)),
-            _ => unreachable!(),
-        },
+        CoreCall::Desk(call) => apply_to_desk(cell, call),
+        CoreCall::Names(call) => apply_to_names(cell, call),
+        CoreCall::Shard(call) => apply_to_shard(cell, call),
+        CoreCall::Mail(call) => apply_to_mail(cell, call),
     }
 }

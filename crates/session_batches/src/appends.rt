@@ -30,7 +30,8 @@ pub fn appends_of(
 {
     let mut left = batches;
     let mut numbers = Vec::with_capacity(alloc, shards as usize)?;
-    let mut calls = Vec::with_capacity(alloc, shards as usize)?;
+    // Mostly the rows of a statement lie in one shard.
+    let mut calls = Vec::with_capacity(alloc, 1)?;
     'shards: for number in 0..shards {
         let batch = left.remove(0);
         add_append(&mut numbers, &mut calls, number, cube, shape, epoch, batch)?;
