@@ -13,3 +13,6 @@ pub mod Newborn
 pub mod Readied
 pub mod Rising
 pub mod Cubes
+pub mod Ordered
+pub mod Chains
+pub mod InOrder

@@ -6,3 +6,4 @@ pub mod Waiting
 pub mod Appended
 pub mod Cubes
 pub mod Copied
+pub mod Ordered

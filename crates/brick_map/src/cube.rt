@@ -19,15 +19,20 @@ use crate::append::append_runs;
 use crate::birth::prepare_runs;
 use crate::deletion::Deletion;
 use crate::list::BrickList;
+use crate::order::{begin_in_order, by_brick};
 use crate::passes::{compare_each, count_rows, scan_each};
 use crate::recent::{forget_epoch, forget_up_to};
 use crate::runs::runs_of;
 use agg_fold::Partial;
+use brick_address::bricks_of;
 use brick_store::Scratch;
 use cube_rounds::RoundBrickList;
 use cube_values::{BoundQuery, CodedRows, CubeShape, Snapshot, Span};
 use std::alloc::{AllocError, Global};
 use std::marker::Model;
+
+// The most rows of a batch that are put in the order of their bricks: their places fit into 32 bits.
+const MOST_ORDERED: u64 = 4_294_967_295;
 
 /// The bricks of one cube that a shard has. A brick is born when its first row comes. The deletions that
 /// may still hide rows of a brick which is not there are kept until a purge passes them.
@@ -85,6 +90,31 @@ impl CubeBricks {
     /// marks of the deletions that wait for it. All bricks get their room first: where memory is wanted, no
     /// brick has other rows or marks than before, and bricks without rows may have been born.
     pub fn append(&mut self, epoch: u64, batch: &CodedRows) -> Result<(), AllocError>
+        requires rows { All (IsRowOfCube self.old.shape) batch.now.rows }
+        requires few { rows_count self.old.bricks + length batch.now.rows < 2 ^ 63 }
+        ensures appended { OnOk result ((number : ℕ) → brick_in self.new number
+            ≡ content_with_rows epoch
+            (rows_of_brick (cube_sizes self.old) number batch.now.rows)
+            (brick_in self.old number)) }
+        ensures count { OnOk result
+            (rows_count self.new.bricks ≡ rows_count self.old.bricks + length batch.now.rows) }
+        ensures err { OnErr result (HasSameBricks self.old self.new) }
+        ensures shape { self.new.shape ≡ self.old.shape }
+        ensures recent { self.new.recent ≡ self.old.recent }
+    {
+        let rows = batch.len() as u64;
+        let bricks = bricks_of(self.shape.shape.sizes.as_slice());
+        // A run costs more than a row does, and rows in no order make about as many runs as rows.
+        if bricks > rows || rows > MOST_ORDERED || begin_in_order(&self.shape.shape, batch) {
+            return self.append_by_runs(epoch, batch);
+        }
+        let alloc = *self.recent.allocator();
+        let ordered = by_brick(alloc, &self.shape, bricks as u32, batch)?;
+        self.append_by_runs(epoch, &ordered)
+    }
+
+    // The same, which costs time for each run of rows of one brick.
+    fn append_by_runs(&mut self, epoch: u64, batch: &CodedRows) -> Result<(), AllocError>
         requires rows { All (IsRowOfCube self.old.shape) batch.now.rows }
         requires few { rows_count self.old.bricks + length batch.now.rows < 2 ^ 63 }
         ensures appended { OnOk result ((number : ℕ) → brick_in self.new number

@@ -8,6 +8,7 @@ mod cube;
 mod deletion;
 mod list;
 mod marks;
+mod order;
 mod passes;
 mod recent;
 mod runs;

@@ -3,7 +3,7 @@ use Rattle.brick_map.specs.declared.deletion.Deletion.{Deletion}
 use Rattle.brick_map.specs.Batches.{AreRuns}
 use Rattle.brick_map.specs.Births.{BrickContent, CubeState, brick_in, content_among, content_with_rows, rows_of_brick, cube_sizes}
 use Rattle.brick_map.proofs.Content.{appended_among}
-use Rattle.brick_map.proofs.cube.CubeBricks.append.Goals as goal
+use Rattle.brick_map.proofs.cube.CubeBricks.append_by_runs.Goals as goal
 
 pub returns-clause-appended : goal.returns-clause-appended
 returns-clause-appended c = λ number.
