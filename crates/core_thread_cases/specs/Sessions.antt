@@ -3,6 +3,7 @@
 use Rattle.std.specs.Prelude.{◌≡◌, ℕ, ◌+◌, ◌≤◌}
 use Rattle.core_program.specs.Knowing.{IsClientOf, IsMailAt, IsSessionOf, ServesClient}
 use Rattle.flush_loop.specs.MadeRounds.{KeptClaim}
+use Rattle.flush_loop.specs.PlainRounds.{HasLostNone}
 use Rattle.flush_loop.specs.declared.no_store.NoStore.{NoStore}
 use Rattle.linked_shards.specs.CellShards.{CoreShardStands}
 use Rattle.run_threads.specs.CoreWorks.{OpeningCells}
@@ -24,13 +25,13 @@ abbrev pub committer_may : Committer → ℕ → OpeningCells → ℕ → Type 0
 committer_may w callers cells caller =
     (caller ≡ w.session) × MayAskRounds w.size.shards w.size.sessions callers cells w.session
 
--- Without a store nothing is asked of the cells, and nothing is kept.
+-- Without a store nothing is asked of the cells, and no round is lost to a disk.
 
 abbrev pub serves_any : NoStore → OpeningCells → Type 0
 serves_any maker cells = Unit {0}
 
 abbrev pub keeps_none : NoStore → NoStore → KeptClaim
-keeps_none begun maker kept o run calls = Unit {0}
+keeps_none begun maker kept o run calls = HasLostNone o calls
 
 -- A core of such sessions may run without a store.
 abbrev pub CommittersMayRun : ReadyCore Committer NoStore → Type 0

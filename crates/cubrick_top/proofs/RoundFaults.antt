@@ -10,6 +10,9 @@ use Rattle.cube_journal.specs.declared.journal_entry.JournalEntry.TheVariants.{R
 use Rattle.cube_journal.specs.declared.journal_entry.LostCause.TheVariants.{Disk}
 use Rattle.cube_rounds.specs.Stands.{Kept}
 use Rattle.cube_run.specs.RunRecords.{RunRecord, Sentence}
+use Rattle.flush_loop.specs.MadeRounds.{KeptClaim}
+use Rattle.flush_loop.specs.PlainRounds.{HasLostNone}
+use Rattle.flush_loop.specs.declared.no_store.NoStore.{NoStore}
 use Rattle.opened_store.specs.declared.fault.StoreFault.TheVariants as store
 use Rattle.outside_disk.specs.Views.{View}
 use Rattle.played_runs.specs.RunsOnRecord.{LeavesLegal}
@@ -88,3 +91,32 @@ module _ {D : Type 0} (view : D → View) (begun maker : StoredRounds D) where
   failed-of-run kept shards sessions journal h lost =
       failed-in h.o h.run h.keeps.saved (calls_of (flusher h.o) h.run) h.is_run.is_run h.keeps.holds refl
       (ap is_lost (sym h.is_run.journal_is) ∙ lost)
+
+-- Without a store none is lost to a disk.
+
+module _ (begun maker : NoStore) where
+  abbrev pub none_lost : NoStore → NoStore → KeptClaim
+  none_lost = λ begun m kept o run calls. HasLostNone o calls
+
+  not-in : (o : Opening) (run : List CoreEvent) (calls : List ClientCall) → IsCoreRun o run → HasLostNone o calls
+      → calls ≡ calls_of (flusher o) run → is_lost (journal_of o run) ≡ true → ⊥
+  not-in o run calls is_run none all lost =
+      let gone : (state_from_calls o (flusher o) calls).store_lost ≡ true =
+      lost-by-journal o run calls is_run all ∙ sym (store-lost (journal_of o run)) ∙ lost
+      in
+      true≢false (sym gone ∙ none)
+
+  pub not-of-record : (run : RunRecord) → HasKeptOfRecord none_lost begun maker run → is_lost run.journal ≡ true → ⊥
+  not-of-record run h lost =
+      not-in h.o h.run (calls_of (flusher h.o) h.run) h.scripted.run h.keeps.holds refl
+      (ap (λ (r : RunRecord). is_lost r.journal) h.same ∙ lost)
+
+  pub not-of-run : (kept : Kept) (shards sessions : ℕ) (journal : List JournalEntry)
+      → HasKeptOfRun none_lost begun maker kept shards sessions journal → is_lost journal ≡ true → ⊥
+  not-of-run kept shards sessions journal h lost =
+      not-in h.o h.run (calls_of (flusher h.o) h.run) h.is_run.is_run h.keeps.holds refl
+      (ap is_lost (sym h.is_run.journal_is) ∙ lost)
+
+pub is-false : (b : Bool) → (b ≡ true → ⊥) → b ≡ false
+is-false true never = absurd (never refl)
+is-false false never = refl

@@ -1,6 +1,6 @@
 -- How the run of scripts that were read ends, and what it makes of its store's disks.
 -- Source: this project's own.
-use Rattle.std.specs.Prelude.{◌≡◌, ◌⊎◌, ◌↔◌, ℕ, List, [], length, Option, Some, None, Err, Ok, is_some, IsSome}
+use Rattle.std.specs.Prelude.{◌≡◌, ◌⊎◌, ◌↔◌, ℕ, false, List, [], length, Option, Some, None, Err, Ok, is_some, IsSome}
 use Rattle.cube_language.specs.declared.decl.Decl.{Decl}
 use Rattle.cube_rounds.specs.Stands.{Kept, kept_of_cubes}
 use Rattle.cube_journal.specs.declared.journal_entry.JournalEntry.{JournalEntry}
@@ -21,7 +21,7 @@ use Rattle.stored_rounds.specs.RoundsInStore.{GoesByRounds, StandsAt}
 use Rattle.stored_rounds.specs.declared.stored.StoredRounds.{StoredRounds}
 use Rattle.cubrick_top.specs.KeptRuns.{KeepRecord, KeepRun}
 use Rattle.cubrick_top.specs.LostRounds.{LosesByFault}
-use Rattle.cubrick_top.specs.PlayedEnds.{LeavesNothing, PlayedEnds, UsesNoShelf}
+use Rattle.cubrick_top.specs.PlayedEnds.{LeavesNothing, PlayedEnds, UsesNoShelf, is_lost}
 use Rattle.cubrick_top.specs.declared.fault.Fault.TheVariants.{Store, NoMemory}
 use Rattle.cubrick_top.specs.declared.fault.Finish.{Finish}
 use Rattle.cubrick_top.specs.declared.surroundings.Outside.{Outside}
@@ -78,9 +78,9 @@ module _ {H D : Type 0} (view : D → View) where
   KeepsRun (Some store) cubes kept before after begins shards sessions =
       λ journal. KeepRun view (disks_in before) (disks_in begins.between) (disks_in after) kept shards sessions journal
 
-  -- Where there is a store a round is lost to a disk only where one of its two has failed in the run.
+  -- A round is lost to a disk only where one of the store's two has failed in the run; without a store none is.
   abbrev pub LosesRoundsByFault : Option StoreName → (before after : Outside H D) → List JournalEntry → Type 0
-  LosesRoundsByFault None before after = λ journal. Unit {0}
+  LosesRoundsByFault None before after = λ journal. is_lost journal ≡ false
   LosesRoundsByFault (Some store) before after =
       λ journal. LosesByFault view (disks_in before) (disks_in after) journal
 

@@ -1,6 +1,6 @@
 -- A round without a store: it is opened, and closed as safe.
 -- Source: this project's own.
-use Rattle.std.specs.Prelude.{ℕ, false, List, [], ◌∷◌, Option, Some, None}
+use Rattle.std.specs.Prelude.{ℕ, false, List, [], ◌∷◌, ◌≡◌, Option, Some, None}
 use Rattle.aosi_desk.specs.declared.answer.RoundAnswer.{RoundAnswer}
 use Rattle.aosi_desk.specs.declared.answer.RoundAnswer.TheVariants.{Target, Nothing}
 use Rattle.aosi_desk.specs.declared.answer.RoundEnd.TheVariants as end
@@ -9,7 +9,7 @@ use Rattle.core_cells.specs.declared.desk.DeskAnswer.TheVariants as answer
 use Rattle.core_cells.specs.declared.desk.DeskCall.TheVariants as call
 use Rattle.core_program.specs.Knowing.{Knows}
 use Rattle.core_events.specs.Clients.{state_from_calls}
-use Rattle.core_events.specs.Events.{Opening}
+use Rattle.core_events.specs.Events.{Opening, flusher, ClientCall}
 use Rattle.core_events.specs.Jobs.{CoreJob, JobOutcome}
 use Rattle.core_events.specs.ShardView.{ShardView}
 use Rattle.core_program.specs.CoreFits.{CoreEntry}
@@ -20,6 +20,10 @@ use Rattle.flush_loop.specs.MadeRounds.{KnowsBetween}
 use Rattle.flush_loop.specs.declared.round_result.RoundResult.{RoundResult}
 use Rattle.flush_loop.specs.declared.round_result.RoundResult.TheVariants.{Safe, Idle, NoMemory}
 use Rattle.flusher_rounds.specs.RoundStates.{HasRound}
+
+-- By the flusher's calls in a run no round was lost to a disk.
+abbrev pub HasLostNone : Opening → List ClientCall → Type 0
+HasLostNone o calls = (state_from_calls o (flusher o) calls).store_lost ≡ false
 
 -- How it then ended, by what the desk answered. None: it was out of memory.
 abbrev pub result_of_opening : Option RoundAnswer → RoundResult

@@ -2,7 +2,7 @@
 ghost use Rattle.std.specs.Prelude.{◌≡◌, ◌+◌, false, ◌++◌, Some};
 ghost use Rattle.core_program.specs.Flushing.{IsFlusherOf};
 ghost use Rattle.flush_loop.specs.MadeRounds.{KnowsBetween};
-ghost use Rattle.flush_loop.specs.PlainRounds.{KnowsAfterOpening, closing_entries, result_of_opening};
+ghost use Rattle.flush_loop.specs.PlainRounds.{HasLostNone, KnowsAfterOpening, closing_entries, result_of_opening};
 
 use crate::desk::{close_round, open_round};
 use crate::maker::MakesRounds;
@@ -15,14 +15,14 @@ use std::sync::Wait;
 use turn_board::Board;
 
 /// Makes the rounds of a core without a store: there is nothing to write, so each round that is opened
-/// is closed as safe.
+/// is closed as safe, and none is lost to a disk.
 #[derive(Clone, Copy, Debug)]
 pub struct NoStore;
 
 impl<S: LinkedShard> MakesRounds<S> for NoStore {
     ghost serves = { λ m cells. Unit {0} };
 
-    ghost has_kept = { λ begun m kept o run calls. Unit {0} };
+    ghost has_kept = { λ begun m kept o run calls. HasLostNone o calls };
 
     ghost becomes = { λ m n. Unit {0} };
 

@@ -57,12 +57,11 @@ pub fn a_store_keeps_rounds_of_its_core<D: Disk>()
     what_is_kept_is_there_in_each_run();
 }
 
-/// Without a store rounds are made of every core, and nothing has to be kept.
+/// Without a store rounds are made of every core, and before its first call the flusher has lost none to a disk.
 pub fn a_core_without_a_store_keeps_no_rounds()
     ensures { (sessions caller : ℕ) (cells : List (CoreCell CoreShard)) (maker : NoStore)
-        (own : List CoreEntry)
         → KeepsRounds ⟦<NoStore as MakesRounds<CoreShard>>⟧.serves
-        ⟦<NoStore as MakesRounds<CoreShard>>⟧.has_kept sessions maker maker cells caller own }
+        ⟦<NoStore as MakesRounds<CoreShard>>⟧.has_kept sessions maker maker cells caller [] }
 {}
 
 /// On a board over the cells of a core that opened over what a store keeps, with all its callers, the

@@ -1,5 +1,8 @@
-use Rattle.std.proofs.Common.{◌+◌, slice_index_or, sym, subst, arith}
+use Rattle.std.proofs.Common.{◌+◌, List, slice_index_or, refl, sym, subst, arith}
+use Rattle.core_events.specs.Clients.{calls_of}
+use Rattle.core_events.specs.Events.{CoreEvent}
 use Rattle.core_program.specs.declared.size.CoreSize.{CoreSize}
+use Rattle.flush_loop.specs.PlainRounds.{HasLostNone}
 use Rattle.core_thread_cases.specs.Sessions.{MayAskRounds}
 use Rattle.core_thread_cases.proofs.runs.core_over.Goals as goal
 
@@ -27,5 +30,12 @@ returns-in-Ok c =
               serves = e.serves kept size.shards size.sessions (1 + k) size.shards cells over (omega (arith, lt));
             })),
       );
-      keeps = record { serves_core = tt; kept = record { kept = kept; in_runs = λ o log run es later are. tt } };
+      keeps = record {
+        serves_core = tt;
+        kept = record {
+          kept = kept;
+          in_runs = λ o log run es later are.
+              subst (λ (l : List CoreEvent). HasLostNone o (calls_of (size.sessions + 1) l)) are refl;
+        };
+      };
     }

@@ -1,7 +1,12 @@
-use Rattle.std.proofs.Common.{◌+◌, arith}
+use Rattle.std.proofs.Common.{◌+◌, List, refl, subst, arith}
+use Rattle.core_events.specs.Clients.{calls_of}
+use Rattle.core_events.specs.Events.{CoreEvent}
+use Rattle.cube_core.specs.BoardCells.{IsEntryEvent}
+use Rattle.cube_core.specs.Links.{AreEventsOf}
 use Rattle.core_program.specs.Knowing.{IsMailAt}
 use Rattle.core_program.specs.Flushing.{IsFlusherOf}
 use Rattle.flush_loop.specs.FlushTurns.{LearnsOfFlushes}
+use Rattle.flush_loop.specs.PlainRounds.{HasLostNone}
 use Rattle.job_groups.specs.AskedEach.{AreShardMails}
 use Rattle.linked_shards.specs.CellShards.{CoreShardStands}
 use Rattle.shard_events.specs.ShardsInRuns.{FitsShard, ShardAnswerSays}
@@ -41,7 +46,15 @@ flush_loop-requires-clause-mails g c =
 
 pub flush_loop-requires-clause-kept : goal.flush_loop-requires-clause-kept
 flush_loop-requires-clause-kept g c =
-    (record {}, record { kept = c.requires.begins.core.kept; in_runs = λ o log run es later are. tt })
+    let begins = c.requires.begins in (
+      record {},
+      record {
+        kept = begins.core.kept;
+        in_runs = λ o log run es later are.
+            subst (λ (l : List CoreEvent). HasLostNone o (calls_of (c.new-size.result.sessions + 1) l))
+            (coe 0 1 (i. AreEventsOf (IsEntryEvent FitsShard CoreShardStands ShardAnswerSays o) (begins.new i) es) are) refl;
+      },
+    )
 
 pub flush_loop-requires-clause-free : goal.flush_loop-requires-clause-free
 flush_loop-requires-clause-free g c =
