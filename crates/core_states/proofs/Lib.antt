@@ -9,3 +9,4 @@ pub mod Refused
 pub mod Transacting
 pub mod ShownEpochs
 pub mod PlainCalls
+pub mod Moments

@@ -1,12 +1,11 @@
 -- What holds of a run over a store since it was taken, by the disks as they were before.
 use Rattle.std.proofs.Common.{inl, inr, ◌≤◌, ℕ, true≢false, List, Option, Some, None, IfSome, IsSome, ◌↔◌, refl, sym}
-use Rattle.core_events.specs.Cells.{counters_of_run}
 use Rattle.cube_journal.specs.declared.journal_entry.JournalEntry.{JournalEntry}
 use Rattle.cube_rounds.specs.Stands.{Kept}
 use Rattle.cube_run.specs.RunRecords.{RunRecord}
 use Rattle.outside_disk.specs.Views.{View}
 use Rattle.recorded_images.specs.AtEveryMoment.{KeepAtEveryMoment, TwoDisks}
-use Rattle.recorded_images.specs.RecordedImages.{StandForEvents, StandForRecord, has_lost_store, lse_on_record}
+use Rattle.recorded_images.specs.RecordedImages.{StandForEvents, StandForRecord}
 use Rattle.round_store.specs.States.{WhereTold}
 use Rattle.stored_rounds.proofs.FaultCounts.{rose-since}
 use Rattle.cubrick_top.specs.KeptRuns.{KeepRecord, KeepRun}
@@ -34,7 +33,7 @@ module _ {D : Type 0} (view : D → View) (before between now : TwoDisks D) wher
         → KeepRecord view before between now run
     record-earlier run keeps =
         told-earlier
-        (KeepAtEveryMoment view (StandForRecord run) between now (lse_on_record run) (has_lost_store run.journal)) keeps
+        (KeepAtEveryMoment view (StandForRecord run) run.safe between now run.journal) keeps
 
     pub run-earlier : (kept : Kept) (shards sessions : ℕ) (journal : List JournalEntry)
         → KeepRun view between between now kept shards sessions journal
@@ -45,8 +44,8 @@ module _ {D : Type 0} (view : D → View) (before between now : TwoDisks D) wher
       is_run = keeps.is_run;
       at_every_moment =
           told-earlier
-          (KeepAtEveryMoment view (StandForEvents keeps.o keeps.run) between now
-          (counters_of_run keeps.o keeps.run).lse (has_lost_store journal)) keeps.at_every_moment;
+          (KeepAtEveryMoment view (StandForEvents keeps.o keeps.run) keeps.o.safe between now journal)
+          keeps.at_every_moment;
     }
 
   -- What rose since then has risen since before.

@@ -1,7 +1,6 @@
 -- How a run ended, with what is known of how it was kept said otherwise: on the disks of a store, or not at all.
 use Rattle.std.proofs.Common.{◌≡◌, ◌⊎◌, inl, inr, ℕ, Bool, List, Option, Some, None, refl, false, true}
 use Rattle.core_agreements.specs.ScriptedRuns.{IsScriptedRun}
-use Rattle.core_events.specs.Cells.{counters_of_run}
 use Rattle.core_events.specs.Clients.{calls_of}
 use Rattle.core_events.specs.Events.{Opening, flusher, ClientCall, CoreEvent}
 use Rattle.core_events.specs.Runs.{IsCoreRun}
@@ -15,7 +14,7 @@ use Rattle.opened_store.specs.declared.fault.StoreFault.TheVariants as store
 use Rattle.outside_disk.specs.Views.{View}
 use Rattle.played_runs.specs.RunsOnRecord.{LeavesLegal}
 use Rattle.recorded_images.specs.AtEveryMoment.{KeepWhereTold, TwoDisks}
-use Rattle.recorded_images.specs.RecordedImages.{StandForEvents, StandForRecord, has_lost_store, lse_on_record}
+use Rattle.recorded_images.specs.RecordedImages.{StandForEvents, StandForRecord}
 use Rattle.stored_rounds.specs.RoundsInStore.{KeepsOfRun}
 use Rattle.stored_rounds.specs.declared.stored.StoredRounds.{StoredRounds}
 use Rattle.cubrick_top.specs.KeptRuns.{HasKeptOfRecord, HasKeptOfRun, KeepRecord, KeepRun}
@@ -76,9 +75,9 @@ module _ {D : Type 0} (view : D → View) (begun maker : StoredRounds D) where
   pub record-kept : ((o : Opening) (given : RunScripts) (run : List CoreEvent) (kept : Kept) (calls : List ClientCall)
       (begun m : StoredRounds D) → IsScriptedRun o given run → KeepsOfRun view begun m kept o run calls
       → calls ≡ calls_of (flusher o) run
-      → KeepWhereTold view (StandForRecord (record_of o given run))
+      → KeepWhereTold view (StandForRecord (record_of o given run)) (record_of o given run).safe
       (record { first = begun.first; second = begun.second }) (record { first = m.first; second = m.second })
-      (lse_on_record (record_of o given run)) (has_lost_store (record_of o given run).journal)) → (run : RunRecord)
+      (record_of o given run).journal) → (run : RunRecord)
       → HasKeptOfRecord has_kept begun maker run
       → KeepRecord view disks_begun disks_begun disks_now run
   record-kept law run h =
@@ -89,8 +88,8 @@ module _ {D : Type 0} (view : D → View) (begun maker : StoredRounds D) where
   pub run-kept : ((o : Opening) (run : List CoreEvent) (kept : Kept) (calls : List ClientCall)
       (begun m : StoredRounds D) → IsCoreRun o run → KeepsOfRun view begun m kept o run calls
       → calls ≡ calls_of (flusher o) run
-      → KeepWhereTold view (StandForEvents o run) (record { first = begun.first; second = begun.second })
-      (record { first = m.first; second = m.second }) (counters_of_run o run).lse (has_lost_store (journal_of o run)))
+      → KeepWhereTold view (StandForEvents o run) o.safe (record { first = begun.first; second = begun.second })
+      (record { first = m.first; second = m.second }) (journal_of o run))
       → (kept : Kept) (shards sessions : ℕ) (journal : List JournalEntry)
       → HasKeptOfRun has_kept begun maker kept shards sessions journal
       → KeepRun view disks_begun disks_begun disks_now kept shards sessions journal
@@ -99,7 +98,6 @@ module _ {D : Type 0} (view : D → View) (begun maker : StoredRounds D) where
     run = h.run;
     is_run = h.is_run;
     at_every_moment =
-        coe 1 0 (i. KeepWhereTold view (StandForEvents h.o h.run) disks_begun disks_now (counters_of_run h.o h.run).lse
-        (has_lost_store (h.is_run.journal_is i)))
+        coe 1 0 (i. KeepWhereTold view (StandForEvents h.o h.run) h.o.safe disks_begun disks_now (h.is_run.journal_is i))
         (law h.o h.run h.keeps.saved (calls_of (flusher h.o) h.run) begun maker h.is_run.is_run h.keeps.holds refl);
   }

@@ -2,7 +2,6 @@
 -- Source: AOSI (ICDE 2018), LSE and recovery; Cubrick (VLDB 2016), flush rounds; two files are this project's own.
 use Rattle.std.specs.Prelude.{◌≡◌, ℕ, List}
 use Rattle.core_agreements.specs.ScriptedRuns.{IsScriptedRun}
-use Rattle.core_events.specs.Cells.{counters_of_run}
 use Rattle.core_events.specs.Events.{CoreEvent, Opening}
 use Rattle.core_events.specs.Runs.{IsCoreRun}
 use Rattle.core_program.specs.CoreFits.{CoreEntry}
@@ -16,7 +15,7 @@ use Rattle.opened_core.specs.Openings.{opening_over}
 use Rattle.outside_disk.specs.Views.{View}
 use Rattle.played_runs.specs.LeftByRuns.{HasKeptOf}
 use Rattle.recorded_images.specs.AtEveryMoment.{KeepAtEveryMoment, TwoDisks}
-use Rattle.recorded_images.specs.RecordedImages.{StandForEvents, StandForRecord, has_lost_store, lse_on_record}
+use Rattle.recorded_images.specs.RecordedImages.{StandForEvents, StandForRecord}
 use Rattle.round_store.specs.States.{WhereTold}
 
 -- A run with this journal, over what is kept.
@@ -46,11 +45,11 @@ module _ {M : Type 0} (has_kept : M → M → KeptClaim) (begun maker : M) where
 
 module _ {D : Type 0} (view : D → View) (before begun now : TwoDisks D) where
   -- Where they told their files before, the disks keep the run on record at every moment since it was begun: two images
-  -- stand for what is kept of it up to the epochs of its rounds, and in the end for what is kept up to LSE.
+  -- stand for what is kept of it up to LSE as the journal has it by then, in the end too, and meanwhile a round further.
   abbrev pub KeepRecord : RunRecord → Type 0
   KeepRecord run =
       WhereTold (view before.first) (view before.second) (λ f g.
-      KeepAtEveryMoment view (StandForRecord run) begun now (lse_on_record run) (has_lost_store run.journal))
+      KeepAtEveryMoment view (StandForRecord run) run.safe begun now run.journal)
 
   -- So they keep a run with this journal, by its events.
   pub record KeepRun (kept : Kept) (shards sessions : ℕ) (journal : List JournalEntry) : Type 0 where
@@ -58,4 +57,4 @@ module _ {D : Type 0} (view : D → View) (before begun now : TwoDisks D) where
     pub run : List CoreEvent
     pub is_run : IsRunWith kept shards sessions journal o run
     pub at_every_moment : WhereTold (view before.first) (view before.second) (λ f g.
-        KeepAtEveryMoment view (StandForEvents o run) begun now (counters_of_run o run).lse (has_lost_store journal))
+        KeepAtEveryMoment view (StandForEvents o run) o.safe begun now journal)

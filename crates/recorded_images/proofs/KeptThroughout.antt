@@ -1,11 +1,12 @@
 -- What is kept of a run at every moment of its rounds, whatever it is that two images for it stand for.
+use mathlib.Core.List.{IsPrefix}
 use Rattle.std.proofs.Common.{◌≡◌, ◌⊎◌, ◌∙◌, ℕ, Bool, true, false, List, [], ◌∷◌, IsSome, ◌↔◌, MatchBool, inl, inr, refl, sym, ap}
 use Rattle.aosi_desk.specs.declared.answer.RoundEnd.{RoundEnd}
 use Rattle.aosi_desk.specs.declared.answer.RoundEnd.TheVariants as end
+use Rattle.cube_journal.specs.declared.journal_entry.JournalEntry.{JournalEntry}
 use Rattle.cube_journal.specs.declared.journal_entry.LostCause.TheVariants.{Disk, Memory}
 use Rattle.cube_rounds.specs.Stands.{Kept, Stands}
 use Rattle.cube_rounds.specs.declared.round.Round.{Round}
-use Rattle.core_events.specs.Cells.{counters_of_run}
 use Rattle.core_events.specs.Clients.{calls_of, state_from_calls}
 use Rattle.core_events.specs.Events.{Opening, flusher, ClientCall, CoreEvent}
 use Rattle.core_events.specs.Runs.{IsCoreRun}
@@ -17,12 +18,13 @@ use Rattle.sha2.specs.Sha256.{sha256}
 use Rattle.stored_rounds.specs.RoundsInStore.{AddsTo, AreRoundsOfRun, EndsAs, HasContentOfRun, HasLostRound, IsKeptInRun, IsTrueRound, IsTrueToRun, KeepsOfRun, RoundStart, StandsAt, kept_by_end, result_of_end}
 use Rattle.stored_rounds.specs.SafeEpochs.{safe_by_calls}
 use Rattle.stored_rounds.specs.declared.stored.StoredRounds.{StoredRounds}
-use Rattle.stored_rounds.proofs.SafeRounds.{lse-told}
 use Rattle.recorded_images.proofs.FailedStores.{lost-by-journal}
 use Rattle.recorded_images.proofs.KeptImages.{HoldsOfKept}
+use Rattle.core_states.proofs.Moments.{moment-of}
+use Rattle.recorded_images.proofs.Moments.{journal-by-then, lse-by-calls, run-by-then}
 use Rattle.recorded_images.proofs.ToldDisks.{TellBoth, disks-of, images-stand, since-added, since-still, told-after, told-at, told-before, where-both}
-use Rattle.recorded_images.specs.AtEveryMoment.{AreKeptInTurn, HoldsAtEnd, HoldsNow, HoldsSince, ImageClaim, IsKeptMeanwhile, KeepAtEveryMoment, KeepWhereTold, RoundOnDisks, StandForOneOf}
-use Rattle.recorded_images.specs.RecordedImages.{HoldsOfImages, has_lost_store}
+use Rattle.recorded_images.specs.AtEveryMoment.{AreKeptInTurn, HoldsAtEnd, HoldsNow, HoldsSince, ImageClaim, IsKeptMeanwhile, KeepAtEveryMoment, KeepWhereTold, RoundOnDisks, StandForOneOf, lse_by}
+use Rattle.recorded_images.specs.RecordedImages.{HoldsOfImages}
 
 module _ (o : Opening) (run : List CoreEvent) (is_run : IsCoreRun o run) (Holds : ImageClaim)
     (holds : HoldsOfKept o run Holds) {D : Type 0} (view : D → View)
@@ -54,10 +56,12 @@ module _ (o : Opening) (run : List CoreEvent) (is_run : IsCoreRun o run) (Holds 
 
   -- Its round was kept or was not. Its disks tell their files where those of the store do that follows it; where the round
   -- was lost to one of them, their images are known.
-  record Through (start : RoundStart D) (after : StoredRounds D) (kept : Kept) : Type 0 where
+  record Through (start : RoundStart D) (after : StoredRounds D) (kept : Kept) (then now : List JournalEntry)
+      : Type 0 where
     epoch : ℕ
-    is : IsKeptMeanwhile view Holds
-        (record { disks = disks-of start.store; kept_to = start.kept.epoch; epoch = epoch }) (disks-of after) kept.epoch
+    is : IsKeptMeanwhile view Holds o.safe
+        (record { disks = disks-of start.store; journal = then; kept_to = start.kept.epoch; epoch = epoch })
+        (disks-of after) kept.epoch now
     tells : (IsSome (view after.first).told ↔ IsSome (view after.second).told) → TellBoth view after
     known : TellBoth view after ⊎ HoldsNow view (disks-of after) (StandForOneOf Holds kept.epoch epoch)
 
@@ -93,12 +97,15 @@ module _ (o : Opening) (run : List CoreEvent) (is_run : IsCoreRun o run) (Holds 
       → TellBoth view start.store → (epoch : ℕ) (how : RoundEnd)
       → (ends : EndsAs view (IsTrueRound o run) (result_of_end epoch how) start.kept start.store after)
       → kept_by_end view (IsTrueRound o run) epoch how start.kept start.store after ends ≡ kept
-      → Through start after kept
-  through start after kept behind told epoch end.Safe ends leaves =
+      → (then now : List JournalEntry) → IsPrefix then now → start.kept.epoch ≡ lse_by o.safe then
+      → Through start after kept then now
+  through start after kept behind told epoch end.Safe ends leaves then now by_then lse =
       let both = told-after view start.kept ends.round start.store after ends.adds ends.stands.both told in
       record {
         epoch = ends.round.epoch;
         is = record {
+          by_then = by_then;
+          up_to_lse = lse;
           before = stands-now start.store start.kept start.calls behind ends.adds.at told;
           meanwhile = since-either start after ends.round behind ends.holds ends.adds told;
           up_to = inr (ap (λ (k : Kept). k.epoch) (sym leaves));
@@ -106,11 +113,13 @@ module _ (o : Opening) (run : List CoreEvent) (is_run : IsCoreRun o run) (Holds 
         tells = λ tell. both;
         known = inl both;
       }
-  through start after kept behind told epoch (end.Lost Disk) ends leaves =
+  through start after kept behind told epoch (end.Lost Disk) ends leaves then now by_then lse =
       let up_to : kept.epoch ≡ start.kept.epoch = ap (λ (k : Kept). k.epoch) (sym leaves) in
       record {
         epoch = ends.round.epoch;
         is = record {
+          by_then = by_then;
+          up_to_lse = lse;
           before = stands-now start.store start.kept start.calls behind ends.adds.at told;
           meanwhile = since-either start after ends.round behind ends.holds ends.adds told;
           up_to = inl up_to;
@@ -120,7 +129,7 @@ module _ (o : Opening) (run : List CoreEvent) (is_run : IsCoreRun o run) (Holds 
             inr (coe 1 0 (i. HoldsNow view (disks-of after) (StandForOneOf Holds (up_to i) ends.round.epoch))
             (now-either start after ends.round behind ends.holds ends.adds told));
       }
-  through start after kept behind told epoch (end.Lost Memory) ends leaves =
+  through start after kept behind told epoch (end.Lost Memory) ends leaves then now by_then lse =
       let before = stands-now start.store start.kept start.calls behind ends.0 told in
       let still = sym ends.1 in
       let since : HoldsSince view (disks-of start.store) (disks-of after) (Holds start.kept.epoch) =
@@ -130,6 +139,8 @@ module _ (o : Opening) (run : List CoreEvent) (is_run : IsCoreRun o run) (Holds 
       record {
         epoch = start.kept.epoch;
         is = record {
+          by_then = by_then;
+          up_to_lse = lse;
           before = before;
           meanwhile = λ one two at_one at_two. inl (since one two at_one at_two);
           up_to = inl (ap (λ (k : Kept). k.epoch) (sym leaves));
@@ -140,26 +151,38 @@ module _ (o : Opening) (run : List CoreEvent) (is_run : IsCoreRun o run) (Holds 
 
   -- ---- all rounds
 
-  record AllThrough (begun now : StoredRounds D) (kept : Kept) : Type 0 where
+  record AllThrough (begun now : StoredRounds D) (kept : Kept) (journal : List JournalEntry) : Type 0 where
     rounds : List (RoundOnDisks D)
-    in_turn : AreKeptInTurn view Holds (disks-of begun) rounds (disks-of now) kept.epoch
+    in_turn : AreKeptInTurn view Holds o.safe (disks-of begun) rounds (disks-of now) kept.epoch journal
     tells : (IsSome (view now.first).told ↔ IsSome (view now.second).told) → TellBoth view now
     known : TellBoth view now ⊎ ((epoch : ℕ) × HoldsNow view (disks-of now) (StandForOneOf Holds kept.epoch epoch))
 
   all-through : (begun : StoredRounds D) (starts : List (RoundStart D)) (now : StoredRounds D) (kept : Kept)
       (calls : List ClientCall) → AreRoundsOfRun view o run begun starts now kept calls → TellBoth view begun
-      → AllThrough begun now kept
-  all-through begun [] now kept calls are told =
+      → (es : List CoreEvent) → IsCoreRun o es → calls_of (flusher o) es ≡ calls
+      → AllThrough begun now kept (journal_of o es)
+  all-through begun [] now kept calls are told es is_es made =
       let there : TellBoth view now = coe 0 1 (i. TellBoth view (are i)) told in
       record { rounds = []; in_turn = ap disks-of are; tells = λ tell. there; known = inl there }
-  all-through begun (last ∷ older) now kept calls are told =
-      let before = all-through begun older last.store last.kept last.calls are.1 told in
+  all-through begun (last ∷ older) now kept calls are told es is_es made =
+      let m = moment-of (flusher o) es are.0.later last.calls (made ∙ are.0.since) in
+      let is_then = run-by-then o es (flusher o) last.calls m is_es in
+      let before = all-through begun older last.store last.kept last.calls are.1 told m.es is_then (sym m.made) in
+      let lse = are.0.behind.up_to ∙ ap (safe_by_calls o) m.made ∙ lse-by-calls o m.es is_then in
       let at = starts-at last now are.0.epoch are.0.how are.0.ends in
       let t =
       through last now kept are.0.behind (before.tells at.both) are.0.epoch are.0.how are.0.ends are.0.leaves
+      (journal_of o m.es) (journal_of o es) (journal-by-then o es (flusher o) last.calls m) lse
+      in
+      let round : RoundOnDisks D = record {
+        disks = disks-of last.store;
+        journal = journal_of o m.es;
+        kept_to = last.kept.epoch;
+        epoch = t.epoch;
+      }
       in
       record {
-        rounds = (record { disks = disks-of last.store; kept_to = last.kept.epoch; epoch = t.epoch }) ∷ before.rounds;
+        rounds = round ∷ before.rounds;
         in_turn = (t.is, before.in_turn);
         tells = t.tells;
         known = elim t.known [
@@ -173,8 +196,8 @@ module _ (o : Opening) (run : List CoreEvent) (is_run : IsCoreRun o run) (Holds 
   module _ (begun m : StoredRounds D) (kept : Kept) (calls : List ClientCall)
       (keeps : KeepsOfRun view begun m kept o run calls) (all : calls ≡ calls_of (flusher o) run)
       (told : TellBoth view begun) where
-    abbrev gone : AllThrough begun m kept
-    gone = all-through begun keeps.rounds.starts m kept calls keeps.rounds.are told
+    abbrev gone : AllThrough begun m kept (journal_of o run)
+    gone = all-through begun keeps.rounds.starts m kept calls keeps.rounds.are told run is_run (sym all)
 
     of-lost : (lost : HasLostRound view m kept o run) → TellBoth view m
         → HoldsNow view (disks-of m) (StandForOneOf Holds kept.epoch lost.round.epoch)
@@ -188,34 +211,32 @@ module _ (o : Opening) (run : List CoreEvent) (is_run : IsCoreRun o run) (Holds 
         (told-before view kept lost.round lost.before m lost.adds tells) one two at_one at_two)
 
     ends-so : (lost : Bool) → MatchBool lost (HasLostRound view m kept o run) (StandsAt view m kept)
-        → HoldsAtEnd view Holds lost (disks-of m) kept.epoch
+        → HoldsAtEnd view Holds o.safe lost (disks-of m) kept.epoch
     ends-so false at = stands-now m kept calls keeps.in_run at (gone.tells at.both)
     ends-so true lost = elim gone.known [
       | inl tells ↦ (lost.round.epoch, of-lost lost tells)
       | inr images ↦ images
     ]
 
-    up-to-lse : kept.epoch ≡ (counters_of_run o run).lse
-    up-to-lse = keeps.in_run.up_to ∙ ap (safe_by_calls o) all ∙ sym (lse-told o run is_run)
+    up-to-lse : kept.epoch ≡ lse_by o.safe (journal_of o run)
+    up-to-lse = keeps.in_run.up_to ∙ ap (safe_by_calls o) all ∙ lse-by-calls o run is_run
 
-    pub kept-throughout : KeepAtEveryMoment view Holds (disks-of begun) (disks-of m) (counters_of_run o run).lse
-        (has_lost_store (journal_of o run))
-    kept-throughout = coe 0 1
-        (i. KeepAtEveryMoment view Holds (disks-of begun) (disks-of m) (up-to-lse i)
-        (lost-by-journal o run calls is_run all i))
-        (record {
-          rounds = gone.rounds;
-          in_turn = gone.in_turn;
-          at_end = ends-so (state_from_calls o (flusher o) calls).store_lost keeps.stands;
-        })
+    pub kept-throughout : KeepAtEveryMoment view Holds o.safe (disks-of begun) (disks-of m) (journal_of o run)
+    kept-throughout = record {
+      rounds = gone.rounds;
+      in_turn = coe 0 1
+          (i. AreKeptInTurn view Holds o.safe (disks-of begun) gone.rounds (disks-of m) (up-to-lse i) (journal_of o run))
+          gone.in_turn;
+      at_end = coe 0 1
+          (i. HoldsAtEnd view Holds o.safe (lost-by-journal o run calls is_run all i) (disks-of m) (up-to-lse i))
+          (ends-so (state_from_calls o (flusher o) calls).store_lost keeps.stands);
+    }
 
   -- The disks tell their files when the run begins, or nothing is claimed.
   pub kept-where-told : (begun m : StoredRounds D) (kept : Kept) (calls : List ClientCall)
       → KeepsOfRun view begun m kept o run calls → calls ≡ calls_of (flusher o) run
-      → KeepWhereTold view Holds (disks-of begun) (disks-of m) (counters_of_run o run).lse
-      (has_lost_store (journal_of o run))
+      → KeepWhereTold view Holds o.safe (disks-of begun) (disks-of m) (journal_of o run)
   kept-where-told begun m kept calls keeps all =
       where-both view begun
-      (KeepAtEveryMoment view Holds (disks-of begun) (disks-of m) (counters_of_run o run).lse
-      (has_lost_store (journal_of o run)))
+      (KeepAtEveryMoment view Holds o.safe (disks-of begun) (disks-of m) (journal_of o run))
       (kept-throughout begun m kept calls keeps all)

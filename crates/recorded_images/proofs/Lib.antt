@@ -3,3 +3,4 @@ pub mod KeptImages
 pub mod KeptByRecord
 pub mod ToldDisks
 pub mod KeptThroughout
+pub mod Moments

@@ -66,16 +66,15 @@ pub fn images_of_a_store_stand_for_the_events<D: Disk>()
 
 /// At every moment of a run whose sessions follow their scripts the disks keep it, where they told their files
 /// when it began. Where a round is opened any two images stand for what is kept of the run on record up to
-/// the epoch before the round; a crash at any moment of it leaves images for that, or for what is kept up to
-/// the epoch of the round. So it is in the end, by LSE.
+/// LSE, as the journal has it by then; a crash at any moment of it leaves images for that, or for what is
+/// kept up to the epoch of the round. So it is in the end, by LSE.
 pub fn a_store_keeps_the_record_at_every_moment<D: Disk>()
     ensures { (o : Opening) (given : RunScripts) (run : List CoreEvent) (kept : Kept)
         (calls : List ClientCall) (begun m : StoredRounds D) → IsScriptedRun o given run
         → KeepsOfRun D.view begun m kept o run calls → calls ≡ calls_of (flusher o) run
-        → KeepWhereTold D.view (StandForRecord (record_of o given run))
+        → KeepWhereTold D.view (StandForRecord (record_of o given run)) (record_of o given run).safe
         (record { first = begun.first; second = begun.second })
-        (record { first = m.first; second = m.second })
-        (lse_on_record (record_of o given run)) (has_lost_store (record_of o given run).journal) }
+        (record { first = m.first; second = m.second }) (record_of o given run).journal }
 {
     kept_data_are_sound();
     kept_rounds_lie_in_their_cubes();
@@ -87,10 +86,9 @@ pub fn a_store_keeps_the_events_at_every_moment<D: Disk>()
     ensures { (o : Opening) (run : List CoreEvent) (kept : Kept) (calls : List ClientCall)
         (begun m : StoredRounds D) → IsCoreRun o run → KeepsOfRun D.view begun m kept o run calls
         → calls ≡ calls_of (flusher o) run
-        → KeepWhereTold D.view (StandForEvents o run)
+        → KeepWhereTold D.view (StandForEvents o run) o.safe
         (record { first = begun.first; second = begun.second })
-        (record { first = m.first; second = m.second })
-        (counters_of_run o run).lse (has_lost_store (journal_of o run)) }
+        (record { first = m.first; second = m.second }) (journal_of o run) }
 {
     two_images_stand_for_either::<D>();
 }

@@ -1,9 +1,8 @@
 use Rattle.core_records.specs.CoreRecords.{record_of}
 use Rattle.sha2.specs.Sha256.{sha256}
-use Rattle.recorded_images.proofs.KeptByRecord.{LawsOfStores, for-record, lse-of-record}
+use Rattle.recorded_images.proofs.KeptByRecord.{LawsOfStores, for-record}
 use Rattle.recorded_images.proofs.KeptThroughout.{kept-where-told}
-use Rattle.recorded_images.specs.AtEveryMoment.{KeepWhereTold}
-use Rattle.recorded_images.specs.RecordedImages.{StandForRecord, has_lost_store}
+use Rattle.recorded_images.specs.RecordedImages.{StandForRecord}
 use Rattle.recorded_images.proofs.law.a_store_keeps_the_record_at_every_moment.Goals as goal
 
 pub returns : goal.returns
@@ -19,9 +18,5 @@ returns g c = λ o given run kept calls begun m r keeps all.
       none = λ place brick past. lie.none k place brick by past;
     }
     in
-    let recorded = record_of o given run in
-    coe 0 1 (i. KeepWhereTold g.D.Disk.view (StandForRecord recorded)
-    (record { first = begun.first; second = begun.second }) (record { first = m.first; second = m.second })
-    (lse-of-record o given run i) (has_lost_store recorded.journal))
-    (kept-where-told o run r.run (StandForRecord recorded) (for-record o given run r laws) g.D.Disk.view
-    g.met.D.Disk.only_now c.two_images_stand_for_either.ensures begun m kept calls keeps all)
+    kept-where-told o run r.run (StandForRecord (record_of o given run)) (for-record o given run r laws) g.D.Disk.view
+    g.met.D.Disk.only_now c.two_images_stand_for_either.ensures begun m kept calls keeps all
