@@ -9,9 +9,9 @@ use Rattle.cube_core.specs.declared.cell.CoreCell.{CoreCell}
 use Rattle.linked_shards.specs.declared.cell.CoreShard.{CoreShard}
 use Rattle.scripted_pasts.specs.Served.{IsServed}
 
-module _ {H : Type 0} (size : CoreSize) where
+module _ {H G : Type 0} (size : CoreSize) where
   -- With one more.
-  pub one-work-more : (from : ℕ) (works : List (ScriptWork H)) (work : ScriptWork H) → AreReadyWorks size from works
+  pub one-work-more : (from : ℕ) (works : List (ScriptWork H G)) (work : ScriptWork H G) → AreReadyWorks size from works
       → IsReadyWork size (from + length works) work → AreReadyWorks size from (works ++ work ∷ [])
   one-work-more from [] work are one =
       let same : from + 0 ≡ from = omega arith in
@@ -21,7 +21,7 @@ module _ {H : Type 0} (size : CoreSize) where
       (are.0, one-work-more (from + 1) works work are.1 (coe 0 1 (i. IsReadyWork size (next i) work) one))
 
   -- The work at a place bears the number of the place.
-  pub work-at : (from : ℕ) (works : List (ScriptWork H)) (k : ℕ) (d : ScriptWork H) → AreReadyWorks size from works
+  pub work-at : (from : ℕ) (works : List (ScriptWork H G)) (k : ℕ) (d : ScriptWork H G) → AreReadyWorks size from works
       → k < length works → IsReadyWork size (from + k) (slice_index_or works k d)
   work-at from [] k d are lt = absurd (omega (arith, lt))
   work-at from (y ∷ works) zero d are lt =
@@ -33,10 +33,10 @@ module _ {H : Type 0} (size : CoreSize) where
       (work-at (from + 1) works k d are.1 (omega (arith, lt)))
 
   -- Each may begin on a core that serves its session.
-  pub works-may-begin : (works : List (ScriptWork H)) → AreReadyWorks size 1 works → length works ≡ size.sessions
+  pub works-may-begin : (works : List (ScriptWork H G)) → AreReadyWorks size 1 works → length works ≡ size.sessions
       → (callers : ℕ) (cells : List (CoreCell CoreShard)) → size.sessions + 2 + size.shards ≤ callers
       → ((session : ℕ) → 1 ≤ session → session ≤ size.sessions → IsServed cells session session size.shards)
-      → OpenWithRowsOfCubes cells → (k : ℕ) (d : ScriptWork H) → k < size.sessions
+      → OpenWithRowsOfCubes cells → (k : ℕ) (d : ScriptWork H G) → k < size.sessions
       → MayPlay (slice_index_or works k d).size.shards (slice_index_or works k d).size.sessions
       (slice_index_or works k d).player (slice_index_or works k d).script.items (slice_index_or works k d).replies.items
       (vec_capacity (slice_index_or works k d).replies) callers cells (1 + k)

@@ -38,10 +38,10 @@ length-mapped : {X Y : Type 0} (f : X → Y) (xs : List X) → length (map f xs)
 length-mapped f [] = refl
 length-mapped f (x ∷ xs) = ap suc (length-mapped f xs)
 
-module _ {H : Type 0} (told : H → ShelfTold) (fault_count absence_count : H → ℕ) (cells : List (CoreCell CoreShard))
+module _ {H G : Type 0} (told : H → ShelfTold) (fault_count absence_count : H → ℕ) (cells : List (CoreCell CoreShard))
     (log : List CoreEntry) where
   -- Where the work of a session began and was played to its end, its script is played to the end in the history.
-  played-out : (caller session every : ℕ) (before after : ScriptWork H) (began : Bool)
+  played-out : (caller session every : ℕ) (before after : ScriptWork H G) (began : Bool)
       → IsClientOf FitsShard CoreShardStands ShardAnswerSays cells caller session → began ≡ true
       → EndsAs (HasPlayedOut told fault_count absence_count) cells began caller (of_caller caller log) before after
       → after.whole ≡ true → before.player.session.number ≡ session → every_of before.player.session ≡ every
@@ -68,12 +68,12 @@ module _ {H : Type 0} (told : H → ShelfTold) (fault_count absence_count : H �
         ends = p.ends;
       }
 
-  module _ (sessions every : ℕ) (works after : List (ScriptWork H)) (shelves : ℕ → H) (o : Opening)
+  module _ (sessions every : ℕ) (works after : List (ScriptWork H G)) (shelves : ℕ → H) (o : Opening)
       (same : o.sessions ≡ sessions) (are : AreOfSessions sessions every works) (tells : AreShelvesOf sessions works shelves) (as_many : length after ≡ sessions)
       (clients : (caller : ℕ) → caller ≤ sessions
       → IsClientOf FitsShard CoreShardStands ShardAnswerSays cells caller caller) (began : Bool)
       (begun : began ≡ true) (played : List CoreEntry) (whole : AreWhole sessions after)
-      (plays : (k : ℕ) (d : ScriptWork H) → k < sessions
+      (plays : (k : ℕ) (d : ScriptWork H G) → k < sessions
       → EndsBy (HasPlayedOut told fault_count absence_count) cells played log began (1 + k) (slice_index_or works k d)
       (slice_index_or after k d)) where
     of-work : (session : ℕ) → IsSession o session

@@ -37,9 +37,9 @@ pub record IsPlayRoom (statements : ℕ) (room : PlayRoom) : Type 0 where
   pub no_replies : room.replies.items ≡ []
   pub fits : statements ≤ vec_capacity room.replies
 
-module _ {H : Type 0} where
+module _ {H G : Type 0} where
   -- The work of the session of a number. It may begin on a core that serves it.
-  pub record IsReadyWork (size : CoreSize) (number : ℕ) (work : ScriptWork H) : Type 0 where
+  pub record IsReadyWork (size : CoreSize) (number : ℕ) (work : ScriptWork H G) : Type 0 where
     pub size_is : work.size ≡ size
     pub number_is : work.player.session.number ≡ number
     pub ready : (callers caller : ℕ) (cells : OpeningCells) → number ≤ size.sessions
@@ -49,15 +49,15 @@ module _ {H : Type 0} where
         callers cells caller
 
   -- So are these works, of which the first has this number.
-  abbrev pub AreReadyWorks : CoreSize → ℕ → List (ScriptWork H) → Type 0
+  abbrev pub AreReadyWorks : CoreSize → ℕ → List (ScriptWork H G) → Type 0
   AreReadyWorks size from [] = Unit {0}
   AreReadyWorks size from (work ∷ works) = IsReadyWork size from work × AreReadyWorks size (from + 1) works
 
-module _ {H M : Type 0} (told : H → ShelfTold) (fault_count absence_count : H → ℕ) (serves : M → OpeningCells → Type 0)
-    (has_kept : M → M → KeptClaim) (becomes : M → M → Type 0) where
+module _ {H G M : Type 0} (told : H → ShelfTold) (fault_count absence_count : H → ℕ)
+    (serves : M → OpeningCells → Type 0) (has_kept : M → M → KeptClaim) (becomes : M → M → Type 0) where
   -- The works of sessions ran on threads over a core with these cells.
-  pub record HavePlayedOnThreads (size : CoreSize) (cells : OpeningCells) (works : List (ScriptWork H)) (maker : M)
-      (ran : RanCore (ScriptWork H) M) : Type 0 where
+  pub record HavePlayedOnThreads (size : CoreSize) (cells : OpeningCells) (works : List (ScriptWork H G)) (maker : M)
+      (ran : RanCore (ScriptWork H G) M) : Type 0 where
     pub run : HasRunOnThreads (HasPlayedOut told fault_count absence_count) serves has_kept becomes size.shards
         size.sessions cells works maker ran
     -- Where they began and each was played to its end, then, however a run opens with the cells, the run that the one

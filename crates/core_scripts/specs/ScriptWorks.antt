@@ -11,10 +11,10 @@ use Rattle.linked_shards.specs.declared.cell.CoreShard.{CoreShard}
 use Rattle.script_sentences.specs.Sentences.{sentence_of}
 use Rattle.scripted_pasts.specs.Performed.{every_of}
 
-module _ {H : Type 0} (told : H → ShelfTold) (fault_count absence_count : H → ℕ) where
+module _ {H G : Type 0} (told : H → ShelfTold) (fault_count absence_count : H → ℕ) where
   -- By these calls it played its script to the end, or stopped for want of memory. Its shelf tells what it told, and counted
   -- what the replies show.
-  pub record HasPlayedOut (before after : ScriptWork H) (cells : List (CoreCell CoreShard)) (caller : ℕ)
+  pub record HasPlayedOut (before after : ScriptWork H G) (cells : List (CoreCell CoreShard)) (caller : ℕ)
       (own : List CoreEntry) : Type 0 where
     pub same : told after.shelf ≡ told before.shelf
     pub later : fault_count before.shelf ≤ fault_count after.shelf

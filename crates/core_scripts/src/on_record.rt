@@ -28,10 +28,10 @@ use scripted_ends::scripts_end_in_a_run;
 /// then, however a run opens with the core's cells, the run that the one history of all calls is has played the scripts of
 /// all sessions: its journal is a legal merge of the scripts, and its text is that of the replies and of the journal. The
 /// files of each session are as its own shelf tells them.
-pub fn scripts_on_threads_end_in_a_run<H: Shelf, M: MakesRounds<CoreShard>>()
+pub fn scripts_on_threads_end_in_a_run<H: Shelf, G, M: MakesRounds<CoreShard>>()
     ensures { (kept : Kept) (shards sessions every : ℕ) (cells : List (CoreCell CoreShard))
-        (works : List (ScriptWork H)) (shelves : ℕ → H) (maker : M)
-        (ran : RanCore (ScriptWork H) M) → IsKeptByFile kept
+        (works : List (ScriptWork H G)) (shelves : ℕ → H) (maker : M)
+        (ran : RanCore (ScriptWork H G) M) → IsKeptByFile kept
         → AreCellsOver kept shards sessions cells → OpenOver kept shards sessions cells
         → AreOfSessions sessions every works → AreShelvesOf sessions works shelves
         → (h : HasRunOnThreads (HasPlayedOut H.told H.fault_count H.absence_count) M.serves

@@ -24,6 +24,7 @@ use threaded_core::{RanCore, ReadyCore, run_core};
 /// its own, beside a worker for each shard and the flusher. The only error is want of memory, before any session began; the
 /// core is then as it was, with the works and with what makes the rounds.
 pub fn play_on_threads<
+    'g,
     R: Threads + Wait + Sync,
     H: Shelf + Send + Drop,
     M: MakesRounds<CoreShard> + Send + Drop,
@@ -34,10 +35,10 @@ pub fn play_on_threads<
     starter: ThreadStarter,
     size: CoreSize,
     cells: Vec<CoreCell<CoreShard>>,
-    works: Vec<ScriptWork<H>>,
+    works: Vec<ScriptWork<'g, H, G>>,
     maker: M,
-    gate: &G,
-) -> Result<RanCore<ScriptWork<H>, M>, ReadyCore<ScriptWork<H>, M>>
+    gate: &'g G,
+) -> Result<RanCore<ScriptWork<'g, H, G>, M>, ReadyCore<ScriptWork<'g, H, G>, M>>
     requires some { 1 ≤ size.shards }
     requires core { AreCellsOfCore size.shards size.sessions cells.items }
     requires as_many { length works.items ≡ size.sessions }
@@ -48,16 +49,16 @@ pub fn play_on_threads<
         (λ ran. HaveThreads (1 + size.shards) ran.began starter ran.starter) }
     ensures first { IfOk result (λ ran. IsTrue ran.began → IsTrue ran.flushed) }
     ensures played { IfOk result (HavePlayedOnThreads H.told H.fault_count H.absence_count M.serves
-        M.has_kept M.becomes size cells.items works.items maker) }
+        M.has_kept M.becomes size cells.items works.entry.items maker) }
     ensures as_it_was { IfErr result (IsAsItWas (record {
       size = size;
       cells = cells;
-      sessions = works;
+      sessions = works.entry;
       maker = maker;
     })) }
 {
     an_opened_core_serves_its_sessions();
-    scripts_on_threads_end_in_a_run::<H, M>();
+    scripts_on_threads_end_in_a_run::<H, G, M>();
     let core = ReadyCore {
         size,
         cells,

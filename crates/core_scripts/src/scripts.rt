@@ -21,15 +21,16 @@ use cube_journal::Reply;
 use cube_language::MOST_STATEMENTS;
 use linked_shards::ShardCells;
 use outside::Shelf;
+use outside_disk::Gate;
 use script_sentences::Said;
 use session_desk::Answered;
 use std::alloc::{AllocError, Global};
 use std::sync::Wait;
 use turn_board::Board;
 
-// Plays the texts of a script in their order, and adds their replies, for which there is room. False where a statement
-// stopped for want of memory; nothing is played behind it.
-fn play_texts<R: Wait, P: CellCaller<ShardCells>, H: Shelf>(
+// Plays the texts of a script in their order, each once the gate lets it begin, and adds their replies, for which there is
+// room. False where a statement stopped for want of memory; nothing is played behind it.
+fn play_texts<R: Wait, P: CellCaller<ShardCells>, H: Shelf, G: Gate>(
     rt: &R,
     board: &Board<ShardCells>,
     caller: &mut P,
@@ -38,6 +39,7 @@ fn play_texts<R: Wait, P: CellCaller<ShardCells>, H: Shelf>(
     script: Vec<Said>,
     shelf: &mut H,
     replies: &mut Vec<Reply>,
+    gate: &G,
     alloc: Global,
 ) -> bool
     requires board { P.calls_on board.now caller.old }
@@ -69,6 +71,7 @@ fn play_texts<R: Wait, P: CellCaller<ShardCells>, H: Shelf>(
         replies.new.items) }
 {
     'script: for said in script {
+        gate.before(player.session.number, player.session.statements + 1);
         match play_said(rt, board, caller, size, player, said, shelf, alloc) {
             Answered::Replied(reply) => replies.push_reserved(reply),
             Answered::Stopped => return false,
@@ -88,9 +91,10 @@ fn holder_of(watch: &Option<CoreWatch>) -> Option<u32>
 }
 
 /// Plays a script to its end: its texts in their order, each with its reply, for which there is room; then a transaction that
-/// is open is rolled back, and the reader of a watch is closed. Each LOAD reads its file from the shelf. False where a
-/// statement or the end stopped for want of memory; nothing is done behind it.
-pub fn play_to_the_end<R: Wait, P: CellCaller<ShardCells>, H: Shelf>(
+/// is open is rolled back, and the reader of a watch is closed. Each LOAD reads its file from the shelf. The gate may hold
+/// each text up before it is played. False where a statement or the end stopped for want of memory; nothing is done behind
+/// it.
+pub fn play_to_the_end<R: Wait, P: CellCaller<ShardCells>, H: Shelf, G: Gate>(
     rt: &R,
     board: &Board<ShardCells>,
     caller: &mut P,
@@ -99,6 +103,7 @@ pub fn play_to_the_end<R: Wait, P: CellCaller<ShardCells>, H: Shelf>(
     script: Vec<Said>,
     shelf: &mut H,
     replies: &mut Vec<Reply>,
+    gate: &G,
     alloc: Global,
 ) -> bool
     requires board { P.calls_on board.now caller.old }
@@ -127,7 +132,7 @@ pub fn play_to_the_end<R: Wait, P: CellCaller<ShardCells>, H: Shelf>(
         (map sentence_of script.items) replies.new.items (P.own caller.new)) }
 {
     if !play_texts(
-        rt, board, caller, size, player, script, shelf, replies, alloc,
+        rt, board, caller, size, player, script, shelf, replies, gate, alloc,
     ) {
         return false;
     }

@@ -16,6 +16,7 @@ use cube_journal::Reply;
 use cube_language::MOST_STATEMENTS;
 use linked_shards::{CoreShard, ShardCells};
 use outside::Shelf;
+use outside_disk::Gate;
 use script_sentences::Said;
 use session_replies::SessionMode;
 use session_snapshots::sessions_begin_with_nothing;
@@ -45,7 +46,7 @@ impl PlayRoom {
 
 /// A session with its script and its shelf, and what its statements were answered.
 #[derive(Drop)]
-pub struct ScriptWork<H> {
+pub struct ScriptWork<'g, H, G> {
     pub size: CoreSize,
     pub player: ScriptPlayer,
     /// What is to be played yet.
@@ -55,9 +56,11 @@ pub struct ScriptWork<H> {
     /// Whether the script was played to its end. If not, it was not begun, or memory ran out.
     pub whole: bool,
     pub alloc: Global,
+    /// What may hold it up before a statement.
+    pub gate: &'g G,
 }
 
-impl<H> ScriptWork<H> {
+impl<'g, H, G> ScriptWork<'g, H, G> {
     /// The work of the session of this number, from 1 on, with its room. After so many of its commits a round follows,
     /// if after any.
     pub fn new(
@@ -68,7 +71,8 @@ impl<H> ScriptWork<H> {
         script: Vec<Said>,
         shelf: H,
         room: PlayRoom,
-    ) -> ScriptWork<H>
+        gate: &'g G,
+    ) -> ScriptWork<'g, H, G>
         requires few { length script.items ≤ MOST_STATEMENTS }
         requires proper { AllByRecursion IsProperSaid script.items }
         requires room { IsPlayRoom (length script.items) room }
@@ -97,11 +101,12 @@ impl<H> ScriptWork<H> {
             replies,
             whole: false,
             alloc,
+            gate,
         }
     }
 }
 
-impl<H: Shelf> CallerWork<ShardCells> for ScriptWork<H> {
+impl<'g, H: Shelf, G: Gate> CallerWork<ShardCells> for ScriptWork<'g, H, G> {
     ghost may_begin = { λ w callers cells caller. MayPlay w.size.shards w.size.sessions w.player
         w.script.items w.replies.items (vec_capacity w.replies) callers cells caller };
 
@@ -126,6 +131,7 @@ impl<H: Shelf> CallerWork<ShardCells> for ScriptWork<H> {
             script,
             &mut self.shelf,
             &mut self.replies,
+            self.gate,
             self.alloc,
         );
     }

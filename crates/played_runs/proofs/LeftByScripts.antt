@@ -58,12 +58,13 @@ saved-so (Some (result.Idle epoch)) is =
 saved-so (Some result.NoMemory) is = absurd (none-saved is)
 saved-so (Some (result.Lost cause)) is = absurd (none-saved is)
 
-module _ {H M : Type 0} (told : H → ShelfTold) (fault_count absence_count : H → ℕ) (serves : M → OpeningCells → Type 0)
+module _ {H G M : Type 0} (told : H → ShelfTold) (fault_count absence_count : H → ℕ)
+    (serves : M → OpeningCells → Type 0)
     (has_kept : M → M → KeptClaim) (becomes : M → M → Type 0) (kept : Kept) (size : CoreSize) (every : ℕ)
-    (cells : OpeningCells) (works : List (ScriptWork H)) (rest given : List H) (maker : M)
-    (ran : RanCore (ScriptWork H) M) (many : length works ≡ size.sessions) (some : 1 ≤ size.sessions)
+    (cells : OpeningCells) (works : List (ScriptWork H G)) (rest given : List H) (maker : M)
+    (ran : RanCore (ScriptWork H G) M) (many : length works ≡ size.sessions) (some : 1 ≤ size.sessions)
     (ready : AreReadyWorks size 1 works)
-    (rounds : (k : ℕ) (d : ScriptWork H) → k < size.sessions
+    (rounds : (k : ℕ) (d : ScriptWork H G) → k < size.sessions
     → unwrap_or (get_or works k d).player.session.round_every 0 ≡ every)
     (shelves : map shelf_of works ++ rest ≡ given) (opens : OpenOver kept size.shards size.sessions cells)
     (h : HavePlayedOnThreads told fault_count absence_count serves has_kept becomes size cells works maker ran) where

@@ -18,24 +18,24 @@ use Rattle.played_runs.proofs.Lists.{behind-front, in-front, length-mapped}
 use Rattle.played_runs.specs.ReadySessions.{shelf_of}
 use Rattle.played_runs.specs.Shelves.{ShelvesGoOn}
 
-module _ {H : Type 0} (told : H → ShelfTold) (fault_count absence_count : H → ℕ) (cells : OpeningCells) where
+module _ {H G : Type 0} (told : H → ShelfTold) (fault_count absence_count : H → ℕ) (cells : OpeningCells) where
   -- ---- of one work
 
-  work-tells : (began : Bool) (caller : ℕ) (own : List CoreEntry) (before after : ScriptWork H)
+  work-tells : (began : Bool) (caller : ℕ) (own : List CoreEntry) (before after : ScriptWork H G)
       → EndsAs (HasPlayedOut told fault_count absence_count) cells began caller own before after
       → told after.shelf ≡ told before.shelf
   work-tells true caller own before after ends = ends.same
-  work-tells false caller own before after ends = ap (λ (w : ScriptWork H). told w.shelf) ends.1
+  work-tells false caller own before after ends = ap (λ (w : ScriptWork H G). told w.shelf) ends.1
 
-  work-later : (began : Bool) (caller : ℕ) (own : List CoreEntry) (before after : ScriptWork H)
+  work-later : (began : Bool) (caller : ℕ) (own : List CoreEntry) (before after : ScriptWork H G)
       → EndsAs (HasPlayedOut told fault_count absence_count) cells began caller own before after
       → fault_count before.shelf ≤ fault_count after.shelf
   work-later true caller own before after ends = ends.later
   work-later false caller own before after ends =
-      let same = ap (λ (w : ScriptWork H). fault_count w.shelf) ends.1 in
+      let same = ap (λ (w : ScriptWork H G). fault_count w.shelf) ends.1 in
       omega (arith, same)
 
-  work-counts : (began whole : Bool) (caller : ℕ) (own : List CoreEntry) (before after : ScriptWork H) → began ≡ true
+  work-counts : (began whole : Bool) (caller : ℕ) (own : List CoreEntry) (before after : ScriptWork H G) → began ≡ true
       → after.whole ≡ true
       → EndsAs (HasPlayedOut told fault_count absence_count) cells began caller own before after
       → CountsOfShelf (script_in before) (replies_in after) (fault_count before.shelf) (fault_count after.shelf)
@@ -49,10 +49,10 @@ module _ {H : Type 0} (told : H → ShelfTold) (fault_count absence_count : H �
 
   -- ---- of all
 
-  module _ (sessions : ℕ) (played log : List CoreEntry) (began : Bool) (works after : List (ScriptWork H))
+  module _ (sessions : ℕ) (played log : List CoreEntry) (began : Bool) (works after : List (ScriptWork H G))
       (rest : List H)
       (many : length works ≡ sessions) (as_many : length after ≡ sessions)
-      (plays : (k : ℕ) (d : ScriptWork H) → k < sessions
+      (plays : (k : ℕ) (d : ScriptWork H G) → k < sessions
       → EndsBy (HasPlayedOut told fault_count absence_count) cells played log began (1 + k) (get_or works k d)
       (get_or after k d)) where
     abbrev old : List H
@@ -61,10 +61,10 @@ module _ {H : Type 0} (told : H → ShelfTold) (fault_count absence_count : H �
     abbrev new : List H
     new = map shelf_of after ++ rest
 
-    shelf-then : (k : ℕ) (d : H) (e : ScriptWork H) → k < sessions → get_or old k d ≡ (get_or works k e).shelf
+    shelf-then : (k : ℕ) (d : H) (e : ScriptWork H G) → k < sessions → get_or old k d ≡ (get_or works k e).shelf
     shelf-then k d e lt = in-front shelf_of works rest k d e (omega (arith, lt, many))
 
-    shelf-now : (k : ℕ) (d : H) (e : ScriptWork H) → k < sessions → get_or new k d ≡ (get_or after k e).shelf
+    shelf-now : (k : ℕ) (d : H) (e : ScriptWork H G) → k < sessions → get_or new k d ≡ (get_or after k e).shelf
     shelf-now k d e lt = in-front shelf_of after rest k d e (omega (arith, lt, as_many))
 
     other-now : (k : ℕ) (d : H) → sessions ≤ k → get_or new k d ≡ get_or old k d
@@ -74,7 +74,7 @@ module _ {H : Type 0} (told : H → ShelfTold) (fault_count absence_count : H �
         behind-front (map shelf_of after) (map shelf_of works) rest k d (omega (arith, one, two, many, as_many))
         (omega (arith, one, as_many, le))
 
-    some-work : (k : ℕ) → k < sessions → ScriptWork H
+    some-work : (k : ℕ) → k < sessions → ScriptWork H G
     some-work k lt = element-at works k (omega (arith, lt, many))
 
     tells : (k : ℕ) (d : H) → told (get_or new k d) ≡ told (get_or old k d)
@@ -101,7 +101,7 @@ module _ {H : Type 0} (told : H → ShelfTold) (fault_count absence_count : H �
     ]
 
     -- The counts of a session's shelf, as its work has them.
-    pub counts-at : began ≡ true → AreWhole sessions after → (k : ℕ) (d : H) (e : ScriptWork H) → k < sessions
+    pub counts-at : began ≡ true → AreWhole sessions after → (k : ℕ) (d : H) (e : ScriptWork H G) → k < sessions
         → CountsOfShelf (script_in (get_or works k e)) (replies_in (get_or after k e)) (fault_count (get_or old k d))
         (fault_count (get_or new k d)) (absence_count (get_or old k d)) (absence_count (get_or new k d))
     counts-at begun whole k d e lt =

@@ -48,12 +48,13 @@ use Rattle.played_runs.specs.RunsOnRecord.{EndsSafe, HasPlayedOver, IsOnRecord, 
 use Rattle.played_runs.specs.Shelves.{ShelvesGoOn}
 use Rattle.played_runs.specs.declared.running.PlayedRun.{PlayedRun}
 
-module _ {H M : Type 0} (told : H → ShelfTold) (fault_count absence_count : H → ℕ) (serves : M → OpeningCells → Type 0)
+module _ {H G M : Type 0} (told : H → ShelfTold) (fault_count absence_count : H → ℕ)
+    (serves : M → OpeningCells → Type 0)
     (has_kept : M → M → KeptClaim) (becomes : M → M → Type 0) (kept : Kept) (size : CoreSize) (every : ℕ)
-    (cells : OpeningCells) (works : List (ScriptWork H)) (rest given : List H) (maker : M)
-    (ran : RanCore (ScriptWork H) M) (many : length works ≡ size.sessions) (some : 1 ≤ size.sessions)
+    (cells : OpeningCells) (works : List (ScriptWork H G)) (rest given : List H) (maker : M)
+    (ran : RanCore (ScriptWork H G) M) (many : length works ≡ size.sessions) (some : 1 ≤ size.sessions)
     (ready : AreReadyWorks size 1 works)
-    (rounds : (k : ℕ) (d : ScriptWork H) → k < size.sessions
+    (rounds : (k : ℕ) (d : ScriptWork H G) → k < size.sessions
     → unwrap_or (get_or works k d).player.session.round_every 0 ≡ every)
     (shelves : map shelf_of works ++ rest ≡ given) (opens : OpenOver kept size.shards size.sessions cells)
     (h : HavePlayedOnThreads told fault_count absence_count serves has_kept becomes size cells works maker ran)
@@ -207,8 +208,8 @@ made-by serves has_kept becomes false shards sessions before after last cells ca
     subst (becomes before) (sym ends.1) stays
 
 -- So often rounds follow in each session.
-pub rounds-at : {H : Type 0} (every : Option ℕ) (sessions : ℕ) (works : List (ScriptWork H)) → length works ≡ sessions
-    → AllByRecursion (HasRounds every) works → (k : ℕ) (d : ScriptWork H) → k < sessions
+pub rounds-at : {H G : Type 0} (every : Option ℕ) (sessions : ℕ) (works : List (ScriptWork H G))
+    → length works ≡ sessions → AllByRecursion (HasRounds every) works → (k : ℕ) (d : ScriptWork H G) → k < sessions
     → unwrap_or (get_or works k d).player.session.round_every 0 ≡ unwrap_or every 0
 rounds-at every sessions works many all k d lt =
     ap (λ (o : Option ℕ). unwrap_or o 0) (all-at (HasRounds every) works k d all (omega (arith, lt, many)))

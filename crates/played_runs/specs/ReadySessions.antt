@@ -27,22 +27,22 @@ pub record IsReadyScript (ready : ReadyScript) : Type 0 where
 abbrev pub script_ready : ReadyScript → Vec Said
 script_ready ready = ready.script
 
-module _ {H : Type 0} where
+module _ {H G : Type 0} where
   -- The parts of a session's work.
 
-  abbrev pub script_of : ScriptWork H → Vec Said
+  abbrev pub script_of : ScriptWork H G → Vec Said
   script_of work = work.script
 
-  abbrev pub shelf_of : ScriptWork H → H
+  abbrev pub shelf_of : ScriptWork H G → H
   shelf_of work = work.shelf
 
-  abbrev pub replies_of : ScriptWork H → Vec Reply
+  abbrev pub replies_of : ScriptWork H G → Vec Reply
   replies_of work = work.replies
 
   -- A round follows after so many commits of the session, if after any.
-  abbrev pub HasRounds : Option ℕ → ScriptWork H → Type 0
+  abbrev pub HasRounds : Option ℕ → ScriptWork H G → Type 0
   HasRounds every work = work.player.session.round_every ≡ every
 
   -- Its script was played to its end.
-  abbrev pub IsWhole : ScriptWork H → Type 0
+  abbrev pub IsWhole : ScriptWork H G → Type 0
   IsWhole work = work.whole ≡ true

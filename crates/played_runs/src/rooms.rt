@@ -18,9 +18,9 @@ pub(crate) struct ReadyScript {
 
 /// The scripts of a run, and lists with room for the works of its sessions and for their replies.
 #[derive(Drop)]
-pub(crate) struct RunRoom<H> {
+pub(crate) struct RunRoom<'g, H, G> {
     pub(crate) scripts: Vec<ReadyScript>,
-    pub(crate) works: Vec<ScriptWork<H>>,
+    pub(crate) works: Vec<ScriptWork<'g, H, G>>,
     pub(crate) replies: Vec<Vec<Reply>>,
 }
 
@@ -42,10 +42,10 @@ fn ready_scripts(alloc: Global, scripts: Vec<Vec<Said>>) -> Result<Vec<ReadyScri
 }
 
 /// All the memory that a run of these scripts takes before its core opens. The only error is out of memory.
-pub(crate) fn run_room<H: Drop>(
+pub(crate) fn run_room<'g, H: Drop, G>(
     alloc: Global,
     scripts: Vec<Vec<Said>>,
-) -> Result<RunRoom<H>, AllocError>
+) -> Result<RunRoom<'g, H, G>, AllocError>
     requires { AllByRecursion MayBeSaid scripts.items }
     ensures ready { IfOk result (λ room. AllByRecursion IsReadyScript room.scripts.items) }
     ensures same { IfOk result (λ room.

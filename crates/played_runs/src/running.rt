@@ -66,8 +66,8 @@ pub struct UnplayedRun<H, M> {
 }
 
 // What the core left, with the shelves.
-fn played_run<H: Shelf + Drop, M>(
-    ran: RanCore<ScriptWork<H>, M>,
+fn played_run<'g, H: Shelf + Drop, M, G>(
+    ran: RanCore<ScriptWork<'g, H, G>, M>,
     rest: Vec<H>,
     replies: Vec<Vec<Reply>>,
     count: u32,
@@ -76,17 +76,17 @@ fn played_run<H: Shelf + Drop, M>(
     requires empty { replies.items ≡ [] }
     requires room { count ≤ vec_capacity replies }
     requires places { length rest.items + count ≤ vec_capacity rest }
-    ensures shelves { result.shelves.items ≡ map shelf_of ran.sessions.items ++ rest.items }
-    ensures replies { result.replies.items ≡ map replies_of ran.sessions.items }
+    ensures shelves { result.shelves.items ≡ map shelf_of ran.entry.sessions.items ++ rest.items }
+    ensures replies { result.replies.items ≡ map replies_of ran.entry.sessions.items }
     ensures whole { IsTrue result.whole
-        ↔ (IsTrue ran.began × AllByRecursion IsWhole ran.sessions.items) }
-    ensures journal { result.journal.items ≡ ran.left.desk.register.journal }
+        ↔ (IsTrue ran.entry.began × AllByRecursion IsWhole ran.entry.sessions.items) }
+    ensures journal { result.journal.items ≡ ran.entry.left.desk.register.journal }
     ensures counters { result.counters
-        ≡ counters ran.left.desk.register.safe ran.left.desk.register.journal }
-    ensures names { result.names ≡ ran.left.names }
-    ensures shards { result.shards ≡ ran.left.shards }
-    ensures last_round { result.last_round ≡ ran.last_round }
-    ensures maker { result.maker ≡ ran.maker }
+        ≡ counters ran.entry.left.desk.register.safe ran.entry.left.desk.register.journal }
+    ensures names { result.names ≡ ran.entry.left.names }
+    ensures shards { result.shards ≡ ran.entry.left.shards }
+    ensures last_round { result.last_round ≡ ran.entry.last_round }
+    ensures maker { result.maker ≡ ran.entry.maker }
 {
     let RanCore {
         left,
@@ -122,6 +122,7 @@ fn played_run<H: Shelf + Drop, M>(
 
 // Plays the scripts over a core with these cells, which opened over what is kept. There is room.
 fn play_over<
+    'g,
     R: Threads + Wait + Sync,
     H: Shelf + Send + Drop,
     M: MakesRounds<CoreShard> + Send + Drop,
@@ -134,10 +135,10 @@ fn play_over<
     round_every: Option<u32>,
     kept: &Kept,
     cells: Vec<CoreCell<CoreShard>>,
-    room: RunRoom<H>,
+    room: RunRoom<'g, H, G>,
     shelves: Vec<H>,
     maker: M,
-    gate: &G,
+    gate: &'g G,
 ) -> Result<PlayedRun<H, M>, UnplayedRun<H, M>>
     requires kept { IsKeptByFile kept.now }
     requires some { 1 ≤ size.shards }
@@ -154,14 +155,14 @@ fn play_over<
     requires keeps { KeepsRounds M.serves M.has_kept size.sessions maker maker cells.items
         (size.sessions + 1 + size.shards) [] }
     ensures left { IfOk result (IsLeftByScripts H.told H.fault_count H.absence_count M.has_kept
-        M.becomes kept.now size (unwrap_or round_every 0) (map script_ready room.scripts.items)
+        M.becomes kept.now size (unwrap_or round_every 0) (map script_ready room.entry.scripts.items)
         shelves.items maker) }
     ensures back { IfErr result (λ u. IsGivenBack shelves.items maker u
         × (u.cause ≡ NoMemory)) }
 {
     what_is_left_is_on_record();
     replies_tell_the_counts();
-    runs_on_threads_end_with_all_safe::<ScriptWork<H>, M>();
+    runs_on_threads_end_with_all_safe::<ScriptWork<'g, H, G>, M>();
     let RunRoom {
         scripts,
         works,
@@ -174,6 +175,7 @@ fn play_over<
         scripts,
         shelves,
         works,
+        gate,
     );
     match play_on_threads(rt, alloc, starter, size, cells, works, maker, gate) {
         Ok(ran) => Ok(played_run(ran, rest, replies, size.sessions)),

@@ -9,12 +9,13 @@ use core_program::CoreSize;
 use core_scripts::ScriptWork;
 use cube_journal::Reply;
 use outside::Shelf;
+use outside_disk::Gate;
 use std::alloc::Global;
 
 /// The works of sessions, and the shelves that none of them has.
 #[derive(Drop)]
-pub(crate) struct GivenShelves<H> {
-    pub(crate) works: Vec<ScriptWork<H>>,
+pub(crate) struct GivenShelves<'g, H, G> {
+    pub(crate) works: Vec<ScriptWork<'g, H, G>>,
     pub(crate) rest: Vec<H>,
 }
 
@@ -27,14 +28,15 @@ pub(crate) struct ReturnedShelves<H> {
 }
 
 /// The work of each session has the next script and the next shelf. The list of works has room.
-pub(crate) fn give_shelves<H: Shelf + Drop>(
+pub(crate) fn give_shelves<'g, H: Shelf + Drop, G: Gate>(
     alloc: Global,
     size: CoreSize,
     round_every: Option<u32>,
     scripts: Vec<ReadyScript>,
     shelves: Vec<H>,
-    works: Vec<ScriptWork<H>>,
-) -> GivenShelves<H>
+    works: Vec<ScriptWork<'g, H, G>>,
+    gate: &'g G,
+) -> GivenShelves<'g, H, G>
     requires scripts { length scripts.items ≡ size.sessions }
     requires ready { AllByRecursion IsReadyScript scripts.items }
     requires shelves { size.sessions ≤ length shelves.items }
@@ -61,14 +63,15 @@ pub(crate) fn give_shelves<H: Shelf + Drop>(
             script,
             shelf,
             room,
+            gate,
         ));
     }
     GivenShelves { works, rest }
 }
 
 /// The shelves of works come back before the rest, and the replies of each. The lists have room.
-pub(crate) fn return_shelves<H: Drop>(
-    works: Vec<ScriptWork<H>>,
+pub(crate) fn return_shelves<'g, H: Drop, G>(
+    works: Vec<ScriptWork<'g, H, G>>,
     rest: Vec<H>,
     replies: Vec<Vec<Reply>>,
     count: u32,
@@ -77,9 +80,9 @@ pub(crate) fn return_shelves<H: Drop>(
     requires empty { replies.items ≡ [] }
     requires room { count ≤ vec_capacity replies }
     requires places { length rest.items + count ≤ vec_capacity rest }
-    ensures shelves { result.shelves.items ≡ map shelf_of works.items ++ rest.items }
-    ensures replies { result.replies.items ≡ map replies_of works.items }
-    ensures whole { IsTrue result.whole ↔ AllByRecursion IsWhole works.items }
+    ensures shelves { result.shelves.items ≡ map shelf_of works.entry.items ++ rest.items }
+    ensures replies { result.replies.items ≡ map replies_of works.entry.items }
+    ensures whole { IsTrue result.whole ↔ AllByRecursion IsWhole works.entry.items }
 {
     let mut left = works;
     let mut shelves = rest;

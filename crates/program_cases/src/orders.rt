@@ -13,23 +13,35 @@ use std::thread::Threads;
 // How often a hold looks at its flag before it gives up.
 const LOOKS: u32 = 1_000_000_000;
 
-/// A job of a statement on a shard.
+/// What a gate is asked for.
 #[derive(Clone, Copy, PartialEq, Eq)]
-struct Asked {
-    shard: u32,
-    session: u32,
-    statement: u32,
+enum Asked {
+    /// A statement that its session is about to begin.
+    Before {
+        session: u32,
+        statement: u32,
+    },
+    /// A job of a statement on a shard.
+    Within {
+        shard: u32,
+        session: u32,
+        statement: u32,
+    },
+}
+
+fn before(session: u32, statement: u32) -> Asked {
+    Asked::Before { session, statement }
 }
 
 fn within(shard: u32, session: u32, statement: u32) -> Asked {
-    Asked {
+    Asked::Within {
         shard,
         session,
         statement,
     }
 }
 
-/// A job that is held until the gate was asked for another one.
+/// Who asks for the one is held until the gate was asked for the other.
 #[derive(Drop)]
 struct Hold {
     held: Asked,
@@ -85,7 +97,9 @@ fn is_raised(flag: &AtomicBool) -> bool {
 }
 
 impl Gate for Holds {
-    fn before(&self, _session: u32, _statement: u32) {}
+    fn before(&self, session: u32, statement: u32) {
+        self.ask(before(session, statement));
+    }
 
     fn within(&self, shard: u32, session: u32, statement: u32) {
         self.ask(within(shard, session, statement));
@@ -102,6 +116,31 @@ session 1
 round 2
 safe 2
 end ec 3 lce 2 lse 2
+";
+
+const EACH_IN_ITS_TURN: &str = "A statement begins once another one has ended.
+--cubes t --shards 2 1 2
+INSERT INTO t VALUES (0,1); SELECT COUNT(*) FROM t
+SELECT COUNT(*) FROM t; SELECT COUNT(*) FROM t
+== 0
+session 1
+1.1 stored 1 epoch 1
+1.2 rows 1 epoch 1
+1
+session 2
+2.1 rows 1 epoch 0
+0
+2.2 rows 1 epoch 1
+1
+journal 10
+read 2.1 epoch 0
+readend 2.1
+begin 1.1 epoch 1 deps []
+committed 1.1 epoch 1
+..
+round 1
+safe 1
+end ec 2 lce 1 lse 1
 ";
 
 const PENDING_HIDES: &str = "What is committed stays unseen while an older transaction is pending.
@@ -297,6 +336,15 @@ fn sessions_run_side_by_side(rt: HostRuntime) -> Result<(), Fail> {
         (within(0, 1, 1), within(1, 2, 2)),
     ];
     let wrong = difference_held(&rt, rt.alloc(), SIDE_BY_SIDE, &pairs)?;
+    assert_eq!(rt; wrong.as_deref(), None);
+    Ok(())
+}
+
+// The one session's first statement begins behind the other one's, and that one's second behind this.
+#[test]
+fn statements_begin_in_their_turn(rt: HostRuntime) -> Result<(), Fail> {
+    let pairs = [(before(1, 1), before(2, 2)), (before(2, 2), before(1, 2))];
+    let wrong = difference_held(&rt, rt.alloc(), EACH_IN_ITS_TURN, &pairs)?;
     assert_eq!(rt; wrong.as_deref(), None);
     Ok(())
 }

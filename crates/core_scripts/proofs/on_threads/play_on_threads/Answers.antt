@@ -18,8 +18,8 @@ run_core-requires-clause-may g c =
     let works = c.args.works.items in
     let serves = c.an_opened_core_serves_its_sessions.ensures in
     let may :
-    MayRun {W = ScriptWork g.row.H.Denot} {M = g.row.M.Denot}
-    (λ (w : ScriptWork g.row.H.Denot) (callers : ℕ) (there : List (CoreCell CoreShard)) (caller : ℕ).
+    MayRun {W = ScriptWork g.row.H.Denot g.row.G.Denot} {M = g.row.M.Denot}
+    (λ (w : ScriptWork g.row.H.Denot g.row.G.Denot) (callers : ℕ) (there : List (CoreCell CoreShard)) (caller : ℕ).
     MayPlay w.size.shards w.size.sessions w.player w.script.items w.replies.items (vec_capacity w.replies) callers there
     caller)
     g.M.MakesRounds.serves g.M.MakesRounds.has_kept size.shards size.sessions cells works c.args.maker =

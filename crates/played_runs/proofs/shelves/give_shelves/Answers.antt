@@ -44,9 +44,10 @@ sessions-preserved g c =
       long = omega (arith, longer, long);
       room = omega (arith, same_room, room);
       capacity = c.remove-shelf.ensures.capacity ∙ held.capacity;
-      ready = subst (λ (xs : List (ScriptWork g.row.H.Denot)). AreReadyWorks size 1 xs) (sym put.items)
+      ready = subst (λ (xs : List (ScriptWork g.row.H.Denot g.row.G.Denot)). AreReadyWorks size 1 xs) (sym put.items)
           (one-work-more size 1 works work held.ready (subst (λ (n : ℕ). IsReadyWork size n work) number made.ready));
-      rounds = subst (λ (xs : List (ScriptWork g.row.H.Denot)). AllByRecursion (HasRounds c.args.round_every) xs)
+      rounds = subst
+          (λ (xs : List (ScriptWork g.row.H.Denot g.row.G.Denot)). AllByRecursion (HasRounds c.args.round_every) xs)
           (sym put.items) (all-behind (HasRounds c.args.round_every) works work held.rounds made.every);
       same = moved-on script_of works now work (map script_ready c.sessions.left.items)
           (map script_ready c.remove-script.new.self.items) (map script_ready c.args.scripts.items) put.items
