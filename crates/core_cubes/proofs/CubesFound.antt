@@ -1,5 +1,5 @@
 -- A search for the cube of a name finds it, or refuses the statement.
-use Rattle.std.proofs.Common.{◌≡◌, ◌∙◌, ℕ, ◌+◌, List, [], ◌∷◌, ◌++◌, Option, Some, None, inl, inr, refl, sym, ap, subst}
+use Rattle.std.proofs.Common.{◌≡◌, ◌∙◌, ℕ, ◌+◌, List, [], ◌∷◌, ◌++◌, Option, Some, None, inl, inr, refl, sym, ap, subst, append-nil}
 use Rattle.std.specs.Prelude.{IfErr, IfOk, OnOk, Result, Ok, Err}
 use Rattle.aosi_desk.specs.declared.cube.CubeFound.{CubeFound}
 use Rattle.aosi_desk.specs.declared.cube.CubeFound.TheVariants.{Found, Unknown}
@@ -14,7 +14,7 @@ use Rattle.core_cubes.proofs.ExecutedBy.{refuses-so}
 use Rattle.core_cubes.specs.ExecutedWatched.{ExecutesWatched}
 use Rattle.core_cubes.proofs.StandingCubes.{stands-before}
 use Rattle.core_cubes.specs.MadeAndFound.{IsRefusedByName, cube_or_refusal}
-use Rattle.core_cubes.specs.StandingCubes.{StandsBefore}
+use Rattle.core_cubes.specs.StandingCubes.{HasFound, StandsBefore}
 use Rattle.core_cubes.specs.StatementCalls.{IsCallFor}
 use Rattle.core_cubes.specs.declared.naming.NamedCube.{NamedCube}
 use Rattle.core_events.specs.Clients.{ClientState}
@@ -90,6 +90,17 @@ module _ {S : Type 0} (fits : Opening → ℕ → ShardCall → Type 0) (stands 
       (desk_entry caller find (answer.Found (Found place decl)))
       name place decl (by_search session.number (session.statements + 1)))
   told-by-search Unknown is = tt
+
+  pub found-by-search : (found : CubeFound) → Asked found
+      → IfOk (cube_or_refusal found name) (λ cube. HasFound now name cube.place cube.decl)
+  found-by-search (Found place decl) is = record {
+    before = own;
+    caller = caller;
+    session = session.number;
+    statement = session.statements + 1;
+    begins = ([], append-nil (own ++ desk_entry caller find (answer.Found (Found place decl)) ∷ []) ∙ sym is);
+  }
+  found-by-search Unknown is = tt
 
   pub stands-by-search : (of_run : IsSessionOf fits stands says cells session.number) (found : CubeFound) → Asked found
       → IfOk (cube_or_refusal found name) (λ cube. StandsBefore fits stands says cells caller session.number

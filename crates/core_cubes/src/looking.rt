@@ -4,7 +4,7 @@ ghost use mathlib.Core.List.{IsPrefix};
 ghost use Rattle.core_program.specs.Knowing.{IsClientOf, IsSessionOf};
 ghost use Rattle.core_cubes.specs.ExecutedWatched.{ExecutesWatched};
 ghost use Rattle.core_cubes.specs.MadeAndFound.{IsRefusedByName, cube_or_refusal};
-ghost use Rattle.core_cubes.specs.StandingCubes.{StandsBefore};
+ghost use Rattle.core_cubes.specs.StandingCubes.{HasFound, StandsBefore};
 ghost use Rattle.core_cubes.specs.StatementCalls.{IsCallFor};
 ghost use Rattle.core_states.specs.ExecutedInCore.{HasOneMore};
 ghost use Rattle.core_states.specs.LeftBehind.{GoOnByCalls, LeavesBehind};
@@ -131,6 +131,8 @@ fn find_copied<S: LinkedShard, R: Wait, P: CellCaller<CoreCells<S>>>(
         (P.number caller.old) session.old.number (P.own caller.old) (P.own caller.new) []) }
     ensures told { IfOk result
         (λ cube. IsToldOfCube (P.own caller.new) name cube.place cube.decl) }
+    ensures searched { IfOk result
+        (λ cube. HasFound (P.own caller.new) name cube.place cube.decl) }
     ensures stands { IfOk result (λ cube. StandsBefore S.fits S.stands S.says
         (P.opening caller.old) (P.number caller.old) session.old.number
         (session.old.statements + 1) (P.own caller.old) (P.own caller.new) name cube.place
@@ -197,6 +199,8 @@ pub fn find_named<S: LinkedShard, R: Wait, P: CellCaller<CoreCells<S>>>(
         (P.number caller.old) session.old.number (P.own caller.old) (P.own caller.new) []) }
     ensures told { IfOk result
         (λ cube. IsToldOfCube (P.own caller.new) name.now cube.place cube.decl) }
+    ensures searched { IfOk result
+        (λ cube. HasFound (P.own caller.new) name.now cube.place cube.decl) }
     ensures stands { IfOk result (λ cube. StandsBefore S.fits S.stands S.says
         (P.opening caller.old) (P.number caller.old) session.old.number
         (session.old.statements + 1) (P.own caller.old) (P.own caller.new) name.now cube.place

@@ -19,7 +19,7 @@ use Rattle.linked_shards.specs.CellShards.{CoreShardStands}
 use Rattle.linked_shards.specs.declared.cell.CoreShard.{CoreShard}
 use Rattle.row_encoding.specs.CodedInserts.{AreCodedRows, HasCoords, HasNumbers}
 use Rattle.session_texts.proofs.KeptTexts.{texts-later, told_with}
-use Rattle.session_texts.specs.ToldTexts.{AreCubeTextsTold, AreOfDimensions, AreTextsTold, cardinalities}
+use Rattle.session_texts.specs.ToldTexts.{AreCubeTextsTold, AreOfDimensions, AreTextsTold, KeptTexts, cardinalities}
 use Rattle.session_texts.specs.declared.texts.TextsOfCube.{TextsOfCube}
 use Rattle.shard_events.specs.ShardsInRuns.{FitsShard, ShardAnswerSays}
 
@@ -69,8 +69,8 @@ may-ask cells caller session place own d dims known client is_session storable n
     }
 
 -- Texts are told where those of a cube were taken, more of them were learned, and they are put back.
-pub put-back-told : (caller place : ℕ) (own now : List CoreEntry) (cubes after : List (Option TextsOfCube))
-    (cube : TextsOfCube) (dims its : List DimDecl) → after ≡ set cubes place (Some cube) → GoOnByNames caller own now
+pub put-back-told : (caller place : ℕ) (own now : List CoreEntry) (cubes after : KeptTexts) (cube : TextsOfCube)
+    (dims its : List DimDecl) → after ≡ record cubes { cubes = set cubes.cubes place (Some cube) } → GoOnByNames caller own now
     → AreTextsTold own cubes → AreOfDimensions dims cube → length cube.texts ≡ length its
     → AreNumbersTold now place its cube.texts → dims ≡ its → AreTextsTold now after
 put-back-told caller place own now cubes after cube dims its is asks told sizes long right same =

@@ -1,9 +1,13 @@
--- The texts of cubes that a session knows, by the places of the cubes, and when its own calls told it of their numbers.
+-- What a session knows of cubes from one statement to the next: the cube that it found last, and the texts of cubes by
+-- the places of these; and when its own calls told it so.
 -- Source: Cubrick (VLDB 2016), dictionary encoding of text dimensions; what is known by own calls is this project's own.
-use Rattle.std.specs.Prelude.{◌≡◌, ℕ, List, [], length, map, get_or, replicate, Option, Some, None}
+use Rattle.std.specs.Prelude.{◌≡◌, ℕ, List, [], length, map, get_or, replicate, Option, Some, None, IfSome, cond}
+use Rattle.std.specs.Str.{bytes_eq}
 use Rattle.cube_language.specs.declared.decl.DimDecl.{DimDecl}
 use Rattle.core_program.specs.CoreFits.{CoreEntry}
+use Rattle.core_cubes.specs.StandingCubes.{HasFound}
 use Rattle.core_names.specs.KnownNumbers.{TextsByDim, AreNumbersTold}
+use Rattle.session_texts.specs.declared.texts.FoundCube.{FoundCube}
 use Rattle.session_texts.specs.declared.texts.TextsOfCube.{TextsOfCube}
 
 -- How many coordinates each dimension has.
@@ -17,6 +21,16 @@ no_texts dims = replicate (length dims) []
 -- What is kept of the cube at a place, if anything is.
 abbrev pub kept_at : List (Option TextsOfCube) → ℕ → Option TextsOfCube
 kept_at cubes place = get_or cubes place None
+
+-- What a session keeps: the cube that it found last, and the texts by the places of their cubes.
+pub record KeptTexts : Type 0 where
+  pub last : Option FoundCube
+  pub cubes : List (Option TextsOfCube)
+
+-- The cube of a name, where it was the last one found.
+abbrev pub last_named : List ℕ → Option FoundCube → Option FoundCube
+last_named name None = None
+last_named name (Some cube) = cond (bytes_eq cube.name name) (Some cube) None
 
 -- Kept texts are of a cube with such dimensions.
 abbrev pub AreOfDimensions : List DimDecl → TextsOfCube → Type 0
@@ -33,7 +47,16 @@ pub record AreKeptTextsTold (own : List CoreEntry) (place : ℕ) (cube : TextsOf
   pub sizes : AreOfDimensions dims cube
   pub told : AreCubeTextsTold own place dims cube.texts
 
--- So it is of all that are kept.
-abbrev pub AreTextsTold : List CoreEntry → List (Option TextsOfCube) → Type 0
-AreTextsTold own cubes =
+-- The session has found a cube by its name.
+abbrev pub IsFoundCube : List CoreEntry → FoundCube → Type 0
+IsFoundCube own cube = HasFound own cube.name cube.place cube.schema
+
+-- So it is of all texts that are kept.
+abbrev pub AreAllTextsTold : List CoreEntry → List (Option TextsOfCube) → Type 0
+AreAllTextsTold own cubes =
     (place : ℕ) (cube : TextsOfCube) → kept_at cubes place ≡ Some cube → AreKeptTextsTold own place cube
+
+-- So it is of all that is kept.
+pub record AreTextsTold (own : List CoreEntry) (kept : KeptTexts) : Type 0 where
+  pub found : IfSome kept.last (IsFoundCube own)
+  pub texts : AreAllTextsTold own kept.cubes

@@ -1,4 +1,4 @@
-//! The texts that a session knows, by the places of their cubes.
+//! What a session knows of cubes: the one that it found last, and texts by the places of their cubes.
 
 ghost use Rattle.std.specs.Prelude.{◌≡◌, List, [], None, Some, length, set, replicate, IfOk, IfSome};
 ghost use Rattle.cube_language.specs.declared.decl.DimDecl.{DimDecl};
@@ -7,12 +7,16 @@ ghost use Rattle.session_texts.specs.ToldTexts.{
   AreCubeTextsTold,
   AreOfDimensions,
   AreTextsTold,
+  IsFoundCube,
   cardinalities,
   kept_at,
+  last_named,
 };
 
 use core_names::CubeTexts;
 use cube_language::{DimDecl, MOST_CUBES};
+use cube_schema::Schema;
+use cube_values::Text;
 use std::alloc::{AllocError, Global};
 use std::marker::Model;
 
@@ -23,34 +27,44 @@ pub struct TextsOfCube {
     pub texts: CubeTexts,
 }
 
-/// The texts that a session knows of each cube, by the cube's place. A statement takes those of its
-/// cube, learns more, and puts them back.
+/// A cube that a session found by a name.
+#[derive(Drop)]
+pub struct FoundCube {
+    pub name: Text,
+    /// Its place in the list of cubes.
+    pub place: u32,
+    pub schema: Schema,
+}
+
+/// The cube that a session found last, and the texts that it knows of each cube, by the cube's place. A
+/// statement takes what is kept of its cube, learns more, and puts it back.
 #[derive(Drop)]
 pub struct SessionTexts {
+    last: Option<FoundCube>,
     cubes: Vec<Option<TextsOfCube>>,
 }
 
 impl Model for SessionTexts {
-    ghost use Rattle.std.specs.Prelude.{List, Option};
-    ghost use Rattle.session_texts.specs.declared.texts.TextsOfCube.{TextsOfCube};
+    ghost use Rattle.session_texts.specs.ToldTexts.{KeptTexts};
 
-    ghost Value = { List (Option TextsOfCube) };
+    ghost Value = { KeptTexts };
 
-    ghost view = { λ t. t.cubes.items };
+    ghost view = { λ t. record { last = t.last; cubes = t.cubes.items } };
 }
 
 impl SessionTexts {
     #[tactic(auto, using(crate::proofs::KeptTexts::none_told))]
-    /// No texts, of so many cubes as there can be.
+    /// No cube, and no texts, of so many cubes as there can be.
     pub fn new(alloc: Global) -> Result<SessionTexts, AllocError>
-        ensures none { IfOk result (λ texts. texts ≡ replicate MOST_CUBES None) }
+        ensures found { IfOk result (λ texts. texts.last ≡ None) }
+        ensures none { IfOk result (λ texts. texts.cubes ≡ replicate MOST_CUBES None) }
         ensures told { IfOk result (λ texts. (own : List CoreEntry) → AreTextsTold own texts) }
     {
         let mut cubes = Vec::with_capacity(alloc, MOST_CUBES)?;
         'cubes: for _cube in 0..MOST_CUBES {
             cubes.push(None)?;
         }
-        Ok(SessionTexts { cubes })
+        Ok(SessionTexts { last: None, cubes })
     }
 
     #[tactic(auto, using(crate::proofs::KeptTexts::kept_told, crate::proofs::KeptTexts::fresh_told, crate::proofs::KeptTexts::told_without))]
@@ -63,9 +77,9 @@ impl SessionTexts {
         dims: &[DimDecl],
     ) -> Result<TextsOfCube, AllocError>
         ensures sizes { IfOk result (AreOfDimensions dims.now) }
-        ensures kept { IfOk result (λ cube. IfSome (kept_at self.old place)
+        ensures kept { IfOk result (λ cube. IfSome (kept_at self.old.cubes place)
             (λ known. AreOfDimensions dims.now known → cube ≡ known)) }
-        ensures others { self.new ≡ set self.old place None }
+        ensures others { self.new ≡ record self.old { cubes = set self.old.cubes place None } }
         ensures told { (own : List CoreEntry) → AreTextsTold own self.old
             → IfOk result (λ cube. AreCubeTextsTold own place dims.now cube.texts) }
         ensures still { (own : List CoreEntry) → AreTextsTold own self.old
@@ -81,8 +95,8 @@ impl SessionTexts {
 
     // What is kept of the cube at a place, which is then kept no more.
     fn take_kept(&mut self, place: u32) -> Option<TextsOfCube>
-        ensures kept { result ≡ kept_at self.old place }
-        ensures others { self.new ≡ set self.old place None }
+        ensures kept { result ≡ kept_at self.old.cubes place }
+        ensures others { self.new ≡ record self.old { cubes = set self.old.cubes place None } }
     {
         if self.cubes.len() <= place as usize {
             return None;
@@ -93,7 +107,7 @@ impl SessionTexts {
     #[tactic(auto, using(crate::proofs::KeptTexts::told_with))]
     /// Keeps the texts of the cube at a place.
     pub fn put_back(&mut self, place: u32, cube: TextsOfCube)
-        ensures kept { self.new ≡ set self.old place (Some cube) }
+        ensures kept { self.new ≡ record self.old { cubes = set self.old.cubes place (Some cube) } }
         ensures told { (own : List CoreEntry) (dims : List DimDecl) → AreTextsTold own self.old
             → AreOfDimensions dims cube → AreCubeTextsTold own place dims cube.texts
             → AreTextsTold own self.new }
@@ -101,6 +115,30 @@ impl SessionTexts {
         if (place as usize) < self.cubes.len() {
             self.cubes[place as usize] = Some(cube);
         }
+    }
+
+    #[tactic(auto, using(crate::proofs::KeptTexts::found_by_name, crate::proofs::KeptTexts::told_no_cube))]
+    /// The cube of a name, where it was the last one found. None is kept from then on.
+    pub fn take_cube(&mut self, name: &Text) -> Option<FoundCube>
+        ensures found { result ≡ last_named name.now self.old.last }
+        ensures others { self.new ≡ record self.old { last = None } }
+        ensures told { (own : List CoreEntry) → AreTextsTold own self.old
+            → IfSome result (λ cube. (cube.name ≡ name.now) × IsFoundCube own cube) }
+        ensures still { (own : List CoreEntry) → AreTextsTold own self.old
+            → AreTextsTold own self.new }
+    {
+        let cube = self.last.take()?;
+        if cube.name == *name { Some(cube) } else { None }
+    }
+
+    #[tactic(auto, using(crate::proofs::KeptTexts::told_cube))]
+    /// Keeps a cube as the one that was found last.
+    pub fn keep_cube(&mut self, cube: FoundCube)
+        ensures kept { self.new ≡ record self.old { last = Some cube } }
+        ensures told { (own : List CoreEntry) → AreTextsTold own self.old → IsFoundCube own cube
+            → AreTextsTold own self.new }
+    {
+        self.last = Some(cube);
     }
 }
 

@@ -5,10 +5,10 @@ use Rattle.core_cells.specs.declared.desk.DeskAnswer.TheVariants as answer
 use Rattle.core_cells.specs.declared.desk.DeskCall.TheVariants as call
 use Rattle.core_cubes.proofs.CallsForStatements.{plain-for}
 use Rattle.core_cubes.proofs.CallsGoOn.{go-on-as}
-use Rattle.core_cubes.proofs.CubesFound.{calls-by-search, counts-either-way, executed-by-search, left-by-search, memory-by-name, said-by-search, stands-by-search, stopped-by-search, told-by-search}
+use Rattle.core_cubes.proofs.CubesFound.{calls-by-search, counts-either-way, executed-by-search, found-by-search, left-by-search, memory-by-name, said-by-search, stands-by-search, stopped-by-search, told-by-search}
 use Rattle.core_cubes.specs.ExecutedWatched.{ExecutesWatched}
 use Rattle.core_cubes.specs.MadeAndFound.{IsRefusedByName}
-use Rattle.core_cubes.specs.StandingCubes.{StandsBefore}
+use Rattle.core_cubes.specs.StandingCubes.{HasFound, StandsBefore}
 use Rattle.core_cubes.specs.StatementCalls.{IsCallFor}
 use Rattle.core_cubes.specs.declared.naming.NamedCube.{NamedCube}
 use Rattle.core_states.proofs.Holding.{held_for, holds-on, ready-for-mode}
@@ -97,6 +97,23 @@ returns-in-Some-clause-told g c =
     subst (λ (r : Result NamedCube Answered). IfOk r (λ cube. IsToldOfCube now c.args.name cube.place cube.decl))
     (sym c.cube_or_refusal.ensures)
     (told-by-search g.S.LinkedShard.fits g.S.LinkedShard.stands g.S.LinkedShard.says
+    (g.P.CellCaller.opening c.args.caller.now) (g.P.CellCaller.number c.args.caller.now)
+    session c.requires.client own now c.args.statement.now c.args.name found asked)
+
+pub returns-in-Some-clause-searched : goal.returns-in-Some-clause-searched
+returns-in-Some-clause-searched g c =
+    let session = c.args.session.now in
+    let own = g.P.CellCaller.own c.args.caller.now in
+    let now = g.P.CellCaller.own c.find_cube.new.caller in
+    let found = c.in-Some.found in
+    let asked =
+    c.in-Some.ensures.own
+    ∙ ap (λ (n : List ℕ). own ++ desk_entry (g.P.CellCaller.number c.args.caller.now)
+    (call.FindCube session.number (session.statements + 1) n) (answer.Found found) ∷ []) c.requires.copy
+    in
+    subst (λ (r : Result NamedCube Answered). IfOk r (λ cube. HasFound now c.args.name cube.place cube.decl))
+    (sym c.cube_or_refusal.ensures)
+    (found-by-search g.S.LinkedShard.fits g.S.LinkedShard.stands g.S.LinkedShard.says
     (g.P.CellCaller.opening c.args.caller.now) (g.P.CellCaller.number c.args.caller.now)
     session c.requires.client own now c.args.statement.now c.args.name found asked)
 

@@ -1,21 +1,21 @@
 use Rattle.std.proofs.Common.{sym, subst}
 use Rattle.core_changes.proofs.BegunChanges.{nothing-yet}
 use Rattle.core_inserts.specs.InsertEnds.{IsInsertText, AnswersAsInsert, without_memory}
-use Rattle.cube_language.specs.declared.decl.Decl.{Decl}
-use Rattle.inserted_rows.specs.RowsInTheEnd.{IsToldOfCubeAt}
+use Rattle.session_texts.specs.ToldTexts.{IsFoundCube}
+use Rattle.session_texts.specs.declared.texts.FoundCube.{FoundCube}
 use Rattle.core_inserts.proofs.inserts.insert_found.Goals as goal
 
-pub insert_bound-requires-clause-told : goal.insert_bound-requires-clause-told
-insert_bound-requires-clause-told g c =
-    subst (λ (d : Decl). IsToldOfCubeAt (g.P.CellCaller.own c.args.caller.now) c.args.cube.now.place d)
-    (sym c.in-Ok.ensures) c.requires.told
+pub insert_kept-requires-clause-found : goal.insert_kept-requires-clause-found
+insert_kept-requires-clause-found g c =
+    subst (λ (f : FoundCube). IsFoundCube (g.P.CellCaller.own c.args.caller.now) f) (sym c.in-Ok.ensures)
+    c.requires.found
 
 pub returns-in-Ok-clause-answered : goal.returns-in-Ok-clause-answered
 returns-in-Ok-clause-answered g c =
     let old = c.args.caller.now in
-    subst (λ (d : Decl). AnswersAsInsert (g.P.CellCaller.opening old) (g.P.CellCaller.number old) c.args.session.now
-    c.args.statement.now (g.P.CellCaller.own old) (g.P.CellCaller.own c.insert_bound.new.caller) c.args.cube.now.place d
-    c.insert_bound.new.session c.insert_bound.result) c.in-Ok.ensures c.insert_bound.ensures.answered
+    subst (λ (f : FoundCube). AnswersAsInsert (g.P.CellCaller.opening old) (g.P.CellCaller.number old)
+    c.args.session.now c.args.statement.now (g.P.CellCaller.own old) (g.P.CellCaller.own c.insert_kept.new.caller)
+    f.place f.schema c.insert_kept.new.session c.insert_kept.result) c.in-Ok.ensures c.insert_kept.ensures.answered
 
 pub refuse_insert-requires-clause-why : goal.refuse_insert-requires-clause-why
 refuse_insert-requires-clause-why g c = without_memory

@@ -15,7 +15,7 @@ use Rattle.scripted_pasts.specs.Served.{IsServed}
 use Rattle.session_desk.specs.Executed.{IfReplied}
 use Rattle.session_replies.specs.Modes.{mode_of}
 use Rattle.shard_events.specs.ShardsInRuns.{FitsShard, ShardAnswerSays}
-use Rattle.core_inserts.proofs.inserts.insert_named.Goals as goal
+use Rattle.core_inserts.proofs.inserts.insert_searched.Goals as goal
 
 pub find_named-requires-clause-client : goal.find_named-requires-clause-client
 find_named-requires-clause-client g c = c.requires.served.client
@@ -34,8 +34,8 @@ insert_found-requires-clause-may g c =
     (coe 1 0 (i. IsServed (did.opening i) (did.number i) old.number shards) c.requires.served) did.holds
     c.requires.counted (is-active (mode_of old.mode) c.args.statement.now c.requires.inserts c.requires.may)
 
-pub insert_found-requires-clause-told : goal.insert_found-requires-clause-told
-insert_found-requires-clause-told g c = (c.args.name.now, c.in-Ok.ensures.told)
+pub insert_found-requires-clause-found : goal.insert_found-requires-clause-found
+insert_found-requires-clause-found g c = c.in-Ok.ensures.searched
 
 pub insert_found-requires-clause-texts : goal.insert_found-requires-clause-texts
 insert_found-requires-clause-texts g c =
