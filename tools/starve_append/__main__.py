@@ -66,11 +66,25 @@ def word(step):
     return " ".join([step[0], *map(str, numbers(step[1:]))])
 
 
+def named_by(line):
+    """The crates that a line of crates.txt names."""
+    return line.split(":")[1].split()
+
+
+def all_below(lines, crate):
+    """The crates of the repository on which one stands, each behind those on which it stands itself."""
+    found = []
+    for name in named_by(lines[crate]):
+        if name in lines:
+            found += [it for it in [*all_below(lines, name), name] if it not in found]
+    return found
+
+
 def built(folder):
     """The program, unproved, with steps enough to run until it is found."""
     lines = [it for it in (ROOT / "crates.txt").read_text().splitlines() if re.match(r"\w+:", it)]
     lines = {it.split(":")[0]: it for it in lines}
-    below = [*lines["shard_cell"].split(":")[1].split(), "shard_cell"]
+    below = [*all_below(lines, "shard_cell"), "shard_cell"]
     for name in below:
         ignored = shutil.ignore_patterns("out")
         shutil.copytree(ROOT / "crates" / name, folder / "crates" / name, ignore=ignored)
