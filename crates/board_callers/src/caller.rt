@@ -57,6 +57,7 @@ impl<C: Cells> CellCaller<C> for Pass<C> {
 
     ghost others = { λ p. other_hands (hands_of p) };
 
+    #[inline(always)]
     fn call<R: Wait>(&mut self, rt: &R, board: &Board<C>, cell: u32, call: C::Call) -> C::Answer {
         board.call(rt, self, cell, call)
     }

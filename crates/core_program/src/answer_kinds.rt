@@ -14,6 +14,7 @@ use cube_core::{CoreAnswer, Job, JobAnswer};
 use mail_cell::Fetched;
 
 // What the desk answered.
+#[inline(always)]
 pub(crate) fn desk_answer_in(came: CoreAnswer) -> DeskAnswer
     requires { (c : DeskCall) × CoreAnswers (call.Desk c) came }
     ensures { came ≡ answer.Desk result }
@@ -25,6 +26,7 @@ pub(crate) fn desk_answer_in(came: CoreAnswer) -> DeskAnswer
 }
 
 // What the names answered.
+#[inline(always)]
 pub(crate) fn names_answer_in(came: CoreAnswer) -> NamesAnswer
     requires { (c : NamesCall) × CoreAnswers (call.Names c) came }
     ensures { came ≡ answer.Names result }
@@ -36,6 +38,7 @@ pub(crate) fn names_answer_in(came: CoreAnswer) -> NamesAnswer
 }
 
 // A post is done.
+#[inline(always)]
 pub(crate) fn expect_posted(came: CoreAnswer)
     requires { (client : ℕ) × (job : Job) × CoreAnswers (call.Mail (mail.Post client job)) came }
     ensures { came ≡ answer.Mail got.Done }
@@ -46,6 +49,7 @@ pub(crate) fn expect_posted(came: CoreAnswer)
     }
 }
 
+#[inline(always)]
 fn expect_posted_mail(came: MailAnswer<Job, JobAnswer>)
     requires { (client : ℕ) × (job : Job) × MailAnswers (mail.Post client job) came }
     ensures { came ≡ got.Done }
@@ -57,6 +61,7 @@ fn expect_posted_mail(came: MailAnswer<Job, JobAnswer>)
 }
 
 // A mail is closed.
+#[inline(always)]
 pub(crate) fn expect_closed(came: CoreAnswer)
     requires { CoreAnswers (call.Mail mail.Close) came }
     ensures { came ≡ answer.Mail got.Done }
@@ -67,6 +72,7 @@ pub(crate) fn expect_closed(came: CoreAnswer)
     }
 }
 
+#[inline(always)]
 fn expect_closed_mail(came: MailAnswer<Job, JobAnswer>)
     requires { MailAnswers mail.Close came }
     ensures { came ≡ got.Done }
@@ -78,6 +84,7 @@ fn expect_closed_mail(came: MailAnswer<Job, JobAnswer>)
 }
 
 // What a fetch gave.
+#[inline(always)]
 pub(crate) fn fetched_in(came: CoreAnswer) -> Fetched<JobAnswer>
     requires { (client : ℕ) × CoreAnswers (call.Mail (mail.Fetch client)) came }
     ensures { came ≡ answer.Mail (got.Fetched result) }
@@ -88,6 +95,7 @@ pub(crate) fn fetched_in(came: CoreAnswer) -> Fetched<JobAnswer>
     }
 }
 
+#[inline(always)]
 fn fetched_in_mail(came: MailAnswer<Job, JobAnswer>) -> Fetched<JobAnswer>
     requires { (client : ℕ) × MailAnswers (mail.Fetch client) came }
     ensures { came ≡ got.Fetched result }

@@ -15,6 +15,7 @@ use std::sync::Wait;
 use turn_board::Board;
 
 /// Makes a call on the desk that the client knows it may make. The answer is one that the call may have.
+#[inline(always)]
 pub fn call_desk_cell<S: LinkedShard, R: Wait, P: CellCaller<CoreCells<S>>>(
     rt: &R,
     board: &Board<CoreCells<S>>,
@@ -41,6 +42,7 @@ pub fn call_desk_cell<S: LinkedShard, R: Wait, P: CellCaller<CoreCells<S>>>(
 }
 
 /// Makes a call on the names that the client knows it may make. The answer is one that the call may have.
+#[inline(always)]
 pub fn call_names_cell<S: LinkedShard, R: Wait, P: CellCaller<CoreCells<S>>>(
     rt: &R,
     board: &Board<CoreCells<S>>,

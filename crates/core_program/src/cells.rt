@@ -26,6 +26,7 @@ impl<S: LinkedShard> Cells for CoreCells<S> {
 
     ghost fits = { FitsOwnCalls S.LinkedShard.fits S.LinkedShard.stands S.LinkedShard.says };
 
+    #[inline(always)]
     fn apply(cell: &mut CoreCell<S>, call: CoreCall) -> CoreAnswer {
         apply(cell, call)
     }

@@ -20,6 +20,7 @@ use std::sync::Wait;
 use turn_board::Board;
 
 /// Posts a job to a mail and wakes whoever serves it. The client knows that it may.
+#[inline(always)]
 pub fn post_job<S: LinkedShard, R: Wait, P: CellCaller<CoreCells<S>>>(
     rt: &R,
     board: &Board<CoreCells<S>>,
@@ -54,6 +55,7 @@ pub fn post_job<S: LinkedShard, R: Wait, P: CellCaller<CoreCells<S>>>(
 }
 
 // Asks a mail once for the answer.
+#[inline(always)]
 fn ask_for_answer<S: LinkedShard, R: Wait, P: CellCaller<CoreCells<S>>>(
     rt: &R,
     board: &Board<CoreCells<S>>,

@@ -63,6 +63,7 @@ pub fn ask_each_shard<S: LinkedShard, R: Wait, P: CellCaller<CoreCells<S>>>(
         };
         post_job(rt, board, caller, size, client, number, job);
     }
+    caller.rest(rt, board);
     'fetches: for number in 0..size.shards {
         let answer = fetch_answer(rt, board, caller, size, client, number);
         answers.push_reserved(answer);

@@ -63,6 +63,7 @@ pub fn ask_some_shards<S: LinkedShard, R: Wait, P: CellCaller<CoreCells<S>>>(
         };
         post_job(rt, board, caller, size, client, numbers[place], job);
     }
+    caller.rest(rt, board);
     'fetches: for place in 0..numbers.len() {
         let answer = fetch_answer(rt, board, caller, size, client, numbers[place]);
         answers.push_reserved(answer);

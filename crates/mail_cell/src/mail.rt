@@ -60,6 +60,7 @@ impl<J, A: Drop> Mail<J, A> {
 
     /// Puts a client's job behind those that are posted. The client has no job posted or out, and no answer
     /// that it has not fetched.
+    #[inline(always)]
     pub fn post(&mut self, client: u32, job: J)
         requires known { client < length self.old.places }
         requires idle { place_of self.old client ≡ Idle }
@@ -71,6 +72,7 @@ impl<J, A: Drop> Mail<J, A> {
 
     /// Takes the job that was posted first of those that are posted. Where there is none, the answer is
     /// `Empty` of an open mail and `Closed` of a closed one.
+    #[inline(always)]
     pub fn take(&mut self) -> Taken<J>
         ensures taken { result ≡ taken self.old.posted self.old.closed }
         ensures after { self.new ≡ after_take self.old }
@@ -87,6 +89,7 @@ impl<J, A: Drop> Mail<J, A> {
     }
 
     /// Keeps the answer to a client's job for that client. The job is out.
+    #[inline(always)]
     pub fn reply(&mut self, client: u32, answer: A)
         requires known { client < length self.old.places }
         requires out { place_of self.old client ≡ Out }
@@ -96,6 +99,7 @@ impl<J, A: Drop> Mail<J, A> {
     }
 
     /// Takes the answer that is kept for a client. It is `NotYet` where none is.
+    #[inline(always)]
     pub fn fetch(&mut self, client: u32) -> Fetched<A>
         requires { client < length self.old.places }
         ensures fetched { result ≡ fetched (place_of self.old client) }

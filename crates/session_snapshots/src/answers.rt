@@ -16,6 +16,7 @@ use cube_journal::Counters;
 use cube_values::Snapshot;
 
 // The writer that was opened.
+#[inline(always)]
 pub(crate) fn writer_in(said: DeskAnswer) -> Option<Snapshot>
     requires { (session statement : ℕ) × DeskAnswers (call.OpenWrite session statement) said }
     ensures said { said ≡ option_map_or answer.Opened result answer.NoMemory }
@@ -29,6 +30,7 @@ pub(crate) fn writer_in(said: DeskAnswer) -> Option<Snapshot>
 }
 
 // The reader that was opened.
+#[inline(always)]
 pub(crate) fn reader_in(said: DeskAnswer) -> Option<Snapshot>
     requires { (number statement : ℕ) × DeskAnswers (call.OpenRead number statement) said }
     ensures said { said ≡ option_map_or answer.Opened result answer.NoMemory }
@@ -42,6 +44,7 @@ pub(crate) fn reader_in(said: DeskAnswer) -> Option<Snapshot>
 }
 
 // A snapshot was ended.
+#[inline(always)]
 pub(crate) fn expect_done(said: DeskAnswer)
     requires { (c : DeskCall) × IsEndingCall c × DeskAnswers c said }
     ensures { said ≡ answer.Done }
@@ -53,6 +56,7 @@ pub(crate) fn expect_done(said: DeskAnswer)
 }
 
 // What was found of a cube.
+#[inline(always)]
 pub(crate) fn found_in(said: DeskAnswer) -> Option<CubeFound>
     requires { (session statement : ℕ) × (name : List ℕ)
         × DeskAnswers (call.FindCube session statement name) said }
@@ -66,6 +70,7 @@ pub(crate) fn found_in(said: DeskAnswer) -> Option<CubeFound>
 }
 
 // What became of a cube that was to be made.
+#[inline(always)]
 pub(crate) fn created_in(said: DeskAnswer) -> Option<CubeAnswer>
     requires { (session statement : ℕ) × (decl : Decl)
         × DeskAnswers (call.CreateCube session statement decl) said }
@@ -79,6 +84,7 @@ pub(crate) fn created_in(said: DeskAnswer) -> Option<CubeAnswer>
 }
 
 // The counters with which a note was taken.
+#[inline(always)]
 pub(crate) fn noted_in(said: DeskAnswer) -> Option<Counters>
     requires { (note : Note) × DeskAnswers (call.Note note) said }
     ensures { said ≡ option_map_or answer.Counted result answer.NoMemory }
@@ -91,6 +97,7 @@ pub(crate) fn noted_in(said: DeskAnswer) -> Option<Counters>
 }
 
 // The counters.
+#[inline(always)]
 pub(crate) fn counters_in(said: DeskAnswer) -> Counters
     requires { DeskAnswers call.Counters said }
     ensures { said ≡ answer.Counted result }

@@ -17,6 +17,7 @@ use std::sync::Wait;
 use turn_board::Board;
 
 /// Commits the writer that the session holds. It then holds nothing.
+#[inline(always)]
 pub fn commit<S: LinkedShard, R: Wait, P: CellCaller<CoreCells<S>>>(
     rt: &R,
     board: &Board<CoreCells<S>>,

@@ -24,6 +24,7 @@ use turn_board::Board;
 
 /// Looks for the cube of a name, whatever the session holds; it then holds the same. None: the desk
 /// was out of memory.
+#[inline(always)]
 pub fn find_cube<S: LinkedShard, R: Wait, P: CellCaller<CoreCells<S>>>(
     rt: &R,
     board: &Board<CoreCells<S>>,
@@ -94,6 +95,7 @@ pub fn create_cube<S: LinkedShard, R: Wait, P: CellCaller<CoreCells<S>>>(
 
 /// Leaves a note that the session may leave, and shows the counters. Whatever the session holds, it
 /// then holds the same. None: the desk was out of memory.
+#[inline(always)]
 pub fn leave_note<S: LinkedShard, R: Wait, P: CellCaller<CoreCells<S>>>(
     rt: &R,
     board: &Board<CoreCells<S>>,

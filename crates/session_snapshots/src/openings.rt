@@ -19,6 +19,7 @@ use turn_board::Board;
 
 /// Opens a writer for a session that holds nothing, which then holds it. None: the desk was out of
 /// memory, and it still holds nothing.
+#[inline(always)]
 pub fn open_writer<S: LinkedShard, R: Wait, P: CellCaller<CoreCells<S>>>(
     rt: &R,
     board: &Board<CoreCells<S>>,
@@ -51,6 +52,7 @@ pub fn open_writer<S: LinkedShard, R: Wait, P: CellCaller<CoreCells<S>>>(
 
 /// Opens a reader under its own number for a session that holds nothing, which then holds it. None:
 /// the desk was out of memory, and it still holds nothing.
+#[inline(always)]
 pub fn open_reader<S: LinkedShard, R: Wait, P: CellCaller<CoreCells<S>>>(
     rt: &R,
     board: &Board<CoreCells<S>>,

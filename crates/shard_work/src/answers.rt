@@ -15,6 +15,7 @@ use cube_core::{CoreAnswer, Job, JobAnswer, ShardAnswer, ShardCall, Work};
 use mail_cell::Taken;
 
 // What was taken.
+#[inline(always)]
 pub(crate) fn taken_in(came: CoreAnswer) -> Taken<Job>
     requires { CoreAnswers (call.Mail mail.Take) came }
     ensures { came ≡ answer.Mail (got.Taken result) }
@@ -25,6 +26,7 @@ pub(crate) fn taken_in(came: CoreAnswer) -> Taken<Job>
     }
 }
 
+#[inline(always)]
 fn taken_in_mail(came: MailAnswer<Job, JobAnswer>) -> Taken<Job>
     requires { MailAnswers mail.Take came }
     ensures { came ≡ got.Taken result }
@@ -36,6 +38,7 @@ fn taken_in_mail(came: MailAnswer<Job, JobAnswer>) -> Taken<Job>
 }
 
 // What the shard answered.
+#[inline(always)]
 pub(crate) fn shard_answer_in(came: CoreAnswer) -> ShardAnswer
     requires { (c : ShardCall) × CoreAnswers (call.Shard c) came }
     ensures { came ≡ answer.Shard result }
@@ -47,6 +50,7 @@ pub(crate) fn shard_answer_in(came: CoreAnswer) -> ShardAnswer
 }
 
 // A reply is done.
+#[inline(always)]
 pub(crate) fn expect_done(came: CoreAnswer)
     requires { (client : ℕ) × (said : JobAnswer)
         × CoreAnswers (call.Mail (mail.Reply client said)) came }
@@ -58,6 +62,7 @@ pub(crate) fn expect_done(came: CoreAnswer)
     }
 }
 
+#[inline(always)]
 fn expect_done_mail(came: MailAnswer<Job, JobAnswer>)
     requires { (client : ℕ) × (said : JobAnswer) × MailAnswers (mail.Reply client said) came }
     ensures { came ≡ got.Done }
@@ -69,6 +74,7 @@ fn expect_done_mail(came: MailAnswer<Job, JobAnswer>)
 }
 
 // The call that a job for a shard asks for.
+#[inline(always)]
 pub(crate) fn shard_call_in(asked: Work) -> ShardCall
     requires { IsShardWork asked }
     ensures { asked ≡ work.Shard result }

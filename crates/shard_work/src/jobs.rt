@@ -17,6 +17,7 @@ use std::sync::Wait;
 use turn_board::Board;
 
 // Takes the job that was posted first to the worker's mail.
+#[inline(always)]
 pub(crate) fn take_job<S: LinkedShard, R: Wait, P: CellCaller<CoreCells<S>>>(
     rt: &R,
     board: &Board<CoreCells<S>>,
@@ -44,6 +45,7 @@ pub(crate) fn take_job<S: LinkedShard, R: Wait, P: CellCaller<CoreCells<S>>>(
 }
 
 // Does the call of the job that was taken.
+#[inline(always)]
 pub(crate) fn make_call<S: LinkedShard, R: Wait, P: CellCaller<CoreCells<S>>>(
     rt: &R,
     board: &Board<CoreCells<S>>,
@@ -72,6 +74,7 @@ pub(crate) fn make_call<S: LinkedShard, R: Wait, P: CellCaller<CoreCells<S>>>(
 }
 
 // Replies the answer to the client that posted the job, and wakes it.
+#[inline(always)]
 pub(crate) fn reply_to<S: LinkedShard, R: Wait, P: CellCaller<CoreCells<S>>>(
     rt: &R,
     board: &Board<CoreCells<S>>,
@@ -107,6 +110,7 @@ pub(crate) fn reply_to<S: LinkedShard, R: Wait, P: CellCaller<CoreCells<S>>>(
 
 // Does a job that was taken, and replies. The gate may keep the worker before the job's call; a job of
 // main or the flusher asks no gate.
+#[inline(always)]
 pub(crate) fn do_job<S: LinkedShard, R: Wait, P: CellCaller<CoreCells<S>>, G: Gate>(
     rt: &R,
     board: &Board<CoreCells<S>>,

@@ -13,7 +13,7 @@ const RUNG: u64 = 1;
 const ASLEEP: u64 = 2;
 
 // How often a caller looks at its bell at first.
-const LOOKS: u32 = 50;
+const LOOKS: u32 = 8;
 
 // How often it then lets another thread have the processor between two looks, before it sleeps.
 const YIELDS: u32 = 300;

@@ -121,6 +121,7 @@ impl<C: Cells> Board<C> {
     }
 
     // Makes the call on the cell in its place.
+    #[inline(always)]
     fn apply(
         &self,
         seat: &mut Seat<Lane<C::Cell>, PassView<C::Cell, C::Call, C::Answer>>,
@@ -138,6 +139,7 @@ impl<C: Cells> Board<C> {
     }
 
     // Passes the turn on. The event joins the history.
+    #[inline(always)]
     fn pass_on<E: Naming<C::Call, C::Answer>>(
         &self,
         seat: &mut Seat<Lane<C::Cell>, PassView<C::Cell, C::Call, C::Answer>>,

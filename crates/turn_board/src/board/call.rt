@@ -11,6 +11,7 @@ use std::sync::Wait;
 
 impl<C: Cells> Board<C> {
     /// Makes a call on a cell, for the number that the pass acts as. It waits for its turn.
+    #[inline(always)]
     pub fn call<R: Wait>(&self, rt: &R, pass: &mut Pass<C>, cell: u32, call: C::Call) -> C::Answer
         requires pass { IsPassOf self.now pass.old }
         requires cell { cell < cells_of self.now }
