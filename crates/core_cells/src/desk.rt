@@ -86,6 +86,7 @@ pub enum DeskAnswer {
 }
 
 /// Makes a call on the desk.
+#[inline(always)]
 pub fn call_desk(alloc: Global, desk: &mut Desk, call: DeskCall) -> DeskAnswer
     requires { CanCallDesk desk.old call }
     ensures { DeskStep desk.old call result desk.new }

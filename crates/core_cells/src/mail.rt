@@ -28,6 +28,7 @@ pub enum MailAnswer<J, A> {
 }
 
 /// Makes a call on a mail.
+#[inline(always)]
 pub fn call_mail<J, A: Drop>(mail: &mut Mail<J, A>, call: MailCall<J, A>) -> MailAnswer<J, A>
     requires { CanCallMail mail.old call }
     ensures { MailStep mail.old call result mail.new }

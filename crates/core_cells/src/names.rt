@@ -2,7 +2,7 @@
 
 ghost use Rattle.core_cells.specs.NamesCalls.{CanCallNames, NamesStep};
 
-use cube_values::{CubeShape, Text, Texts};
+use cube_values::{SharedShape, Text, Texts};
 use names_dict::{Code, Dicts};
 use std::alloc::AllocError;
 
@@ -13,7 +13,7 @@ pub enum NamesCall {
     Encode {
         cube: u32,
         dim: u32,
-        shape: CubeShape,
+        shape: SharedShape,
         name: Text,
     },
     /// The number of a name.
@@ -51,7 +51,7 @@ pub fn call_names(names: &mut Dicts, call: NamesCall) -> NamesAnswer
             dim,
             shape,
             name,
-        } => match names.encode(cube, dim, &shape, name.as_str()) {
+        } => match names.encode(cube, dim, shape.shape(), name.as_str()) {
             Ok(code) => NamesAnswer::Coded(code),
             Err(AllocError) => NamesAnswer::NoMemory,
         },

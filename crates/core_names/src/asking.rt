@@ -16,7 +16,7 @@ use board_callers::CellCaller;
 use core_cells::{NamesAnswer, NamesCall};
 use core_program::{CoreCells, answers_fit_their_calls, clients_fit_by_what_they_know};
 use cube_core::{CoreAnswer, CoreCall, LinkedShard};
-use cube_values::{CubeShape, Text};
+use cube_values::{SharedShape, Text};
 use names_dict::Code;
 use std::alloc::AllocError;
 use std::sync::Wait;
@@ -55,7 +55,7 @@ pub(crate) fn ask_for_code<S: LinkedShard, R: Wait, P: CellCaller<CoreCells<S>>>
     client: u32,
     cube: u32,
     dim: u32,
-    shape: CubeShape,
+    shape: SharedShape,
     name: Text,
 ) -> Result<Code, AllocError>
     requires board { P.calls_on board.now caller.old }

@@ -16,20 +16,13 @@ use board_callers::CellCaller;
 use core_program::{CoreCells, clients_know_their_runs};
 use cube_core::LinkedShard;
 use cube_schema::Schema;
-use cube_values::{CubeShape, Text};
+use cube_values::Text;
 use known_cubes::sessions_may_ask_names_of_told_cubes;
 use names_dict::Code;
 use row_encoding::Encoder;
 use std::alloc::{AllocError, Global};
 use std::sync::Wait;
 use turn_board::Board;
-
-// A copy of a shape.
-fn copy_of(shape: &CubeShape) -> Result<CubeShape, AllocError>
-    ensures { IfOk result (λ copied. copied ≡ shape.now) }
-{
-    shape.clone()
-}
 
 /// The code of a text in a dimension of texts of the cube that the session was told of. Where the
 /// text is known it makes no call; else it asks the dictionary, and knows from then on what number
@@ -71,7 +64,7 @@ fn code_of_text<S: LinkedShard, R: Wait, P: CellCaller<CoreCells<S>>>(
     if let Some(number) = known.find(dim, text.as_bytes()) {
         return Ok(Code::Known(number));
     }
-    let shape = copy_of(cube.cube_shape())?;
+    let shape = cube.shared_shape().share()?;
     let name = Text::new(alloc, text)?;
     let code = ask_for_code(rt, board, caller, session, place, dim, shape, name)?;
     known.learn(dim, text.as_bytes(), code)?;

@@ -21,7 +21,7 @@ use copied_names::copy_names_of_cube;
 use core_program::CoreSize;
 use cube_language::Statement;
 use cube_schema::Schema;
-use cube_values::{BoundQuery, CubeShape, NameLists, Snapshot, Table};
+use cube_values::{BoundQuery, NameLists, SharedShape, Snapshot, Table};
 use linked_shards::{CoreShard, ShardCells};
 use session_groups::scan_shards;
 use std::alloc::{AllocError, Global};
@@ -37,7 +37,7 @@ fn read_scanned<R: Wait, P: CellCaller<ShardCells>>(
     session: u32,
     number: u32,
     statement: &Statement,
-    shape: &CubeShape,
+    shape: &SharedShape,
     query: BoundQuery,
     names: NameLists,
     snapshot: &Snapshot,
@@ -114,7 +114,7 @@ fn read_named<R: Wait, P: CellCaller<ShardCells>>(
             session,
             number,
             statement,
-            cube.cube_shape(),
+            cube.shared_shape(),
             query,
             only,
             snapshot,

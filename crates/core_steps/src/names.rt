@@ -19,7 +19,7 @@ use crate::writes::put_batch;
 use board_callers::CellCaller;
 use core_cells::{NamesAnswer, NamesCall};
 use core_program::{CoreSize, call_names_cell};
-use cube_values::{CubeShape, Snapshot, Text};
+use cube_values::{SharedShape, Snapshot, Text};
 use known_cubes::{clients_know_names_they_were_told_of, sessions_may_ask_names_of_told_cubes};
 use linked_shards::{CoreShard, ShardCells};
 use names_dict::Code;
@@ -37,18 +37,18 @@ pub enum NameAdded {
 }
 
 // The shape of a cube.
-fn shape_of_cube(cube: &ToldCube) -> Option<CubeShape>
+fn shape_of_cube(cube: &ToldCube) -> Option<SharedShape>
     ensures value { IfSome result (λ shape. shape ≡ cube_of cube.now.schema) }
     ensures sound { IfSome result IsSoundCube }
 {
-    cube.schema.cube_shape().clone().ok()
+    cube.schema.shared_shape().share().ok()
 }
 
 // Whether the first dimension has texts.
-fn begins_with_texts(shape: &CubeShape) -> bool
+fn begins_with_texts(shape: &SharedShape) -> bool
     ensures { IsTrue result → IsTextDimension shape.now 0 }
 {
-    let [text, ..] = shape.texts.as_slice() else {
+    let [text, ..] = shape.shape().texts.as_slice() else {
         return false;
     };
     *text
@@ -210,8 +210,8 @@ fn put_named<R: Wait, P: CellCaller<ShardCells>>(
         (P.opening caller.new) (P.number caller.new) session (P.own caller.new) writer.now) }
 {
     clients_know_names_they_were_told_of::<CoreShard>();
-    let shape = cube.schema.cube_shape();
-    let rows = one_row(alloc, shape, &[number], &[1])?;
+    let shape = cube.schema.shared_shape();
+    let rows = one_row(alloc, shape.shape(), &[number], &[1])?;
     put_batch(
         rt, board, caller, size, session, cube.place, shape, rows, writer, alloc,
     )
@@ -277,7 +277,7 @@ pub(crate) fn find_name<R: Wait, P: CellCaller<ShardCells>>(
 {
     sessions_may_ask_names_of_told_cubes::<CoreShard>();
     let cube = look_for(rt, board, caller, size, session, cube, alloc)?;
-    let shape = cube.schema.cube_shape();
+    let shape = cube.schema.shared_shape();
     if !begins_with_texts(shape) {
         return None;
     }

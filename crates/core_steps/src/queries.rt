@@ -83,8 +83,8 @@ pub(crate) fn totals_seen<R: Wait, P: TracedCaller>(
         low high (P.own caller.new) snapshot.now) }
 {
     let cube = look_for(rt, board, caller, size, session, name, alloc)?;
-    let shape = cube.schema.cube_shape();
-    let query = totals_between(alloc, cube.place, shape, low, high)?;
+    let shape = cube.schema.shared_shape();
+    let query = totals_between(alloc, cube.place, shape.shape(), low, high)?;
     match scan_shards(
         rt, board, caller, size, session, 0, shape, &query, snapshot, alloc,
     ) {

@@ -16,7 +16,7 @@ use crate::rows::row_of_numbers;
 use crate::transactions::{begin, commit_writer};
 use board_callers::CellCaller;
 use core_program::CoreSize;
-use cube_values::{CodedRows, CubeShape, Snapshot};
+use cube_values::{CodedRows, SharedShape, Snapshot};
 use linked_shards::{CoreShard, ShardCells};
 use session_batches::{PutEnd, put_rows};
 use session_groups::{WriteEnd, drop_on_shards};
@@ -33,7 +33,7 @@ pub(crate) fn put_batch<R: Wait, P: CellCaller<ShardCells>>(
     size: &CoreSize,
     session: u32,
     place: u32,
-    shape: &CubeShape,
+    shape: &SharedShape,
     rows: CodedRows,
     writer: &Snapshot,
     alloc: Global,
@@ -93,8 +93,8 @@ pub(crate) fn put_row<R: Wait, P: CellCaller<ShardCells>>(
 {
     snapshot_holders_are_ready::<CoreShard>();
     let cube = look_for(rt, board, caller, size, session, name, alloc)?;
-    let shape = cube.schema.cube_shape();
-    let rows = row_of_numbers(alloc, shape, &[coord], &[metric])?;
+    let shape = cube.schema.shared_shape();
+    let rows = row_of_numbers(alloc, shape.shape(), &[coord], &[metric])?;
     put_batch(
         rt, board, caller, size, session, cube.place, shape, rows, writer, alloc,
     )
@@ -129,8 +129,8 @@ pub(crate) fn delete_between<R: Wait, P: CellCaller<ShardCells>>(
 {
     snapshot_holders_are_ready::<CoreShard>();
     let cube = look_for(rt, board, caller, size, session, name, alloc)?;
-    let shape = cube.schema.cube_shape();
-    let span = whole_box(alloc, shape, low, high)?;
+    let shape = cube.schema.shared_shape();
+    let span = whole_box(alloc, shape.shape(), low, high)?;
     match drop_on_shards(
         rt, board, caller, size, session, 0, cube.place, shape, &span, writer, alloc,
     ) {

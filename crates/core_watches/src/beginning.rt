@@ -83,7 +83,7 @@ fn begin_by_names<R: Wait, P: CellCaller<ShardCells>>(
         session.now.number (P.own caller.new) holder epoch place cube.now statement.now) }
 {
     let bound = query_by(alloc, statement, place, cube, names)?;
-    let shape = cube.cube_shape();
+    let shape = cube.shared_shape();
     let watch = begin_watch(
         rt,
         board,

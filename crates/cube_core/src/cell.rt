@@ -42,9 +42,9 @@ pub enum CoreAnswer {
     Mail(MailAnswer<Job, JobAnswer>),
 }
 
-// A function of its own for each kind of call keeps the large answers of the others off the stack.
+// A call is compiled into its caller, so that it is not copied whole on its way to the cell.
 
-#[inline(never)]
+#[inline(always)]
 fn apply_to_desk<S: ShardCell>(cell: &mut CoreCell<S>, call: DeskCall) -> CoreAnswer
     requires { CanTake S.ShardCell.can cell.old (asked.Desk call) }
     ensures { CoreStep S.ShardCell.step cell.old (asked.Desk call) result cell.new }
@@ -55,7 +55,7 @@ fn apply_to_desk<S: ShardCell>(cell: &mut CoreCell<S>, call: DeskCall) -> CoreAn
     }
 }
 
-#[inline(never)]
+#[inline(always)]
 fn apply_to_names<S: ShardCell>(cell: &mut CoreCell<S>, call: NamesCall) -> CoreAnswer
     requires { CanTake S.ShardCell.can cell.old (asked.Names call) }
     ensures { CoreStep S.ShardCell.step cell.old (asked.Names call) result cell.new }
@@ -66,7 +66,7 @@ fn apply_to_names<S: ShardCell>(cell: &mut CoreCell<S>, call: NamesCall) -> Core
     }
 }
 
-#[inline(never)]
+#[inline(always)]
 fn apply_to_shard<S: ShardCell>(cell: &mut CoreCell<S>, call: ShardCall) -> CoreAnswer
     requires { CanTake S.ShardCell.can cell.old (asked.Shard call) }
     ensures { CoreStep S.ShardCell.step cell.old (asked.Shard call) result cell.new }
@@ -77,7 +77,7 @@ fn apply_to_shard<S: ShardCell>(cell: &mut CoreCell<S>, call: ShardCall) -> Core
     }
 }
 
-#[inline(never)]
+#[inline(always)]
 fn apply_to_mail<S: ShardCell>(cell: &mut CoreCell<S>, call: MailCall<Job, JobAnswer>) -> CoreAnswer
     requires { CanTake S.ShardCell.can cell.old (asked.Mail call) }
     ensures { CoreStep S.ShardCell.step cell.old (asked.Mail call) result cell.new }
@@ -89,6 +89,7 @@ fn apply_to_mail<S: ShardCell>(cell: &mut CoreCell<S>, call: MailCall<Job, JobAn
 }
 
 /// Makes a call on a cell of its kind.
+#[inline(always)]
 pub fn apply<S: ShardCell>(cell: &mut CoreCell<S>, call: CoreCall) -> CoreAnswer
     requires { CanTake S.ShardCell.can cell.old call }
     ensures { CoreStep S.ShardCell.step cell.old call result cell.new }

@@ -5,7 +5,7 @@ ghost use Rattle.cube_core.specs.declared.shard.ShardCall.{ShardCall};
 
 use agg_fold::Partial;
 use cube_rounds::RoundBricks;
-use cube_values::{BoundQuery, CodedRows, CubeShape, Snapshot, Span};
+use cube_values::{Boxed, BoxedQuery, CodedRows, SharedShape, Snapshot, Span};
 use standing_query::Change;
 
 /// A call on a shard. One that speaks of a cube bears the cube's shape.
@@ -14,27 +14,27 @@ pub enum ShardCall {
     /// A transaction puts rows.
     Append {
         cube: u32,
-        shape: CubeShape,
+        shape: SharedShape,
         epoch: u64,
         rows: CodedRows,
     },
     /// A transaction deletes the rows of a box.
     DropBox {
         cube: u32,
-        shape: CubeShape,
+        shape: SharedShape,
         epoch: u64,
         span: Span,
     },
     /// The rows of a query that a snapshot sees.
     Scan {
-        shape: CubeShape,
-        query: BoundQuery,
-        snapshot: Snapshot,
+        shape: SharedShape,
+        query: BoxedQuery,
+        snapshot: Boxed<Snapshot>,
     },
     /// The rows of a query that came and went from one reader to another.
     Delta {
-        shape: CubeShape,
-        query: BoundQuery,
+        shape: SharedShape,
+        query: BoxedQuery,
         from: u64,
         to: u64,
     },
@@ -59,8 +59,8 @@ pub enum ShardAnswer {
     Done,
     /// The shard has so many rows, and those of the call are too many besides; nothing changed.
     ShardFull { rows: u64 },
-    Scanned(Partial),
-    Changed(Change),
+    Scanned(Boxed<Partial>),
+    Changed(Boxed<Change>),
     Copied(RoundBricks),
     /// Memory ran out; nothing changed.
     NoMemory,

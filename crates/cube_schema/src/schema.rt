@@ -8,7 +8,7 @@ ghost use Rattle.cube_schema.specs.Schemas.{cube_of};
 
 use crate::fault::fault_of;
 use cube_language::{Decl, SchemaFault};
-use cube_values::{CallError, CubeShape, Flags, Sequence, Shape, Size, Sizes};
+use cube_values::{CallError, CubeShape, Flags, Sequence, Shape, SharedShape, Size, Sizes};
 use std::alloc::{AllocError, Global};
 use std::marker::Model;
 
@@ -16,7 +16,7 @@ use std::marker::Model;
 #[derive(Debug, Drop)]
 pub struct Schema {
     decl: Decl,
-    cube: CubeShape,
+    cube: SharedShape,
 }
 
 impl Model for Schema {
@@ -47,11 +47,19 @@ impl Schema {
         ensures value { result.now ≡ shape_of self.now }
         ensures sound { IsSoundShape result.now }
     {
-        &self.cube.shape
+        &self.cube.shape().shape
     }
 
     /// The shape of the cube, which of its dimensions have texts, and its number of metrics.
     pub fn cube_shape(&self) -> &CubeShape
+        ensures value { result.now ≡ cube_of self.now }
+        ensures sound { IsSoundCube result.now }
+    {
+        self.cube.shape()
+    }
+
+    /// The same, to be shared.
+    pub fn shared_shape(&self) -> &SharedShape
         ensures value { result.now ≡ cube_of self.now }
         ensures sound { IsSoundCube result.now }
     {
@@ -64,7 +72,7 @@ impl Schema {
     {
         Ok(Schema {
             decl: copy_decl(&self.decl)?,
-            cube: copy_shape(&self.cube)?,
+            cube: self.cube.share()?,
         })
     }
 }
@@ -81,12 +89,6 @@ fn copy_decl(decl: &Decl) -> Result<Decl, AllocError>
     ensures { IfOk result (λ d. d ≡ decl.now) }
 {
     decl.clone()
-}
-
-fn copy_shape(cube: &CubeShape) -> Result<CubeShape, AllocError>
-    ensures { IfOk result (λ c. c ≡ cube.now) }
-{
-    cube.clone()
 }
 
 fn size_of(cardinality: u32, range: u32) -> Size
@@ -125,7 +127,7 @@ pub fn check(alloc: Global, decl: &Decl) -> Result<Schema, CallError<SchemaFault
     }
     Ok(Schema {
         decl: copy_decl(decl)?,
-        cube: cube_of(alloc, decl)?,
+        cube: SharedShape::new(alloc, cube_of(alloc, decl)?)?,
     })
 }
 

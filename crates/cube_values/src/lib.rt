@@ -2,6 +2,7 @@
 #![tactic(auto)]
 
 mod bits;
+mod boxed;
 mod call_error;
 mod coded_rows;
 mod entry;
@@ -14,6 +15,7 @@ mod room;
 mod row;
 mod sequence;
 mod shape;
+mod shared_shape;
 mod snapshot;
 mod span;
 mod table;
@@ -22,6 +24,7 @@ mod top_plan;
 mod value;
 
 pub use bits::Bits;
+pub use boxed::Boxed;
 pub use call_error::CallError;
 pub use coded_rows::CodedRows;
 pub use entry::{Entries, Entry};
@@ -30,12 +33,13 @@ pub use law::visible_is_what_running_leaves;
 pub use operation::{
     Condition, Conditions, Operation, Operations, Region, Transaction, Transactions, ValueTest,
 };
-pub use query::{BoundItem, BoundItems, BoundQuery, Query};
+pub use query::{BoundItem, BoundItems, BoundQuery, BoxedQuery, Query};
 pub use quotient::average;
 pub use room::grown_room;
 pub use row::{CodedRow, Coords, Numbers, Row, Rows, StoredRow, StoredRows};
 pub use sequence::Sequence;
 pub use shape::{CubeShape, Flags, MOST_BRICKS, MOST_COLUMNS, Shape, Size, Sizes};
+pub use shared_shape::SharedShape;
 pub use snapshot::Snapshot;
 pub use span::{Part, Parts, Span};
 pub use table::{Field, Line, NameLists, Table, TextLists, Texts};

@@ -2,6 +2,7 @@
 
 ghost use Rattle.std.specs.Prelude.{◌≡◌, IfOk};
 
+use crate::boxed::Boxed;
 use crate::operation::Region;
 use crate::row::Coords;
 use crate::sequence::Sequence;
@@ -46,6 +47,9 @@ impl BoundQuery {
         self.clone()
     }
 }
+
+/// A query by coordinates, on the heap.
+pub type BoxedQuery = Boxed<BoundQuery>;
 
 /// A query by values: which rows it takes, the places of the dimensions by which they are grouped, and
 /// what is computed of each group.

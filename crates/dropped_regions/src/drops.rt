@@ -70,7 +70,7 @@ pub fn drop_region<R: Wait, P: CellCaller<ShardCells>>(
         (P.number caller.new) session (P.own caller.new) writer.now end) }
     ensures err { OnErr result (P.own caller.new ≡ P.own caller.old) }
 {
-    let shape = cube.cube_shape();
+    let shape = cube.shared_shape();
     drop_on_shards(
         rt, board, caller, size, session, statement, place, shape, span, writer, alloc,
     )

@@ -66,7 +66,7 @@ pub fn put_told_rows<R: Wait, P: CellCaller<ShardCells>>(
         (P.own caller.old) (P.own caller.new)) }
     ensures err { OnErr result (P.own caller.new ≡ P.own caller.old) }
 {
-    let shape = cube.cube_shape();
+    let shape = cube.shared_shape();
     let _rows = rows.len();
     put_rows(
         rt, board, caller, size, session, statement, place, shape, rows, writer, alloc,

@@ -6,7 +6,7 @@ ghost use Rattle.linked_shards.specs.CellShards.{CanCallCoreShard, CoreShardStep
 
 use core_program::CoreCells;
 use cube_core::{LinkedShard, ShardAnswer, ShardCall, ShardCell};
-use cube_values::CallError;
+use cube_values::{Boxed, CallError};
 use shard_cell::Shard;
 use std::alloc::AllocError;
 
@@ -24,6 +24,7 @@ impl ShardCell for CoreShard {
 
     ghost step = { CoreShardStep };
 
+    #[inline(always)]
     fn call(&mut self, call: ShardCall) -> ShardAnswer {
         call_shard(&mut self.shard, call)
     }
@@ -40,6 +41,7 @@ impl LinkedShard for CoreShard {
 }
 
 // Makes a call on a shard.
+#[inline(always)]
 fn call_shard(shard: &mut Shard, call: ShardCall) -> ShardAnswer
     requires { CanCallShard shard.old call }
     ensures { ShardStep shard.old call result shard.new }
@@ -50,7 +52,7 @@ fn call_shard(shard: &mut Shard, call: ShardCall) -> ShardAnswer
             shape,
             epoch,
             rows,
-        } => match shard.append(cube, &shape, epoch, &rows) {
+        } => match shard.append(cube, shape.shape(), epoch, &rows) {
             Ok(()) => ShardAnswer::Done,
             Err(CallError::Fault(full)) => ShardAnswer::ShardFull { rows: full.rows },
             Err(CallError::NoMemory) => ShardAnswer::NoMemory,
@@ -60,7 +62,7 @@ fn call_shard(shard: &mut Shard, call: ShardCall) -> ShardAnswer
             shape,
             epoch,
             span,
-        } => match shard.drop_box(cube, &shape, epoch, &span) {
+        } => match shard.drop_box(cube, shape.shape(), epoch, &span) {
             Ok(()) => ShardAnswer::Done,
             Err(AllocError) => ShardAnswer::NoMemory,
         },
@@ -68,8 +70,11 @@ fn call_shard(shard: &mut Shard, call: ShardCall) -> ShardAnswer
             shape,
             query,
             snapshot,
-        } => match shard.scan(&shape, &query, &snapshot) {
-            Ok(found) => ShardAnswer::Scanned(found),
+        } => match shard.scan(shape.shape(), query.get(), snapshot.get()) {
+            Ok(found) => match Boxed::new(shard.alloc(), found) {
+                Ok(found) => ShardAnswer::Scanned(found),
+                Err(AllocError) => ShardAnswer::NoMemory,
+            },
             Err(AllocError) => ShardAnswer::NoMemory,
         },
         ShardCall::Delta {
@@ -77,8 +82,11 @@ fn call_shard(shard: &mut Shard, call: ShardCall) -> ShardAnswer
             query,
             from,
             to,
-        } => match shard.delta(&shape, &query, from, to) {
-            Ok(change) => ShardAnswer::Changed(change),
+        } => match shard.delta(shape.shape(), query.get(), from, to) {
+            Ok(change) => match Boxed::new(shard.alloc(), change) {
+                Ok(change) => ShardAnswer::Changed(change),
+                Err(AllocError) => ShardAnswer::NoMemory,
+            },
             Err(AllocError) => ShardAnswer::NoMemory,
         },
         ShardCall::Rollback { epoch } => {

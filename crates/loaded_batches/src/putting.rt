@@ -78,7 +78,7 @@ pub(crate) fn put_told<R: Wait, P: CellCaller<ShardCells>>(
     posted_rows_are_operations();
     posted_rows_stand_for_rows();
     rows_have_widths(&rows);
-    let shape = cube.cube_shape();
+    let shape = cube.shared_shape();
     put_rows(
         rt, board, caller, size, session, statement, place, shape, rows, writer, alloc,
     )

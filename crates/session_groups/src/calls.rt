@@ -3,14 +3,14 @@ ghost use Rattle.std.specs.Prelude.{◌≡◌, IfOk, replicate};
 ghost use Rattle.cube_core.specs.declared.shard.ShardCall.TheVariants as call;
 
 use cube_core::ShardCall;
-use cube_values::{BoundQuery, CubeShape, Snapshot, Span};
+use cube_values::{BoundQuery, Boxed, BoxedQuery, SharedShape, Snapshot, Span};
 use std::alloc::{AllocError, Global};
 
 // A scan of each shard.
 pub(crate) fn scan_calls(
     alloc: Global,
     shards: u32,
-    shape: &CubeShape,
+    shape: &SharedShape,
     query: &BoundQuery,
     snapshot: &Snapshot,
 ) -> Result<Vec<ShardCall>, AllocError>
@@ -19,22 +19,23 @@ pub(crate) fn scan_calls(
 {
     let mut calls = Vec::new(alloc);
     'each: for _ in 0..shards {
-        calls.push(scan_call(shape, query, snapshot)?)?;
+        calls.push(scan_call(alloc, shape, query, snapshot)?)?;
     }
     Ok(calls)
 }
 
 fn scan_call(
-    shape: &CubeShape,
+    alloc: Global,
+    shape: &SharedShape,
     query: &BoundQuery,
     snapshot: &Snapshot,
 ) -> Result<ShardCall, AllocError>
     ensures { IfOk result (λ c. c ≡ call.Scan shape.now query.now snapshot.now) }
 {
     Ok(ShardCall::Scan {
-        shape: shape.clone()?,
-        query: query.copy()?,
-        snapshot: snapshot.copy(),
+        shape: shape.share()?,
+        query: BoxedQuery::new(alloc, query.copy()?)?,
+        snapshot: Boxed::new(alloc, snapshot.copy())?,
     })
 }
 
@@ -43,7 +44,7 @@ pub(crate) fn drop_calls(
     alloc: Global,
     shards: u32,
     cube: u32,
-    shape: &CubeShape,
+    shape: &SharedShape,
     epoch: u64,
     span: &Span,
 ) -> Result<Vec<ShardCall>, AllocError>
@@ -57,12 +58,17 @@ pub(crate) fn drop_calls(
     Ok(calls)
 }
 
-fn drop_call(cube: u32, shape: &CubeShape, epoch: u64, span: &Span) -> Result<ShardCall, AllocError>
+fn drop_call(
+    cube: u32,
+    shape: &SharedShape,
+    epoch: u64,
+    span: &Span,
+) -> Result<ShardCall, AllocError>
     ensures { IfOk result (λ c. c ≡ call.DropBox cube shape.now epoch span.now) }
 {
     Ok(ShardCall::DropBox {
         cube,
-        shape: shape.clone()?,
+        shape: shape.share()?,
         epoch,
         span: span.copy()?,
     })

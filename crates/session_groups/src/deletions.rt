@@ -16,7 +16,7 @@ use crate::calls::drop_calls;
 use board_callers::CellCaller;
 use core_program::CoreSize;
 use cube_core::JobAnswer;
-use cube_values::{CubeShape, Snapshot, Span};
+use cube_values::{SharedShape, Snapshot, Span};
 use job_groups::ask_each_shard;
 use linked_shards::{CoreShard, ShardCells};
 use std::alloc::{AllocError, Global};
@@ -42,7 +42,7 @@ pub fn drop_on_shards<R: Wait, P: CellCaller<ShardCells>>(
     session: u32,
     statement: u32,
     cube: u32,
-    shape: &CubeShape,
+    shape: &SharedShape,
     span: &Span,
     writer: &Snapshot,
     alloc: Global,

@@ -50,7 +50,7 @@ fn merge_found(
     ensures { OnOk result (AddsFound query.now said.now whole.old.groups whole.new.groups) }
 {
     match said {
-        ShardAnswer::Scanned(found) => whole.merge(query, found),
+        ShardAnswer::Scanned(found) => whole.merge(query, found.get()),
         _ => Err(AllocError),
     }
 }

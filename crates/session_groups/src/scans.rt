@@ -14,7 +14,7 @@ use crate::merging::merge_answers;
 use agg_fold::Partial;
 use board_callers::CellCaller;
 use core_program::CoreSize;
-use cube_values::{BoundQuery, CubeShape, Snapshot};
+use cube_values::{BoundQuery, SharedShape, Snapshot};
 use job_groups::ask_each_shard;
 use linked_shards::{CoreShard, ShardCells};
 use std::alloc::{AllocError, Global};
@@ -31,7 +31,7 @@ pub fn scan_shards<R: Wait, P: CellCaller<ShardCells>>(
     size: &CoreSize,
     session: u32,
     statement: u32,
-    shape: &CubeShape,
+    shape: &SharedShape,
     query: &BoundQuery,
     snapshot: &Snapshot,
     alloc: Global,

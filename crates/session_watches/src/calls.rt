@@ -4,14 +4,14 @@ ghost use Rattle.core_events.specs.Clients.{reader_up_to};
 ghost use Rattle.cube_core.specs.declared.shard.ShardCall.TheVariants as call;
 
 use cube_core::ShardCall;
-use cube_values::{BoundQuery, CubeShape, EpochList, Snapshot};
+use cube_values::{BoundQuery, Boxed, BoxedQuery, EpochList, SharedShape, Snapshot};
 use std::alloc::{AllocError, Global};
 
 // A scan of each shard, by a reader up to an epoch.
 pub(crate) fn scan_calls(
     alloc: Global,
     shards: u32,
-    shape: &CubeShape,
+    shape: &SharedShape,
     query: &BoundQuery,
     epoch: u64,
 ) -> Result<Vec<ShardCall>, AllocError>
@@ -20,22 +20,30 @@ pub(crate) fn scan_calls(
 {
     let mut calls = Vec::new(alloc);
     'each: for _ in 0..shards {
-        calls.push(scan_call(shape, query, epoch)?)?;
+        calls.push(scan_call(alloc, shape, query, epoch)?)?;
     }
     Ok(calls)
 }
 
-fn scan_call(shape: &CubeShape, query: &BoundQuery, epoch: u64) -> Result<ShardCall, AllocError>
+fn scan_call(
+    alloc: Global,
+    shape: &SharedShape,
+    query: &BoundQuery,
+    epoch: u64,
+) -> Result<ShardCall, AllocError>
     ensures { IfOk result (λ c. c ≡ call.Scan shape.now query.now (reader_up_to epoch)) }
 {
     Ok(ShardCall::Scan {
-        shape: shape.clone()?,
-        query: query.copy()?,
-        snapshot: Snapshot {
-            epoch,
-            deps: EpochList::new(),
-            own: false,
-        },
+        shape: shape.share()?,
+        query: BoxedQuery::new(alloc, query.copy()?)?,
+        snapshot: Boxed::new(
+            alloc,
+            Snapshot {
+                epoch,
+                deps: EpochList::new(),
+                own: false,
+            },
+        )?,
     })
 }
 
@@ -43,7 +51,7 @@ fn scan_call(shape: &CubeShape, query: &BoundQuery, epoch: u64) -> Result<ShardC
 pub(crate) fn delta_calls(
     alloc: Global,
     shards: u32,
-    shape: &CubeShape,
+    shape: &SharedShape,
     query: &BoundQuery,
     from: u64,
     to: u64,
@@ -53,13 +61,14 @@ pub(crate) fn delta_calls(
 {
     let mut calls = Vec::new(alloc);
     'each: for _ in 0..shards {
-        calls.push(delta_call(shape, query, from, to)?)?;
+        calls.push(delta_call(alloc, shape, query, from, to)?)?;
     }
     Ok(calls)
 }
 
 fn delta_call(
-    shape: &CubeShape,
+    alloc: Global,
+    shape: &SharedShape,
     query: &BoundQuery,
     from: u64,
     to: u64,
@@ -67,8 +76,8 @@ fn delta_call(
     ensures { IfOk result (λ c. c ≡ call.Delta shape.now query.now from to) }
 {
     Ok(ShardCall::Delta {
-        shape: shape.clone()?,
-        query: query.copy()?,
+        shape: shape.share()?,
+        query: BoxedQuery::new(alloc, query.copy()?)?,
         from,
         to,
     })

@@ -50,7 +50,7 @@ fn merge_said(query: &BoundQuery, whole: &mut Change, said: &ShardAnswer) -> Res
     ensures { OnOk result (AddsSaid query.now said.now whole.old whole.new) }
 {
     match said {
-        ShardAnswer::Changed(change) => merge_both(query, whole, change),
+        ShardAnswer::Changed(change) => merge_both(query, whole, change.get()),
         _ => Err(AllocError),
     }
 }

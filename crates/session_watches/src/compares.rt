@@ -20,7 +20,7 @@ use crate::calls::delta_calls;
 use crate::changes::merge_changes;
 use board_callers::CellCaller;
 use core_program::CoreSize;
-use cube_values::{BoundQuery, CubeShape};
+use cube_values::{BoundQuery, SharedShape};
 use job_groups::ask_each_shard;
 use linked_shards::{CoreShard, ShardCells};
 use standing_query::Change;
@@ -39,7 +39,7 @@ pub fn compare_shards<R: Wait, P: CellCaller<ShardCells>>(
     size: &CoreSize,
     session: u32,
     statement: u32,
-    shape: &CubeShape,
+    shape: &SharedShape,
     query: &BoundQuery,
     from: u64,
     to: u64,

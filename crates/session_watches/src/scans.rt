@@ -21,7 +21,7 @@ use crate::merging::merge_answers;
 use agg_fold::Partial;
 use board_callers::CellCaller;
 use core_program::CoreSize;
-use cube_values::{BoundQuery, CubeShape};
+use cube_values::{BoundQuery, SharedShape};
 use job_groups::ask_each_shard;
 use linked_shards::{CoreShard, ShardCells};
 use std::alloc::{AllocError, Global};
@@ -39,7 +39,7 @@ pub fn scan_shards_at_holder<R: Wait, P: CellCaller<ShardCells>>(
     size: &CoreSize,
     session: u32,
     statement: u32,
-    shape: &CubeShape,
+    shape: &SharedShape,
     query: &BoundQuery,
     epoch: u64,
     alloc: Global,

@@ -60,6 +60,11 @@ impl Shard {
         })
     }
 
+    /// What it takes memory of.
+    pub fn alloc(&self) -> Global {
+        *self.cubes.allocator()
+    }
+
     /// How many rows there are.
     pub fn rows(&self) -> u64
         ensures rows { result ≡ shard_rows self.now }

@@ -18,7 +18,7 @@ ghost use Rattle.watched_queries.specs.WatchesInRuns.{IsPlainFold, IsWatchOf};
 use crate::watch::{SessionWatch, first_watch};
 use board_callers::CellCaller;
 use core_program::CoreSize;
-use cube_values::{BoundQuery, CubeShape};
+use cube_values::{BoundQuery, SharedShape};
 use linked_shards::ShardCells;
 use session_watches::scan_shards_at_holder;
 use std::alloc::{AllocError, Global};
@@ -35,7 +35,7 @@ pub fn begin_watch<R: Wait, P: CellCaller<ShardCells>>(
     size: &CoreSize,
     session: u32,
     statement: u32,
-    shape: &CubeShape,
+    shape: &SharedShape,
     query: &BoundQuery,
     holder: u32,
     epoch: u64,

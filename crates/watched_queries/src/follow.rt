@@ -18,7 +18,7 @@ ghost use Rattle.watched_queries.specs.WatchesInRuns.{IsPlainFold, IsWatchOf};
 use crate::watch::{SessionWatch, followed_watch};
 use board_callers::CellCaller;
 use core_program::CoreSize;
-use cube_values::{BoundQuery, CubeShape};
+use cube_values::{BoundQuery, SharedShape};
 use linked_shards::ShardCells;
 use session_watches::compare_shards;
 use std::alloc::{AllocError, Global};
@@ -36,7 +36,7 @@ pub fn follow_watch<R: Wait, P: CellCaller<ShardCells>>(
     size: &CoreSize,
     session: u32,
     statement: u32,
-    shape: &CubeShape,
+    shape: &SharedShape,
     watch: &SessionWatch,
     query: &BoundQuery,
     holder: u32,

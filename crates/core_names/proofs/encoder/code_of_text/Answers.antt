@@ -23,10 +23,10 @@ returns-in-Some-clause-code g c =
 pub ask_for_code-requires-clause-may : goal.ask_for_code-requires-clause-may
 ask_for_code-requires-clause-may g c =
     let m = c.requires.may in
-    let is = c.in_ok-shape.ensures ∙ c.cube_shape.ensures.value in
+    let is = c.in_ok-shape.ensures ∙ c.shared_shape.ensures.value in
     c.sessions_may_ask_names_of_told_cubes.ensures.encode (g.P.CellCaller.opening c.args.caller.now) (g.P.CellCaller.number c.args.caller.now) c.args.session
     (g.P.CellCaller.own c.args.caller.now) m.name c.args.place c.args.dim c.args.cube.now c.in_ok-shape.shape c.in_ok-name.name m.client m.is_session m.storable
-    m.cube is (subst IsSoundCube (sym c.in_ok-shape.ensures) c.cube_shape.ensures.sound)
+    m.cube is (subst IsSoundCube (sym c.in_ok-shape.ensures) c.shared_shape.ensures.sound)
     (subst (λ (s : CubeShape). IsTextDimension s c.args.dim) (sym is) (is_text_dimension c.args.cube.now c.args.dim c.requires.text))
     (subst (λ (t : List ℕ). length t ≤ TEXT_BYTES) (sym c.in_ok-name.ensures) c.requires.short)
 

@@ -13,8 +13,8 @@ pub read_scanned-requires-clause-asks : goal.read_scanned-requires-clause-asks
 read_scanned-requires-clause-asks g c =
     may-ask (g.P.CellCaller.opening c.args.caller.now) (g.P.CellCaller.number c.args.caller.now) c.args.session
     c.args.size.now.shards c.requires.served (g.P.CellCaller.own c.args.caller.now) c.requires.told.0 c.args.place
-    c.args.cube.now c.requires.told.1 c.args.statement.now c.args.names c.in-Ok.query c.cube_shape.result.now
-    c.cube_shape.ensures.value c.cube_shape.ensures.sound c.in-Ok.ensures.0
+    c.args.cube.now c.requires.told.1 c.args.statement.now c.args.names c.in-Ok.query c.shared_shape.result.now
+    c.shared_shape.ensures.value c.shared_shape.ensures.sound c.in-Ok.ensures.0
 
 pub returns-in-Ok-clause-read : goal.returns-in-Ok-clause-read
 returns-in-Ok-clause-read g c =

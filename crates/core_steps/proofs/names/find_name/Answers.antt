@@ -12,7 +12,7 @@ ask_names-requires-clause-may g c =
     c.sessions_may_ask_names_of_told_cubes.ensures.find (g.P.CellCaller.opening mid) (g.P.CellCaller.number mid)
     c.args.session (g.P.CellCaller.own mid) knows.name c.in_ok-cube.cube.place 0 c.in_ok-cube.cube.schema
     c.in_ok-name.name on.client on.by_number on.storable knows.told
-    (subst (λ (s : CubeShape). IsTextDimension s 0) c.cube_shape-shape.ensures.value texts)
+    (subst (λ (s : CubeShape). IsTextDimension s 0) c.shared_shape-shape.ensures.value texts)
 
 pub returns-clause-holds : goal.returns-clause-holds
 returns-clause-holds g c =

@@ -9,9 +9,9 @@ scan_shards-requires-clause-query g c =
     let mid = c.look_for.new.caller in
     may-query c.args.size.now.shards c.in_ok-cube.cube.place c.in_ok-cube.cube.schema (g.P.CellCaller.opening mid)
     (g.P.CellCaller.number mid) c.args.session (g.P.CellCaller.own mid) c.requires.some
-    c.cube_shape-shape.result.now c.cube_shape-shape.ensures.value c.cube_shape-shape.ensures.sound
-    c.in_ok-cube.ensures.knows c.in_ok-query.query c.in_ok-query.ensures.cube c.in_ok-query.ensures.sound
-    c.in_ok-query.ensures.parts
+    c.shared_shape-shape.result.now c.shared_shape-shape.ensures.value c.shared_shape-shape.ensures.sound
+    c.in_ok-cube.ensures.knows c.in_ok-query.query c.in_ok-query.ensures.cube
+    (rw c.shape.ensures at c.in_ok-query.ensures.sound) c.in_ok-query.ensures.parts
 
 pub scan_shards-requires-clause-holds : goal.scan_shards-requires-clause-holds
 scan_shards-requires-clause-holds g c =

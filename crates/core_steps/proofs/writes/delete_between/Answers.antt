@@ -16,8 +16,9 @@ drop_on_shards-requires-clause-deletes g c =
     let span = c.in_ok-span.ensures in
     may-delete c.args.size.now.shards c.in_ok-cube.cube.place c.in_ok-cube.cube.schema (g.P.CellCaller.opening mid)
     (g.P.CellCaller.number mid) c.args.session (g.P.CellCaller.own mid) c.requires.some
-    c.cube_shape-shape.result.now c.cube_shape-shape.ensures.value c.cube_shape-shape.ensures.sound
-    c.in_ok-cube.ensures.knows c.in_ok-span.span span.long span.sound span.whole
+    c.shared_shape-shape.result.now c.shared_shape-shape.ensures.value c.shared_shape-shape.ensures.sound
+    c.in_ok-cube.ensures.knows c.in_ok-span.span (rw c.shape.ensures at span.long) span.sound
+    (rw c.shape.ensures at span.whole)
 
 pub drop_on_shards-requires-clause-holds : goal.drop_on_shards-requires-clause-holds
 drop_on_shards-requires-clause-holds g c = c.in_ok-cube.ensures.same.writer c.args.writer.now c.requires.holds

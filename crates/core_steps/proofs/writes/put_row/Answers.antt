@@ -15,8 +15,9 @@ put_batch-requires-clause-may g c =
     let mid = c.look_for.new.caller in
     may-put c.args.size.now.shards c.in_ok-cube.cube.place c.in_ok-cube.cube.schema (g.P.CellCaller.opening mid)
     (g.P.CellCaller.number mid) c.args.session (g.P.CellCaller.own mid) c.requires.some
-    c.cube_shape-shape.result.now c.cube_shape-shape.ensures.value c.cube_shape-shape.ensures.sound
-    c.in_ok-cube.ensures.knows c.in_ok-rows.rows.rows c.in_ok-rows.ensures.texts
+    c.shared_shape-shape.result.now c.shared_shape-shape.ensures.value c.shared_shape-shape.ensures.sound
+    c.in_ok-cube.ensures.knows c.in_ok-rows.rows.rows
+    (rw c.shape.ensures at c.in_ok-rows.ensures.texts)
 
 pub put_batch-requires-clause-holds : goal.put_batch-requires-clause-holds
 put_batch-requires-clause-holds g c = c.in_ok-cube.ensures.same.writer c.args.writer.now c.requires.holds

@@ -36,8 +36,8 @@ begin_watch-requires-clause-query g c =
     let b = c.in_ok-bound.ensures in
     may-query (g.P.CellCaller.opening before) (g.P.CellCaller.number before) c.args.session.now.number c.args.place
     (g.P.CellCaller.own before) c.requires.told.0 c.args.cube.now c.args.names c.args.statement.now
-    c.cube_shape-shape.result.now c.in_ok-bound.bound.query c.requires.served.client c.requires.served.storable
-    c.requires.told.1 c.cube_shape-shape.ensures.value c.cube_shape-shape.ensures.sound b.place_is b.query
+    c.shared_shape-shape.result.now c.in_ok-bound.bound.query c.requires.served.client c.requires.served.storable
+    c.requires.told.1 c.shared_shape-shape.ensures.value c.shared_shape-shape.ensures.sound b.place_is b.query
 
 pub begin_watch-requires-clause-additive : goal.begin_watch-requires-clause-additive
 begin_watch-requires-clause-additive g c =
@@ -51,7 +51,7 @@ pub returns-clause-left : goal.returns-clause-left
 returns-clause-left g c =
     let before = c.args.caller.now in
     left-by-scan (g.P.CellCaller.opening before) (g.P.CellCaller.number before) c.args.session.now.number
-    (g.P.CellCaller.own before) (g.P.CellCaller.own c.begin_watch.new.caller) c.args.size.now.shards c.cube_shape-shape.result.now
+    (g.P.CellCaller.own before) (g.P.CellCaller.own c.begin_watch.new.caller) c.args.size.now.shards c.shared_shape-shape.result.now
     c.in_ok-bound.bound.query (reader_up_to c.args.epoch) c.in_ok-watch.ensures.asked
 
 pub returns-clause-shown : goal.returns-clause-shown
@@ -67,7 +67,7 @@ returns-clause-shown g c =
     let w = c.in_ok-watch.watch in
     let left =
     left-by-scan (opening before) (number before) session (own before) (own then) c.args.size.now.shards
-    c.cube_shape-shape.result.now bound.query (reader_up_to c.args.epoch) got.asked
+    c.shared_shape-shape.result.now bound.query (reader_up_to c.args.epoch) got.asked
     in
     IfOk-weaker c.with_table.result (IsWithTable w (lists_at bound.names 0))
     (IsShownAt (opening then) (number then) session (own then) c.args.holder c.args.epoch c.args.place c.args.cube.now
@@ -83,7 +83,7 @@ pub returns-in_err-watch-clause-left : goal.returns-in_err-watch-clause-left
 returns-in_err-watch-clause-left g c =
     let before = c.args.caller.now in
     left-by-scan (g.P.CellCaller.opening before) (g.P.CellCaller.number before) c.args.session.now.number
-    (g.P.CellCaller.own before) (g.P.CellCaller.own c.begin_watch.new.caller) c.args.size.now.shards c.cube_shape-shape.result.now
+    (g.P.CellCaller.own before) (g.P.CellCaller.own c.begin_watch.new.caller) c.args.size.now.shards c.shared_shape-shape.result.now
     c.in_ok-bound.bound.query (reader_up_to c.args.epoch) c.begin_watch.ensures.asked
 
 pub returns-in_err-bound-clause-left : goal.returns-in_err-bound-clause-left

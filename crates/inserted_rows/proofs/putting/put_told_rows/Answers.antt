@@ -19,16 +19,16 @@ put_rows-requires-clause-holds g c = c.requires.holds
 
 pub put_rows-requires-clause-rows : goal.put_rows-requires-clause-rows
 put_rows-requires-clause-rows g c =
-    rows_of_its_cube (g.P.CellCaller.own c.args.caller.now) c.args.place c.args.cube.now c.cube_shape-shape.result.now
-    c.args.rows c.cube_shape-shape.ensures.value c.requires.rows c.len-rows.ensures.widths
+    rows_of_its_cube (g.P.CellCaller.own c.args.caller.now) c.args.place c.args.cube.now c.shared_shape-shape.result.now
+    c.args.rows c.shared_shape-shape.ensures.value c.requires.rows c.len-rows.ensures.widths
 
 pub put_rows-requires-clause-may : goal.put_rows-requires-clause-may
 put_rows-requires-clause-may g c =
     let old = c.args.caller.now in
     may_put (g.P.CellCaller.opening old) (g.P.CellCaller.number old) c.args.session c.args.size.now.shards c.args.place
-    (g.P.CellCaller.own old) c.args.cube.now c.cube_shape-shape.result.now c.args.rows c.requires.some c.requires.client
-    c.requires.mails c.requires.storable c.requires.told c.cube_shape-shape.ensures.value
-    c.cube_shape-shape.ensures.sound c.requires.rows
+    (g.P.CellCaller.own old) c.args.cube.now c.shared_shape-shape.result.now c.args.rows c.requires.some c.requires.client
+    c.requires.mails c.requires.storable c.requires.told c.shared_shape-shape.ensures.value
+    c.shared_shape-shape.ensures.sound c.requires.rows
 
 pub returns-clause-more : goal.returns-clause-more
 returns-clause-more g c =
@@ -44,4 +44,4 @@ returns-clause-learns g c =
     subst (λ (shape : CubeShape). IfOk c.put_rows.result (λ end. LearnsOfRows (g.P.CellCaller.opening old)
     (g.P.CellCaller.number old) c.args.session c.args.size.now.shards c.args.place shape c.args.writer.now.epoch
     c.args.rows.rows end (g.P.CellCaller.own old) (g.P.CellCaller.own c.put_rows.new.caller)))
-    c.cube_shape-shape.ensures.value c.put_rows.ensures.learns
+    c.shared_shape-shape.ensures.value c.put_rows.ensures.learns
