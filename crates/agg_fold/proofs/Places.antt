@@ -1,5 +1,6 @@
 -- Keys and their places.
 use Rattle.std.proofs.Common.{◌≡◌, ℕ, zero, suc, ◌+◌, ◌<◌, ◌≤◌, Bool, true, false, cond, not, nat_lt, ◌||◌, Option, None, Some, List, [], ◌∷◌, ◌++◌, length, map, get_or, slice_get, refl, sym, ap, ◌∙◌, subst, ⊎_elim, arith}
+use Rattle.std.specs.Option.{IfSome, option_map_or}
 use Rattle.std.specs.List.{AllByRecursion, IsDistinct, position, position_or_len, list_any}
 use Rattle.std.specs.Str.{bytes_eq}
 use Rattle.std.proofs.lemmas.Bool.{cases_Bool, lt-ltb, le-ltb}
@@ -104,3 +105,11 @@ distinct-map f (x ∷ xs) h = (any-map f (λ y. bytes_eq (f x) y ≡ false) xs h
 
 pub distinct_keys : {X : Type 0} (f : X → List ℕ) (xs : List X) (keys : List (List ℕ)) → map f xs ≡ keys → IsDistinct (λ x y. bytes_eq (f x) (f y)) xs → IsDistinct bytes_eq keys
 distinct_keys f xs keys v h = subst (IsDistinct bytes_eq) v (distinct-map f xs h)
+
+-- and so where they are held by what may be absent
+pub distinct_held : {X B : Type 0} (f : X → List ℕ) (items : B → List X) (held : Option B) (keys : List (List ℕ))
+    → option_map_or (λ b. map f (items b)) held [] ≡ keys
+    → IfSome held (λ b. IsDistinct (λ x y. bytes_eq (f x) (f y)) (items b)) → IsDistinct bytes_eq keys
+unfolding IsDistinct
+distinct_held f items None keys v h = subst (IsDistinct bytes_eq) v tt
+distinct_held f items (Some b) keys v h = distinct_keys f (items b) keys v h
