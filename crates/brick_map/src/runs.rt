@@ -1,6 +1,6 @@
 //! A batch of rows, cut where the brick changes.
 
-ghost use Rattle.std.specs.Prelude.{◌≡◌, ◌^◌, ◌<◌, ◌≤◌, ◌↔◌, length, All, IsTrue, IfOk};
+ghost use Rattle.std.specs.Prelude.{◌≡◌, ◌+◌, ◌^◌, ◌<◌, ◌≤◌, ◌↔◌, length, All, IsTrue, IfOk};
 ghost use Rattle.cube_values.specs.Shapes.{IsSoundShape, IsSoundSize, bricks_of};
 ghost use Rattle.cube_values.specs.Batches.{coded_row_at};
 ghost use Rattle.brick_address.specs.Addresses.{brick_of, AreCoords};
@@ -24,16 +24,49 @@ pub fn runs_of(alloc: Global, shape: &Shape, batch: &CodedRows) -> Result<Vec<Ba
     requires coords { All (λ row. AreCoords shape.now.sizes row.coords) batch.now.rows }
     ensures { IfOk result (λ runs. AreRuns shape.now.sizes batch.now.rows 0 runs.items) }
 {
-    let mut runs = Vec::new(alloc);
+    let mut runs = Vec::with_capacity(alloc, 1)?;
     let mut starts = Vec::new(alloc);
     let mut from = 0;
     'runs: while from < batch.len() {
-        put_starts(shape.sizes.as_slice(), batch.coords_of(from), &mut starts)?;
-        let run = run_from(shape, batch, from, starts.as_slice());
+        let run = next_run(shape, batch, from, &mut starts)?;
         from = run.to;
         runs.push(run)?;
     }
     Ok(runs)
+}
+
+// The run that begins at a row. The list is for the starts of its ranges, which the last row of a batch does
+// without.
+fn next_run(
+    shape: &Shape,
+    batch: &CodedRows,
+    from: usize,
+    starts: &mut Vec<u32>,
+) -> Result<BatchRun, AllocError>
+    requires shape { IsSoundShape shape.now }
+    requires coords { All (λ row. AreCoords shape.now.sizes row.coords) batch.now.rows }
+    requires there { from < length batch.now.rows }
+    ensures { IfOk result (IsRunFrom shape.now.sizes batch.now.rows from) }
+{
+    if batch.len() - from == 1 {
+        return Ok(last_row(shape, batch, from));
+    }
+    put_starts(shape.sizes.as_slice(), batch.coords_of(from), starts)?;
+    Ok(run_from(shape, batch, from, starts.as_slice()))
+}
+
+// The run of the last row.
+fn last_row(shape: &Shape, batch: &CodedRows, from: usize) -> BatchRun
+    requires shape { IsSoundShape shape.now }
+    requires coords { All (λ row. AreCoords shape.now.sizes row.coords) batch.now.rows }
+    requires last { from + 1 ≡ length batch.now.rows }
+    ensures { IsRunFrom shape.now.sizes batch.now.rows from result }
+{
+    BatchRun {
+        number: number_at(shape, batch, from),
+        from,
+        to: batch.len(),
+    }
 }
 
 // Leaves the starts of the ranges in which coordinates lie.

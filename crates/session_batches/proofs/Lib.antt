@@ -1,4 +1,5 @@
 pub mod Refusing
 pub mod Appending
+pub mod OneRow
 pub mod Posting
 pub mod Putting

@@ -14,14 +14,13 @@ ghost use Rattle.session_batches.specs.PutRows.{HoldsAfterPut, LearnsOfPut, Lear
 ghost use Rattle.turn_board.specs.Passes.{callers_of};
 
 use crate::answers::{PutEnd, first_refusal};
-use crate::appends::{NumberedCalls, appends_of};
+use crate::appends::{NumberedCalls, appends_for};
 use board_callers::CellCaller;
 use core_program::{CoreSize, own_calls_go_on};
 use cube_core::{JobAnswer, sessions_write_to_their_shards};
-use cube_values::{CodedRows, CubeShape, Snapshot};
+use cube_values::{CodedRows, SharedShape, Snapshot};
 use job_groups::{ask_some_shards, groups_have_their_answers};
 use linked_shards::{CoreShard, ShardCells};
-use shard_batches::split_by_shard;
 use std::alloc::{AllocError, Global};
 use std::sync::Wait;
 use turn_board::Board;
@@ -38,7 +37,7 @@ pub fn put_rows<R: Wait, P: CellCaller<ShardCells>>(
     session: u32,
     statement: u32,
     cube: u32,
-    shape: &CubeShape,
+    shape: &SharedShape,
     rows: CodedRows,
     writer: &Snapshot,
     alloc: Global,
@@ -74,8 +73,7 @@ pub fn put_rows<R: Wait, P: CellCaller<ShardCells>>(
     own_calls_go_on::<CoreShard>();
     groups_have_their_answers();
     sessions_write_to_their_shards();
-    let batches = split_by_shard(alloc, &shape.shape, size.shards, rows)?;
-    let appends = appends_of(alloc, size.shards, cube, shape, writer.epoch, batches)?;
+    let appends = appends_for(alloc, size.shards, cube, shape, writer.epoch, rows)?;
     let answers = Vec::with_capacity(alloc, appends.numbers.len())?;
     Ok(ask_appends(
         rt, board, caller, size, session, statement, appends, answers,

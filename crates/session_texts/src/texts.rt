@@ -1,6 +1,6 @@
 //! What a session knows of cubes: the one that it found last, and texts by the places of their cubes.
 
-ghost use Rattle.std.specs.Prelude.{◌≡◌, List, [], None, Some, length, set, replicate, IfOk, IfSome};
+ghost use Rattle.std.specs.Prelude.{◌≡◌, ◌↔◌, List, [], None, Some, IsTrue, length, set, replicate, IfOk, IfSome};
 ghost use Rattle.cube_language.specs.declared.decl.DimDecl.{DimDecl};
 ghost use Rattle.core_program.specs.CoreFits.{CoreEntry};
 ghost use Rattle.session_texts.specs.ToldTexts.{
@@ -86,10 +86,12 @@ impl SessionTexts {
             → AreTextsTold own self.new }
     {
         let kept = self.take_kept(place);
-        let sizes = cardinalities(alloc, dims)?;
-        match fitting(kept, sizes.as_slice()) {
+        match fitting(kept, dims) {
             Some(cube) => Ok(cube),
-            None => no_texts(alloc, sizes),
+            None => {
+                let sizes = cardinalities(alloc, dims)?;
+                no_texts(alloc, sizes)
+            }
         }
     }
 
@@ -155,14 +157,33 @@ fn cardinality_of(dim: &DimDecl) -> u32
     dim.cardinality
 }
 
-// What is kept, where its dimensions have so many coordinates.
-fn fitting(kept: Option<TextsOfCube>, sizes: &[u32]) -> Option<TextsOfCube>
-    ensures fits { IfSome result (λ cube. cube.sizes.items ≡ sizes.now) }
+// Whether dimensions have so many coordinates.
+fn have_sizes(dims: &[DimDecl], sizes: &[u32]) -> bool
+    ensures { IsTrue result ↔ (cardinalities dims.now ≡ sizes.now) }
+{
+    let mut dims_left = dims;
+    let mut sizes_left = sizes;
+    'dims: while let [dim, dims_rest @ ..] = dims_left {
+        let [size, sizes_rest @ ..] = sizes_left else {
+            return false;
+        };
+        if dim.cardinality != *size {
+            return false;
+        }
+        dims_left = dims_rest;
+        sizes_left = sizes_rest;
+    }
+    sizes_left.is_empty()
+}
+
+// What is kept, where it is of such dimensions.
+fn fitting(kept: Option<TextsOfCube>, dims: &[DimDecl]) -> Option<TextsOfCube>
+    ensures fits { IfSome result (AreOfDimensions dims.now) }
     ensures is { IfSome result (λ cube. kept ≡ Some cube) }
-    ensures all { IfSome kept (λ cube. cube.sizes.items ≡ sizes.now → result ≡ Some cube) }
+    ensures all { IfSome kept (λ cube. AreOfDimensions dims.now cube → result ≡ Some cube) }
 {
     let cube = kept?;
-    if cube.sizes.as_slice() == sizes {
+    if have_sizes(dims, cube.sizes.as_slice()) {
         Some(cube)
     } else {
         None

@@ -7,10 +7,10 @@ use Rattle.brick_map.proofs.runs.runs_of.Goals as goal
 pub runs-preserved : goal.runs-preserved
 runs-preserved c =
     let l = c.runs in
-    let run = c.run_from-run.result in
+    let run = c.in_ok-run.run' in
     record {
-      within = omega (arith, c.run_from-run.ensures.within);
-      rest = λ tail h. runs_put c.args.shape.now.sizes c.args.batch.now.rows l.from l.runs.items c.push.new.self.items run c.in_ok-push.ensures.items l.invariant.rest c.run_from-run.ensures tail h;
+      within = omega (arith, c.in_ok-run.ensures.within);
+      rest = λ tail h. runs_put c.args.shape.now.sizes c.args.batch.now.rows l.from l.runs.items c.push.new.self.items run c.in_ok-push.ensures.items l.invariant.rest c.in_ok-run.ensures tail h;
     }
 
 pub returns : goal.returns

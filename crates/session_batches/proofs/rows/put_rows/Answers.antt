@@ -16,35 +16,35 @@ use Rattle.session_batches.proofs.rows.put_rows.Goals as goal
 
 pub ask_appends-requires-clause-below : goal.ask_appends-requires-clause-below
 ask_appends-requires-clause-below g c =
-    let each = c.in_ok-batches.ensures.each in
-    subst (λ (l : List ℕ). All (λ (n : ℕ). n < c.args.size.now.shards) l) (sym c.in_ok-appends.ensures.numbers)
-    (numbers-below 0 c.args.size.now.shards c.in_ok-batches.batches.items (omega (arith, each)))
+    let each = c.in_ok-appends.ensures.split.each in
+    subst (λ (l : List ℕ). All (λ (n : ℕ). n < c.args.size.now.shards) l) (sym c.in_ok-appends.ensures.numbers_are)
+    (numbers-below 0 c.args.size.now.shards c.in_ok-appends.ensures.batches (omega (arith, each)))
 
 pub ask_appends-requires-clause-once : goal.ask_appends-requires-clause-once
 ask_appends-requires-clause-once g c =
-    subst (λ (l : List ℕ). IsDistinct nat_eq l) (sym c.in_ok-appends.ensures.numbers)
-    (distinct-numbers 0 c.in_ok-batches.batches.items)
+    subst (λ (l : List ℕ). IsDistinct nat_eq l) (sym c.in_ok-appends.ensures.numbers_are)
+    (distinct-numbers 0 c.in_ok-appends.ensures.batches)
 
 pub ask_appends-requires-clause-each : goal.ask_appends-requires-clause-each
 ask_appends-requires-clause-each g c =
-    ap (λ (l : List ShardCall). length l) c.in_ok-appends.ensures.calls
-    ∙ call-for-each c.args.cube c.args.shape.now c.args.writer.now.epoch 0 c.in_ok-batches.batches.items
-    ∙ sym (ap (λ (l : List ℕ). length l) c.in_ok-appends.ensures.numbers)
+    ap (λ (l : List ShardCall). length l) c.in_ok-appends.ensures.calls_are
+    ∙ call-for-each c.args.cube c.args.shape.now c.args.writer.now.epoch 0 c.in_ok-appends.ensures.batches
+    ∙ sym (ap (λ (l : List ℕ). length l) c.in_ok-appends.ensures.numbers_are)
 
 pub ask_appends-requires-clause-appends : goal.ask_appends-requires-clause-appends
 ask_appends-requires-clause-appends g c =
-    subst (λ (l : List ShardCall). AreAppends l) (sym c.in_ok-appends.ensures.calls)
-    (are-appends c.args.cube c.args.shape.now c.args.writer.now.epoch c.in_ok-batches.batches.items)
+    subst (λ (l : List ShardCall). AreAppends l) (sym c.in_ok-appends.ensures.calls_are)
+    (are-appends c.args.cube c.args.shape.now c.args.writer.now.epoch c.in_ok-appends.ensures.batches)
 
 pub ask_appends-requires-clause-may : goal.ask_appends-requires-clause-may
 ask_appends-requires-clause-may g c = λ o log run es later are.
     coe 1 0
-    (i. MayAskSome FitsShard c.args.session (c.in_ok-appends.ensures.numbers i) (c.in_ok-appends.ensures.calls i) o
-    (calls_of c.args.session es))
+    (i. MayAskSome FitsShard c.args.session (c.in_ok-appends.ensures.numbers_are i) (c.in_ok-appends.ensures.calls_are i)
+    o (calls_of c.args.session es))
     (may-ask o c.args.session c.args.size.now.shards c.args.cube c.args.shape.now c.args.writer.now
-    c.sessions_write_to_their_shards.ensures.may_put c.args.rows c.in_ok-batches.batches.items
+    c.sessions_write_to_their_shards.ensures.may_put c.args.rows c.in_ok-appends.ensures.batches
     (calls_of c.args.session es)
-    c.in_ok-batches.ensures c.requires.rows (c.requires.session o log later.opens)
+    c.in_ok-appends.ensures.split c.requires.rows (c.requires.session o log later.opens)
     (c.requires.holds o log run es later are) (c.requires.may o log run es later are))
 
 pub returns-clause-holds : goal.returns-clause-holds
@@ -71,13 +71,14 @@ returns-clause-holds g c =
 
 pub returns-clause-learns : goal.returns-clause-learns
 returns-clause-learns g c = λ o log run es later are.
-    let numbers = c.in_ok-appends.ensures.numbers
-    ∙ split-numbers c.args.shape.now.shape.sizes c.args.size.now.shards c.args.rows c.in_ok-batches.batches.items
-    c.in_ok-batches.ensures in
-    let posts = (λ i. posts_to (c.in_ok-appends.ensures.numbers i) (c.in_ok-appends.ensures.calls i))
-    ∙ split-posts c.args.shape.now.shape.sizes c.args.size.now.shards c.args.rows c.in_ok-batches.batches.items
+    let split = c.in_ok-appends.ensures.split in
+    let numbers = c.in_ok-appends.ensures.numbers_are
+    ∙ split-numbers c.args.shape.now.shape.sizes c.args.size.now.shards c.args.rows c.in_ok-appends.ensures.batches
+    split in
+    let posts = (λ i. posts_to (c.in_ok-appends.ensures.numbers_are i) (c.in_ok-appends.ensures.calls_are i))
+    ∙ split-posts c.args.shape.now.shape.sizes c.args.size.now.shards c.args.rows c.in_ok-appends.ensures.batches
     c.args.cube c.args.shape.now
-    c.args.writer.now.epoch c.in_ok-batches.ensures in
+    c.args.writer.now.epoch split in
     coe 0 1 (i. HasPut (numbers i) (posts i) c.ask_appends.result o c.args.session
     (g.P.CellCaller.own c.args.caller.now) es)
     (c.ask_appends.ensures.learns o log run es later are)
