@@ -24,7 +24,7 @@ unfolding keyword_of
 spelled_is keyword.Select word e = rw e refl
 spelled_is k word e = rw e refl
 
-lowered : (k : KeywordWord) → map to_ascii_lowercase (keyword_text k) ≡ keyword_text k
+pub lowered : (k : KeywordWord) → map to_ascii_lowercase (keyword_text k) ≡ keyword_text k
 lowered keyword.Select = refl
 lowered k = refl
 
@@ -36,7 +36,7 @@ capitals_lowered k = refl
 pub capitals_spell : (k : KeywordWord) → keyword_of (map to_ascii_uppercase (keyword_text k)) ≡ Some k
 capitals_spell k = spelled_is k (map to_ascii_uppercase (keyword_text k)) (capitals_lowered k)
 
-find_passes : {A : Type 0} (p : A → Bool) (xs : List A) (x : A) → find p xs ≡ Some x → p x ≡ true
+pub find_passes : {A : Type 0} (p : A → Bool) (xs : List A) (x : A) → find p xs ≡ Some x → p x ≡ true
 find_passes p [] x e = absurd cc
 find_passes p (y ∷ ys) x e =
     elim (cases_Bool (p y)) [

@@ -59,6 +59,9 @@ impl Phrase for i64 {
     }
 }
 
+// For how many parts there is room at first: those of most lists.
+const USUAL_PARTS: usize = 4;
+
 /// Parts with a sign between each two, one at least, and the tokens behind them.
 pub(crate) fn listed<'a, T: Phrase + Drop>(
     alloc: Global,
@@ -70,7 +73,7 @@ pub(crate) fn listed<'a, T: Phrase + Drop>(
     ensures read { ReadsAs (listed between T.reading) text.now tokens.now result }
     ensures rest { IfOk result (λ x. IsRest text.now tokens.now x.1.now) }
 {
-    let mut parts = Sequence::new(alloc);
+    let mut parts = Sequence::from_vec(Vec::with_capacity(alloc, USUAL_PARTS)?);
     let mut left = tokens;
     'parts: loop {
         let (part, rest) = T::part(alloc, text, left)?;

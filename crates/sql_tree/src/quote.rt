@@ -11,7 +11,7 @@ use std::alloc::{AllocError, Global};
 fn halved(alloc: Global, inner: &str) -> Result<String, AllocError>
     ensures { IfOk result (λ text. string_bytes text ≡ halved inner.now) }
 {
-    let mut text = String::new(alloc);
+    let mut text = String::with_capacity(alloc, inner.len())?;
     let mut left = inner;
     'quotes: while let Some((front, behind)) = left.split_once('\'') {
         text.push_str(front)?;

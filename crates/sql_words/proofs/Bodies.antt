@@ -1,16 +1,17 @@
 -- The text of a statement up to its end, and the first statement that is too long.
-use Rattle.std.proofs.Common.{◌≡◌, ℕ, ◌+◌, ◌<◌, ◌≤◌, true, false, eqb, List, [], ◌∷◌, length, get_or, drop, Some, None, inl, inr, refl, ◌∙◌, arith}
+use Rattle.std.proofs.Common.{◌≡◌, ℕ, ◌+◌, ◌<◌, ◌≤◌, true, false, eqb, List, [], ◌∷◌, length, get_or, drop, Some, None, inl, inr, refl, subst, ◌∙◌, arith}
 use Rattle.std.specs.Prelude.{All}
-use Rattle.std.specs.List.{position_from}
-use Rattle.std.proofs.lemmas.Bool.{cases_Bool, ltb-false}
+use Rattle.std.specs.List.{position_from, prefix_len}
+use Rattle.std.proofs.lemmas.Bool.{cases_Bool, cond_both, ltb-false}
 use Rattle.std.proofs.lemmas.Bool.Decides.{nat_tests}
-use Rattle.std.proofs.lemmas.List.{at_drop_more, at_drop_all}
+use Rattle.std.proofs.lemmas.List.{at_drop_more, at_drop_all, length-drop}
 use Rattle.std.proofs.lemmas.List.Elements.{All-nil, All-cons}
 use Rattle.cube_language.specs.declared.piece.Piece.{Piece}
 use Rattle.cube_language.specs.Pieces.{is_long, statement_limit}
-use Rattle.sql_words.specs.Fronts.{begins_comment, part_len, goes_on, is_inside, IsBehindBody}
+use Rattle.sql_words.specs.Fronts.{begins_comment, part_len, goes_on, is_inside, is_plain, IsBehindBody}
 use Rattle.sql_words.proofs.PartFronts.{part_of}
-use Rattle.sql_words.proofs.Gaps.{ArePassing, passing_more, shorter}
+use Rattle.sql_words.proofs.Gaps.{ArePassing, no_comment, passing_more, shorter}
+use Rattle.sql_words.proofs.Prefixes.{rest_one}
 
 dash_ends_nothing : (b : ℕ) (bytes : List ℕ) → begins_comment (b ∷ bytes) ≡ true → eqb b 59 ≡ false
 dash_ends_nothing b [] comment = absurd cc
@@ -37,6 +38,25 @@ body_more bytes (b ∷ rest) goes h = passing_more is_inside bytes b rest (insid
 
 pub body_all : (bytes rest : List ℕ) → goes_on rest ≡ false → ArePassing is_inside bytes rest → IsBehindBody bytes rest
 body_all bytes rest ends h = record { parts = h.parts; inside = h.pass; are = h.are; stops = ends }
+
+-- a plain byte is one part, and the statement goes on at it
+plain_long : (b : ℕ) (bytes : List ℕ) → is_plain b ≡ true → part_len (b ∷ bytes) ≡ 1
+plain_long b bytes plain =
+    let quote : eqb b 39 ≡ false = grind (arith, nat_tests) in
+    let none : begins_comment (b ∷ bytes) ≡ false = no_comment b bytes (grind (arith, nat_tests)) in
+    rw (quote, none) refl
+
+plain_goes : (b : ℕ) (bytes : List ℕ) → is_plain b ≡ true → goes_on (b ∷ bytes) ≡ true
+plain_goes b bytes plain = grind (arith, nat_tests)
+
+pub body_plain : (bytes rest : List ℕ) → ArePassing is_inside bytes rest → ArePassing is_inside bytes (drop (prefix_len is_plain rest) rest)
+body_plain bytes [] h = h
+body_plain bytes (b ∷ rest) h =
+    let F : ℕ → Type 0 = λ n. ArePassing is_inside bytes (drop n (b ∷ rest)) in
+    cond_both (is_plain b) (1 + prefix_len is_plain rest) 0 F (λ plain. rw (rest_one (prefix_len is_plain rest) b rest) (body_plain bytes rest (subst F (plain_long b rest plain) (body_more bytes (b ∷ rest) (plain_goes b rest plain) h)))) (λ none. h)
+
+pub plain_shorter : (rest : List ℕ) → length (drop (prefix_len is_plain rest) rest) ≤ length rest
+plain_shorter rest = omega (arith, length-drop (prefix_len is_plain rest) rest)
 
 -- ---- the first statement that is too long
 

@@ -1,10 +1,11 @@
 -- What numbers are made of, and how far the one at the front reaches.
-use Rattle.std.proofs.Common.{◌≡◌, ℕ, ◌<◌, true, false, not, eqb, ◌&&◌, List, [], ◌∷◌, length, ◌⊎◌, inl, inr, IsUtf8, refl, sym, ap, ◌∙◌, arith}
+use Rattle.std.proofs.Common.{◌≡◌, ℕ, ◌<◌, ◌≤◌, true, false, not, eqb, ◌&&◌, List, [], ◌∷◌, length, take, pos, ◌⊎◌, inl, inr, IsUtf8, refl, sym, ap, ◌∙◌, arith}
 use Rattle.std.specs.Char.{is_ascii_digit}
 use Rattle.std.specs.List.{list_all}
 use Rattle.std.specs.Str.{IsAscii, all_ascii_digits}
-use Rattle.std.specs.Str.Parse.{IsNumeral, without_leading_sign}
+use Rattle.std.specs.Str.Parse.{IsNumeral, digits_value, signed_digits_value, without_leading_sign}
 use Rattle.std.proofs.lemmas.Bool.{and_from, and_parts}
+use Rattle.std.proofs.lemmas.List.{take_all}
 use Rattle.std.proofs.lemmas.Bool.Decides.{nat_tests}
 use Rattle.std.proofs.lemmas.Str.{IsUtf8-from_ascii}
 use Rattle.std.proofs.lemmas.Str.Ascii.{IsAscii-nil, IsAscii-cons}
@@ -66,4 +67,18 @@ number_is_numeral (b ∷ bytes) number =
       | inr plain ↦
           let none = digit_is_no_sign b (digits_parts b bytes plain.1).0 in
           rw (none.0, none.1) (digits_are_numeral (b ∷ bytes) plain.1)
+    ]
+
+-- ---- the value of a number without a minus sign
+
+pub digits_value_whole : (digits : List ℕ) (i : ℕ) → length digits ≤ i → digits_value 10 (take i digits) ≡ digits_value 10 digits
+digits_value_whole digits i end = ap (digits_value 10) (take_all i digits end)
+
+pub plain_value : (b : ℕ) (bytes : List ℕ) → (b ≡ 45 → ⊥) → is_number (b ∷ bytes) ≡ true → signed_digits_value 10 (b ∷ bytes) ≡ pos (digits_value 10 (b ∷ bytes))
+plain_value b bytes plain number =
+    elim (number_cases b bytes number) [
+      | inl minus ↦ absurd (plain minus.0)
+      | inr digits ↦
+          let none = digit_is_no_sign b (digits_parts b bytes digits.1).0 in
+          rw (none.0, none.1) refl
     ]

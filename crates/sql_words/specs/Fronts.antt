@@ -48,6 +48,10 @@ abbrev pub goes_on : List ℕ → Bool
 goes_on [] = false
 goes_on (byte ∷ bytes) = not (byte == 59)
 
+-- A byte that is a part by itself whatever comes next, and ends no statement.
+abbrev pub is_plain : ℕ → Bool
+is_plain byte = not (byte == 59 || (byte == 39 || byte == 45))
+
 -- A part that does not end a statement.
 abbrev pub is_inside : ScriptPart → Bool
 is_inside part = not (is_end part)

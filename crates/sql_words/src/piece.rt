@@ -1,10 +1,10 @@
 //! The statements of a script, by their places.
 
 ghost use Rattle.std.specs.Prelude.{◌≡◌, ◌≤◌, drop, length, IfOk, IfSome, IfNone, IsUtf8};
-ghost use Rattle.std.specs.List.{position_from};
+ghost use Rattle.std.specs.List.{position_from, prefix_len};
 ghost use Rattle.cube_values.specs.Faults.{IfFault};
 ghost use Rattle.cube_language.specs.Pieces.{IsScript, HasScriptFault, is_long};
-ghost use Rattle.sql_words.specs.Fronts.{goes_on, IsBehindBody};
+ghost use Rattle.sql_words.specs.Fronts.{goes_on, is_plain, IsBehindBody};
 ghost use Rattle.sql_words.specs.Texts.{AreTextsAt, IsTextAt, SplitsInFew, SplitsInMany, piece_bytes};
 
 use crate::part::{behind_gap, part_len};
@@ -23,16 +23,39 @@ fn goes_on(bytes: &[u8]) -> bool
     }
 }
 
+/// Whether the byte is a part by itself whatever comes next, and ends no statement.
+fn is_plain(byte: u8) -> bool
+    ensures { result ≡ is_plain byte }
+{
+    byte != b';' && byte != b'\'' && byte != b'-'
+}
+
+/// How many plain bytes stand at the front.
+fn plain_len(bytes: &[u8]) -> usize
+    ensures { result ≡ prefix_len is_plain bytes.now }
+{
+    bytes.iter().take_while(|byte| is_plain(**byte)).count()
+}
+
+/// What stands behind the plain bytes at the front.
+#[tactic(auto, using(crate::proofs::Prefixes::prefix_within))]
+fn behind_plain(bytes: &[u8]) -> &[u8]
+    ensures { result.now ≡ drop (prefix_len is_plain bytes.now) bytes.now }
+{
+    let (_, behind) = bytes.split_at(plain_len(bytes));
+    behind
+}
+
 /// What stands behind the text of a statement: the semicolon by itself that ends it, or nothing.
-#[tactic(auto, using(crate::proofs::Bodies::body_shorter, crate::proofs::Bodies::body_more, crate::proofs::Bodies::body_all, crate::proofs::Gaps::passing_none))]
+#[tactic(auto, using(crate::proofs::Bodies::body_shorter, crate::proofs::Bodies::body_more, crate::proofs::Bodies::body_plain, crate::proofs::Bodies::plain_shorter, crate::proofs::Bodies::body_all, crate::proofs::Gaps::passing_none))]
 fn behind_body(bytes: &[u8]) -> &[u8]
     ensures body { IsBehindBody bytes.now result.now }
     ensures within { length result.now ≤ length bytes.now }
 {
-    let mut rest = bytes;
+    let mut rest = behind_plain(bytes);
     'body: while goes_on(rest) {
         let (_, behind) = rest.split_at(part_len(rest));
-        rest = behind;
+        rest = behind_plain(behind);
     }
     rest
 }

@@ -71,6 +71,9 @@ fn front_of(bytes: &[u8], at: u64) -> Result<(TokenKind, usize), TokenFault>
     }
 }
 
+// For how many tokens there is room at first: those of most statements.
+const USUAL_TOKENS: usize = 16;
+
 /// The tokens of a text, or what is wrong at the first place where none stands. Both the time and the memory
 /// taken are linear in the bytes of the text.
 pub fn tokens(alloc: Global, text: &str) -> Result<Tokens, CallError<TokenFault>>
@@ -78,7 +81,7 @@ pub fn tokens(alloc: Global, text: &str) -> Result<Tokens, CallError<TokenFault>
     ensures fault { IfFault result (λ fault. HasTokenFault text.now fault) }
 {
     let bytes = text.as_bytes();
-    let mut tokens = Tokens::new(alloc);
+    let mut tokens = Tokens::from_vec(Vec::with_capacity(alloc, USUAL_TOKENS)?);
     let mut rest = behind_gap(bytes);
     'tokens: while !rest.is_empty() {
         let start = bytes.len() - rest.len();

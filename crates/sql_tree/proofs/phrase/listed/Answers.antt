@@ -8,11 +8,11 @@ use Rattle.sql_tree.proofs.Lists.{IsListing, listing_none, listing_more, listing
 use Rattle.sql_tree.proofs.phrase.listed.Goals as goal
 
 pub parts-init : goal.parts-init
-parts-init g c = (subst (λ parts. IsListing c.args.between g.T.Phrase.reading (symbols_of c.args.text.now c.args.tokens.now) parts (symbols_of c.args.text.now c.args.tokens.now)) (sym c.new-parts.ensures) (listing_none c.args.between g.T.Phrase.reading (symbols_of c.args.text.now c.args.tokens.now)), c.requires, omega arith)
+parts-init g c = (subst (λ parts. IsListing c.args.between g.T.Phrase.reading (symbols_of c.args.text.now c.args.tokens.now) parts (symbols_of c.args.text.now c.args.tokens.now)) (sym (c.from_vec-parts.ensures ∙ c.in_ok-with_capacity.ensures.items)) (listing_none c.args.between g.T.Phrase.reading (symbols_of c.args.text.now c.args.tokens.now)), c.requires, omega arith)
 
 pub returns-in_err-part-clause-read : goal.returns-in_err-part-clause-read
 returns-in_err-part-clause-read g c =
-    let p = err_from_is_err_and c.from_residual.result c.from_residual.ensures.1 in
+    let p = err_from_is_err_and c.from_residual-in_err-part.result c.from_residual-in_err-part.ensures.1 in
     rw (p.1, p.2) (listing_fails c.args.between g.T.Phrase.reading (symbols_of c.args.text.now c.args.tokens.now) c.parts.parts (symbols_of c.args.text.now c.parts.left.now) c.in_err-part.field-0.0 c.parts.invariant.0 c.in_err-part.ensures.read)
 
 pub parts-preserved : goal.parts-preserved

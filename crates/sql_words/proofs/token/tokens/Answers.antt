@@ -1,4 +1,4 @@
-use Rattle.std.proofs.Common.{subst, arith}
+use Rattle.std.proofs.Common.{◌∙◌, subst, arith}
 use Rattle.std.proofs.lemmas.Bool.Decides.{nat_tests}
 use Rattle.std.proofs.lemmas.Grind.{common_steps}
 use Rattle.cube_language.specs.Tokens.{AreTokens, HasTokenFault}
@@ -6,7 +6,9 @@ use Rattle.sql_words.proofs.TokensLeft.{read_none, read_more, read_all, read_fai
 use Rattle.sql_words.proofs.token.tokens.Goals as goal
 
 pub tokens-init : goal.tokens-init
-tokens-init c = rw c.new-tokens.ensures (read_none _ _ c.behind_gap-rest.ensures.gap)
+tokens-init c =
+    rw (c.from_vec-tokens.ensures ∙ c.in_ok-with_capacity.ensures.items)
+    (read_none _ _ c.behind_gap-rest.ensures.gap)
 
 pub returns-in-Err-clause-fault : goal.returns-in-Err-clause-fault
 returns-in-Err-clause-fault c =
