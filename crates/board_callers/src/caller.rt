@@ -41,8 +41,9 @@ pub trait CellCaller<C: Cells> {
         ensures history { HasHistoryOf C.step C.fits (opening self.new) (number self.new)
             (own self.new) };
 
-    /// Sleeps until it is rung, and some milliseconds at most.
-    fn rest<R: Wait>(&self, rt: &R, board: &Board<C>)
+    /// Sleeps until it is rung, and some milliseconds at most. It tells how often it was rung since it last slept,
+    /// which is a hint.
+    fn rest<R: Wait>(&self, rt: &R, board: &Board<C>) -> u64
         requires board { calls_on board.now self.now };
 }
 
@@ -62,7 +63,7 @@ impl<C: Cells> CellCaller<C> for Pass<C> {
         board.call(rt, self, cell, call)
     }
 
-    fn rest<R: Wait>(&self, rt: &R, board: &Board<C>) {
+    fn rest<R: Wait>(&self, rt: &R, board: &Board<C>) -> u64 {
         board.rest(rt, self)
     }
 }

@@ -122,7 +122,9 @@ pub fn fetch_answer<S: LinkedShard, R: Wait, P: CellCaller<CoreCells<S>>>(
     'asks: for _ in rt.forever() {
         match ask_for_answer(rt, board, caller, size, client, number) {
             Fetched::Got(said) => return said,
-            Fetched::NotYet => caller.rest(rt, board),
+            Fetched::NotYet => {
+                caller.rest(rt, board);
+            }
         }
     }
     unreachable!()

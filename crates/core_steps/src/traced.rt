@@ -59,7 +59,7 @@ impl<P: CellCaller<ShardCells>> CellCaller<ShardCells> for Traced<P> {
         self.caller.call(rt, board, cell, call)
     }
 
-    fn rest<R: Wait>(&self, rt: &R, board: &Board<ShardCells>) {
+    fn rest<R: Wait>(&self, rt: &R, board: &Board<ShardCells>) -> u64 {
         self.caller.rest(rt, board)
     }
 }

@@ -67,7 +67,9 @@ pub fn flush_loop<S: LinkedShard, R: Wait, P: CellCaller<CoreCells<S>>, M: Makes
                 drop(job);
                 lost = serve_flush(rt, board, caller, size, maker, lost, client);
             }
-            Taken::Empty => caller.rest(rt, board),
+            Taken::Empty => {
+                caller.rest(rt, board);
+            }
             Taken::Closed => return make_last_round(rt, board, caller, size, maker, lost),
         }
     }

@@ -66,9 +66,12 @@ impl<C: Cells, P: CellCaller<C>> CellCaller<C> for OrderedCaller<P> {
         self.caller.call(rt, board, cell, call)
     }
 
-    fn rest<R: Wait>(&self, rt: &R, board: &Board<C>) {
+    fn rest<R: Wait>(&self, rt: &R, board: &Board<C>) -> u64 {
         match &self.place {
-            Some(place) => place.take_baton(rt),
+            Some(place) => {
+                place.take_baton(rt);
+                1
+            }
             None => self.caller.rest(rt, board),
         }
     }

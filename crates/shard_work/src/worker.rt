@@ -37,12 +37,19 @@ pub fn work<S: LinkedShard, R: Wait, P: CellCaller<CoreCells<S>>, G: Gate>(
     ensures served { HasServedAll (P.number caller.old) number (2 + size.now.shards + number)
         (P.own caller.old) (P.own caller.new) }
 {
+    // Each job is rung for once it is posted. While no ring is left that no job was taken for, the worker does
+    // not ask the mail.
+    let mut rings = 1;
     'jobs: for _ in rt.forever() {
+        if rings == 0 {
+            rings = caller.rest(rt, board).max(1);
+        }
         match take_job(rt, board, caller, size, number) {
             Taken::Job { client, job } => {
+                rings -= 1;
                 do_job(rt, board, caller, size, number, gate, client, job);
             }
-            Taken::Empty => caller.rest(rt, board),
+            Taken::Empty => rings = 0,
             Taken::Closed => return,
         }
     }

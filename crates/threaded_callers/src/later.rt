@@ -46,7 +46,7 @@ impl<C: Cells, E: Moment<C::Call, C::Answer>> CellCaller<C> for LaterPass<C, E> 
         board.call(rt, &mut self.pass, cell, call)
     }
 
-    fn rest<R: Wait>(&self, rt: &R, board: &Board<C>) {
+    fn rest<R: Wait>(&self, rt: &R, board: &Board<C>) -> u64 {
         board.rest(rt, &self.pass)
     }
 }

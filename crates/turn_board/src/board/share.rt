@@ -83,12 +83,13 @@ impl<C: Cells> Board<C> {
     }
 
     /// Waits until the number that the pass acts as is rung, or was since its last rest, and ten milliseconds at most.
-    /// Nothing else changes.
-    pub fn rest<R: Wait>(&self, rt: &R, pass: &Pass<C>)
+    /// Nothing else changes. It tells how often the number was rung since then, which is a hint.
+    pub fn rest<R: Wait>(&self, rt: &R, pass: &Pass<C>) -> u64
         requires { IsPassOf self.now pass.now }
     {
-        if let Some(bell) = self.bells.get(pass.number() as usize) {
-            bell.rest(rt);
+        match self.bells.get(pass.number() as usize) {
+            Some(bell) => bell.rest(rt),
+            None => 0,
         }
     }
 
