@@ -3,8 +3,9 @@
 ghost use Rattle.cube_core.specs.CoreSteps.{CanTake, CoreStep};
 ghost use Rattle.cube_core.specs.declared.cell.CoreCall.TheVariants as asked;
 
+use crate::answered::AnsweredCall;
 use crate::jobs::{Job, JobAnswer};
-use crate::shard::{ShardAnswer, ShardCall, ShardCell};
+use crate::shard::{ShardCall, ShardCell};
 use aosi_desk::Desk;
 use core_cells::{
     DeskAnswer, DeskCall, MailAnswer, MailCall, NamesAnswer, NamesCall, call_desk, call_mail,
@@ -38,7 +39,7 @@ pub enum CoreCall {
 pub enum CoreAnswer {
     Desk(DeskAnswer),
     Names(NamesAnswer),
-    Shard(ShardAnswer),
+    Shard(AnsweredCall),
     Mail(MailAnswer<Job, JobAnswer>),
 }
 

@@ -1,6 +1,7 @@
 //! What clients post to mails, and what comes back.
 
-use crate::shard::{ShardAnswer, ShardCall};
+use crate::answered::AnsweredCall;
+use crate::shard::ShardCall;
 
 /// What a job asks for.
 #[derive(Drop)]
@@ -35,5 +36,5 @@ pub enum FlushAnswer {
 #[derive(Drop)]
 pub enum JobAnswer {
     Flush(FlushAnswer),
-    Shard(ShardAnswer),
+    Shard(AnsweredCall),
 }

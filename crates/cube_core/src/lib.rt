@@ -2,6 +2,7 @@
 //! below.
 #![tactic(auto)]
 
+mod answered;
 mod cell;
 mod cell_events;
 mod group_calls;
@@ -15,6 +16,7 @@ mod mails;
 mod outcome;
 mod shard;
 
+pub use answered::AnsweredCall;
 pub use cell::{CoreAnswer, CoreCall, CoreCell, apply};
 pub use cell_events::{desk_calls_are_events, mail_calls_are_events, names_calls_are_events};
 pub use group_calls::{

@@ -3,6 +3,7 @@
 ghost use Rattle.cube_core.specs.declared.shard.ShardAnswer.{ShardAnswer};
 ghost use Rattle.cube_core.specs.declared.shard.ShardCall.{ShardCall};
 
+use crate::answered::AnsweredCall;
 use agg_fold::Partial;
 use cube_rounds::RoundBricks;
 use cube_values::{Boxed, BoxedQuery, CodedRows, SharedShape, Snapshot, Span};
@@ -16,7 +17,7 @@ pub enum ShardCall {
         cube: u32,
         shape: SharedShape,
         epoch: u64,
-        rows: CodedRows,
+        rows: Boxed<CodedRows>,
     },
     /// A transaction deletes the rows of a box.
     DropBox {
@@ -74,8 +75,8 @@ pub trait ShardCell {
     /// The shard before a call, the call, its answer, and the shard that it leaves.
     ghost step: { Self → ShardCall → ShardAnswer → Self → Type 0 };
 
-    /// Makes the call.
-    fn call(&mut self, call: ShardCall) -> ShardAnswer
+    /// Makes the call, which is handed back with its answer.
+    fn call(&mut self, call: ShardCall) -> AnsweredCall
         requires { can self.old call }
         ensures { step self.old call result self.new };
 }

@@ -5,7 +5,7 @@ ghost use Rattle.shard_events.specs.ShardsInRuns.{FitsShard, ShardAnswerSays};
 ghost use Rattle.linked_shards.specs.CellShards.{CanCallCoreShard, CoreShardStep, CoreShardStands, linked-shards};
 
 use core_program::CoreCells;
-use cube_core::{LinkedShard, ShardAnswer, ShardCall, ShardCell};
+use cube_core::{AnsweredCall, LinkedShard, ShardAnswer, ShardCall, ShardCell};
 use cube_values::{Boxed, CallError};
 use shard_cell::Shard;
 use std::alloc::AllocError;
@@ -25,8 +25,9 @@ impl ShardCell for CoreShard {
     ghost step = { CoreShardStep };
 
     #[inline(always)]
-    fn call(&mut self, call: ShardCall) -> ShardAnswer {
-        call_shard(&mut self.shard, call)
+    fn call(&mut self, call: ShardCall) -> AnsweredCall {
+        let answer = call_shard(&mut self.shard, &call);
+        AnsweredCall::new(answer, call)
     }
 }
 
@@ -42,9 +43,9 @@ impl LinkedShard for CoreShard {
 
 // Makes a call on a shard.
 #[inline(always)]
-fn call_shard(shard: &mut Shard, call: ShardCall) -> ShardAnswer
-    requires { CanCallShard shard.old call }
-    ensures { ShardStep shard.old call result shard.new }
+fn call_shard(shard: &mut Shard, call: &ShardCall) -> ShardAnswer
+    requires { CanCallShard shard.old call.now }
+    ensures { ShardStep shard.old call.now result shard.new }
 {
     match call {
         ShardCall::Append {
@@ -52,7 +53,7 @@ fn call_shard(shard: &mut Shard, call: ShardCall) -> ShardAnswer
             shape,
             epoch,
             rows,
-        } => match shard.append(cube, shape.shape(), epoch, &rows) {
+        } => match shard.append(*cube, shape.shape(), *epoch, rows.get()) {
             Ok(()) => ShardAnswer::Done,
             Err(CallError::Fault(full)) => ShardAnswer::ShardFull { rows: full.rows },
             Err(CallError::NoMemory) => ShardAnswer::NoMemory,
@@ -62,7 +63,7 @@ fn call_shard(shard: &mut Shard, call: ShardCall) -> ShardAnswer
             shape,
             epoch,
             span,
-        } => match shard.drop_box(cube, shape.shape(), epoch, &span) {
+        } => match shard.drop_box(*cube, shape.shape(), *epoch, span) {
             Ok(()) => ShardAnswer::Done,
             Err(AllocError) => ShardAnswer::NoMemory,
         },
@@ -82,7 +83,7 @@ fn call_shard(shard: &mut Shard, call: ShardCall) -> ShardAnswer
             query,
             from,
             to,
-        } => match shard.delta(shape.shape(), query.get(), from, to) {
+        } => match shard.delta(shape.shape(), query.get(), *from, *to) {
             Ok(change) => match Boxed::new(shard.alloc(), change) {
                 Ok(change) => ShardAnswer::Changed(change),
                 Err(AllocError) => ShardAnswer::NoMemory,
@@ -90,14 +91,14 @@ fn call_shard(shard: &mut Shard, call: ShardCall) -> ShardAnswer
             Err(AllocError) => ShardAnswer::NoMemory,
         },
         ShardCall::Rollback { epoch } => {
-            shard.rollback(epoch);
+            shard.rollback(*epoch);
             ShardAnswer::Done
         }
         ShardCall::Purge { epoch } => {
-            shard.purge(epoch);
+            shard.purge(*epoch);
             ShardAnswer::Done
         }
-        ShardCall::CopyRound { from, to } => match shard.copy_round(from, to) {
+        ShardCall::CopyRound { from, to } => match shard.copy_round(*from, *to) {
             Ok(copied) => ShardAnswer::Copied(copied),
             Err(AllocError) => ShardAnswer::NoMemory,
         },

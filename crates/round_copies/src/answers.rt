@@ -45,7 +45,7 @@ fn copy_in(said: JobAnswer) -> Result<RoundBricks, AllocError>
     ensures { IfOk result (λ copy. said ≡ copy_answer copy) }
 {
     match said {
-        JobAnswer::Shard(said) => copy_of_shard(said),
+        JobAnswer::Shard(said) => copy_of_shard(said.into_answer()),
         JobAnswer::Flush(_) => Err(AllocError),
     }
 }

@@ -42,7 +42,7 @@ fn put_by_answer(shard: u32, said: &JobAnswer) -> PutEnd
     ensures { result ≡ put_by_answer shard said.now }
 {
     match said {
-        JobAnswer::Shard(said) => put_by_shard(shard, said),
+        JobAnswer::Shard(said) => put_by_shard(shard, said.answer()),
         JobAnswer::Flush(said) => put_by_flush(shard, *said),
     }
 }

@@ -9,7 +9,7 @@ ghost use Rattle.session_batches.specs.BatchCalls.{AreAppendsOf, append_call, ap
 
 use brick_address::brick_of;
 use cube_core::ShardCall;
-use cube_values::{CodedRows, SharedShape};
+use cube_values::{Boxed, CodedRows, SharedShape};
 use shard_batches::split_by_shard;
 use std::alloc::{AllocError, Global};
 
@@ -61,6 +61,7 @@ fn one_append(
 {
     let number = shard_of_first(shape, shards, &rows);
     let shared = shape.share()?;
+    let rows = Boxed::new(alloc, rows)?;
     let mut numbers = Vec::with_capacity(alloc, 1)?;
     numbers.push_reserved(number);
     let mut calls = Vec::with_capacity(alloc, 1)?;
@@ -104,13 +105,23 @@ fn appends_of(
     let mut calls = Vec::with_capacity(alloc, 1)?;
     'shards: for number in 0..shards {
         let batch = left.remove(0);
-        add_append(&mut numbers, &mut calls, number, cube, shape, epoch, batch)?;
+        add_append(
+            alloc,
+            &mut numbers,
+            &mut calls,
+            number,
+            cube,
+            shape,
+            epoch,
+            batch,
+        )?;
     }
     Ok(NumberedCalls { numbers, calls })
 }
 
 // Adds the call that appends a batch, where it has rows.
 fn add_append(
+    alloc: Global,
     numbers: &mut Vec<u32>,
     calls: &mut Vec<ShardCall>,
     number: u32,
@@ -128,12 +139,13 @@ fn add_append(
         return Ok(());
     }
     let shared = shape.share()?;
+    let rows = Boxed::new(alloc, batch)?;
     numbers.push(number)?;
     calls.push(ShardCall::Append {
         cube,
         shape: shared,
         epoch,
-        rows: batch,
+        rows,
     })?;
     Ok(())
 }

@@ -16,7 +16,7 @@ fn undone(said: &JobAnswer) -> bool
     ensures { result ≡ is_undone said.now }
 {
     match said {
-        JobAnswer::Shard(said) => said_undone(said),
+        JobAnswer::Shard(said) => said_undone(said.answer()),
         JobAnswer::Flush(said) => flush_undone(*said),
     }
 }

@@ -36,7 +36,7 @@ fn merge_answer(
     ensures { OnOk result (AddsAnswer query.now answer.now whole.old.groups whole.new.groups) }
 {
     match answer {
-        JobAnswer::Shard(said) => merge_found(query, whole, said),
+        JobAnswer::Shard(said) => merge_found(query, whole, said.answer()),
         _ => Err(AllocError),
     }
 }

@@ -11,7 +11,7 @@ pub(crate) fn round_answer_in(said: JobAnswer) -> FlushAnswer
 {
     match said {
         JobAnswer::Flush(said) => said,
-        JobAnswer::Shard(said) => shard_answer_in(said),
+        JobAnswer::Shard(said) => shard_answer_in(said.into_answer()),
     }
 }
 

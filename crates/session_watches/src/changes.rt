@@ -40,7 +40,7 @@ fn merge_answer(
     ensures { OnOk result (AddsChange query.now answer.now whole.old whole.new) }
 {
     match answer {
-        JobAnswer::Shard(said) => merge_said(query, whole, said),
+        JobAnswer::Shard(said) => merge_said(query, whole, said.answer()),
         _ => Err(AllocError),
     }
 }

@@ -11,7 +11,7 @@ ghost use Rattle.cube_core.specs.declared.jobs.Work.TheVariants as work;
 ghost use Rattle.cube_core.specs.declared.shard.ShardCall.{ShardCall};
 
 use core_cells::MailAnswer;
-use cube_core::{CoreAnswer, Job, JobAnswer, ShardAnswer, ShardCall, Work};
+use cube_core::{AnsweredCall, CoreAnswer, Job, JobAnswer, ShardCall, Work};
 use mail_cell::Taken;
 
 // What was taken.
@@ -39,7 +39,7 @@ fn taken_in_mail(came: MailAnswer<Job, JobAnswer>) -> Taken<Job>
 
 // What the shard answered.
 #[inline(always)]
-pub(crate) fn shard_answer_in(came: CoreAnswer) -> ShardAnswer
+pub(crate) fn shard_answer_in(came: CoreAnswer) -> AnsweredCall
     requires { (c : ShardCall) × CoreAnswers (call.Shard c) came }
     ensures { came ≡ answer.Shard result }
 {

@@ -10,7 +10,7 @@ use crate::answers::{expect_done, shard_answer_in, shard_call_in, taken_in};
 use board_callers::CellCaller;
 use core_cells::MailCall;
 use core_program::{CoreCells, CoreSize, answers_fit_their_calls, workers_serve_their_shards};
-use cube_core::{CoreCall, Job, JobAnswer, LinkedShard, ShardAnswer, ShardCall};
+use cube_core::{AnsweredCall, CoreCall, Job, JobAnswer, LinkedShard, ShardCall};
 use mail_cell::Taken;
 use outside_disk::Gate;
 use std::sync::Wait;
@@ -53,7 +53,7 @@ pub(crate) fn make_call<S: LinkedShard, R: Wait, P: CellCaller<CoreCells<S>>>(
     size: &CoreSize,
     number: u32,
     call: ShardCall,
-) -> ShardAnswer
+) -> AnsweredCall
     requires board { P.calls_on board.now caller.old }
     requires there { number < size.now.shards }
     requires worker { IsWorkerOf S.fits S.stands S.says (P.opening caller.old) (P.number caller.old)
@@ -82,7 +82,7 @@ pub(crate) fn reply_to<S: LinkedShard, R: Wait, P: CellCaller<CoreCells<S>>>(
     size: &CoreSize,
     number: u32,
     client: u32,
-    answer: ShardAnswer,
+    answer: AnsweredCall,
 )
     requires board { P.calls_on board.now caller.old }
     requires callers { size.now.sessions + 2 + size.now.shards ≤ callers_of board.now }

@@ -9,4 +9,4 @@ returns c =
     c.push_reserved-2.new.self.items c.requires.some c.requires.one
     (c.push_reserved.ensures.items ∙ (λ i. c.in_ok-numbers.ensures.items i ++ c.shard_of_first-number.ensures i ∷ []))
     (c.push_reserved-2.ensures.items ∙ (λ i. c.in_ok-calls.ensures.items i
-    ++ shard.Append c.args.cube (c.in_ok-shared.ensures i) c.args.epoch c.args.rows ∷ []))
+    ++ shard.Append c.args.cube (c.in_ok-shared.ensures i) c.args.epoch (c.in_ok-rows.ensures i) ∷ []))
