@@ -1,1 +1,3 @@
 pub mod ValidFronts
+pub mod Keywords
+pub mod KeywordsByLetter

@@ -1,4 +1,5 @@
 pub mod Keywords
+pub mod Letters
 pub mod Names
 pub mod Cubes
 pub mod CubesText

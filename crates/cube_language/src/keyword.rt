@@ -1,7 +1,8 @@
 //! The keywords of statements, which are no names.
 
-ghost use Rattle.std.specs.Prelude.{◌≡◌};
+ghost use Rattle.std.specs.Prelude.{◌≡◌, find};
 ghost use Rattle.cube_language.specs.Keywords.{is_keyword, keyword_of, keyword_text, spells};
+ghost use Rattle.cube_language.specs.Letters.{keywords_at};
 
 /// A word that statements are made with.
 #[derive(Clone, Copy, Debug, PartialEq, Eq)]
@@ -141,15 +142,56 @@ pub fn spells(keyword: Keyword, word: &[u8]) -> bool
     word.eq_ignore_ascii_case(keyword_text(keyword).as_bytes())
 }
 
-/// The keyword that a word spells, in whatever case.
-#[tactic(auto, unfolding(crate::specs::Keywords::keyword_of))]
-pub fn keyword_of(word: &[u8]) -> Option<Keyword>
-    ensures { result ≡ keyword_of word.now }
+/// The keywords that begin with a small letter.
+fn keywords_at(letter: u8) -> &'static [Keyword]
+    ensures { result.now ≡ keywords_at letter }
 {
-    KEYWORDS
+    match letter {
+        b'a' => &[Keyword::And, Keyword::Avg, Keyword::Asc],
+        b'b' => &[Keyword::Between, Keyword::By, Keyword::Begin],
+        b'c' => &[
+            Keyword::Count,
+            Keyword::Commit,
+            Keyword::Create,
+            Keyword::Cube,
+        ],
+        b'd' => &[Keyword::Delete, Keyword::Dim, Keyword::Desc],
+        b'e' => &[Keyword::Epochs],
+        b'f' => &[Keyword::From, Keyword::Flush],
+        b'g' => &[Keyword::Group],
+        b'h' => &[Keyword::Having],
+        b'i' => &[Keyword::In, Keyword::Insert, Keyword::Into, Keyword::Int],
+        b'l' => &[Keyword::Load, Keyword::Limit],
+        b'm' => &[Keyword::Min, Keyword::Max, Keyword::Metric],
+        b'o' => &[Keyword::Order],
+        b'p' => &[Keyword::Purge],
+        b'r' => &[Keyword::Reject, Keyword::Rollback],
+        b's' => &[Keyword::Select, Keyword::Sum, Keyword::Show],
+        b't' => &[Keyword::Text],
+        b'v' => &[Keyword::Values],
+        b'w' => &[Keyword::Where, Keyword::Watch],
+        _ => &[],
+    }
+}
+
+/// The first of the keywords that a word spells, in whatever case.
+fn spelled_among(keywords: &[Keyword], word: &[u8]) -> Option<Keyword>
+    ensures { result ≡ find (λ k. spells k word.now) keywords.now }
+{
+    keywords
         .iter()
         .copied()
         .find(|keyword| spells(*keyword, word))
+}
+
+/// The keyword that a word spells, in whatever case.
+pub fn keyword_of(word: &[u8]) -> Option<Keyword>
+    ensures { result ≡ keyword_of word.now }
+{
+    match word {
+        [] => None,
+        [first, ..] => spelled_among(keywords_at(first.to_ascii_lowercase()), word),
+    }
 }
 
 /// Whether a word is a keyword in whatever case.

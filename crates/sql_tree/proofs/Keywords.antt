@@ -1,11 +1,10 @@
 -- Keywords and the words that spell them.
-use Rattle.std.proofs.Common.{◌≡◌, ℕ, Bool, true, false, not, ◌&&◌, nat_le, length, cond, List, [], ◌∷◌, Option, Some, None, map, find, refl, sym, ap, ◌∙◌, inl, inr}
+use Rattle.std.proofs.Common.{◌≡◌, ℕ, true, false, not, ◌&&◌, nat_le, length, cond, List, Option, Some, None, map, refl, ap, ◌∙◌, inl, inr}
 use Rattle.std.specs.Char.{to_ascii_lowercase, to_ascii_uppercase}
 use Rattle.std.specs.Option.{is_some, option_map_or}
 use Rattle.std.specs.Str.{bytes_eq}
 use Rattle.std.proofs.lemmas.Bool.{cases_Bool, and_right, both_ways}
 use Rattle.std.proofs.lemmas.Slice.Eq.{bytes_eq-Decides}
-use Rattle.cube_language.specs.declared.keyword.TheConstants.{KEYWORDS}
 use Rattle.cube_language.specs.Keywords.{spells, is_keyword, keyword_text, keyword_of}
 use Rattle.cube_language.specs.Names.{is_name, is_word}
 use Rattle.cube_language.specs.declared.keyword.Keyword.{Keyword as KeywordWord}
@@ -13,42 +12,19 @@ use Rattle.cube_language.specs.declared.keyword.Keyword.TheVariants as keyword
 use Rattle.cube_language.specs.declared.symbol.Symbol.{Symbol}
 use Rattle.cube_language.specs.declared.symbol.Symbol.TheVariants.{Keyword, Word, Open, Close, Comma, Star}
 use Rattle.cube_language.specs.Symbols.{word_symbol}
+use Rattle.cube_language.proofs.Keywords.{keyword_letters, lowered, spelled_is}
 use Rattle.sql_tree.specs.declared.head.Aggregate.{Aggregate}
 use Rattle.sql_tree.specs.declared.head.Sign.{Sign}
 use Rattle.sql_tree.specs.declared.head.Sign.TheVariants as sign
 use Rattle.sql_tree.specs.Reading.{aggregate_in, column_head_in, direction_in, kind_in, shown_in, same_keyword, sign_symbol, is_sign, keyword_in, name_in, number_in, size_in, value_in, text_in, count_in}
 
--- a word that spells a keyword is that keyword
-pub spelled_is : (k : KeywordWord) (word : List ℕ) → map to_ascii_lowercase word ≡ keyword_text k → keyword_of word ≡ Some k
-unfolding keyword_of
-spelled_is keyword.Select word e = rw e refl
-spelled_is k word e = rw e refl
-
-pub lowered : (k : KeywordWord) → map to_ascii_lowercase (keyword_text k) ≡ keyword_text k
-lowered keyword.Select = refl
-lowered k = refl
-
--- and so is the word in capitals
+-- a keyword in capitals spells it
 capitals_lowered : (k : KeywordWord) → map to_ascii_lowercase (map to_ascii_uppercase (keyword_text k)) ≡ keyword_text k
 capitals_lowered keyword.Select = refl
 capitals_lowered k = refl
 
 pub capitals_spell : (k : KeywordWord) → keyword_of (map to_ascii_uppercase (keyword_text k)) ≡ Some k
 capitals_spell k = spelled_is k (map to_ascii_uppercase (keyword_text k)) (capitals_lowered k)
-
-pub find_passes : {A : Type 0} (p : A → Bool) (xs : List A) (x : A) → find p xs ≡ Some x → p x ≡ true
-find_passes p [] x e = absurd cc
-find_passes p (y ∷ ys) x e =
-    elim (cases_Bool (p y)) [
-      | inl passes ↦ let same : y ≡ x = let at : find p (y ∷ ys) ≡ Some y = rw passes refl in cc in ap p (sym same) ∙ passes
-      | inr fails ↦ let later : find p (y ∷ ys) ≡ find p ys = rw fails refl in find_passes p ys x (sym later ∙ e)
-    ]
-
--- the letters of a keyword are those of a word that spells it
-pub keyword_letters : (k : KeywordWord) (word : List ℕ) → keyword_of word ≡ Some k → map to_ascii_lowercase word ≡ keyword_text k
-unfolding keyword_of
-keyword_letters k word e =
-    (bytes_eq-Decides (map to_ascii_lowercase word) (map to_ascii_lowercase (keyword_text k))).0 (find_passes (λ j. spells j word) KEYWORDS k e) ∙ lowered k
 
 pub same_keyword_is : (wanted k : KeywordWord) → same_keyword wanted k ≡ true → k ≡ wanted
 same_keyword_is wanted k same =

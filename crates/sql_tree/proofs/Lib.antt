@@ -1,6 +1,5 @@
 pub mod Readers
 pub mod Keywords
-pub mod KeywordsByLetter
 pub mod ReadersOfLists
 pub mod SymbolReaders
 pub mod PartReaders

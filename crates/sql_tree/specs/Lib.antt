@@ -1,4 +1,3 @@
-pub mod Letters
 pub mod Reading
 pub mod Places
 pub mod Laws

@@ -16,7 +16,6 @@ mod read;
 mod statement;
 mod symbol;
 mod top;
-mod word;
 mod written;
 
 pub use law::{a_text_spells_or_has_one_fault, what_is_printed_spells_its_statement};

@@ -8,8 +8,7 @@ ghost use Rattle.sql_words.specs.Places.{StandsIn};
 
 use crate::head::{Aggregate, ColumnHead, Operator, Shown, Sign, Verb};
 use crate::quote::unquoted;
-use crate::word::{is_name, keyword_of};
-use cube_language::{Direction, Keyword, Token, TokenKind, spells};
+use cube_language::{Direction, Keyword, Token, TokenKind, is_name, keyword_of, spells};
 use cube_values::{Text, Value};
 use sql_words::token_text;
 use std::alloc::{AllocError, Global};

@@ -1,6 +1,6 @@
 use Rattle.std.proofs.Common.{◌∙◌, arith}
-use Rattle.sql_tree.proofs.KeywordsByLetter.{spelled_at_first, spelled_by_nothing}
-use Rattle.sql_tree.proofs.word.keyword_of.Goals as goal
+use Rattle.cube_language.proofs.KeywordsByLetter.{spelled_at_first, spelled_by_nothing}
+use Rattle.cube_language.proofs.keyword.keyword_of.Goals as goal
 
 pub returns-in-empty : goal.returns-in-empty
 returns-in-empty c = spelled_by_nothing c.args.word.now (omega (arith, c.in-empty.len_below))

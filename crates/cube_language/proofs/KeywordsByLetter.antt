@@ -6,8 +6,8 @@ use Rattle.std.proofs.lemmas.Slice.Eq.{bytes_eq-Decides}
 use Rattle.cube_language.specs.Keywords.{spells, keyword_of, keyword_text}
 use Rattle.cube_language.specs.declared.keyword.Keyword.{Keyword as KeywordWord}
 use Rattle.cube_language.specs.declared.keyword.Keyword.TheVariants as keyword
-use Rattle.sql_tree.specs.Letters.{keywords_at}
-use Rattle.sql_tree.proofs.Keywords.{find_passes, keyword_letters, lowered, spelled_is}
+use Rattle.cube_language.specs.Letters.{keywords_at}
+use Rattle.cube_language.proofs.Keywords.{find_passes, keyword_letters, lowered, spelled_is}
 
 -- the keyword among those of its first letter that letters in lower case spell
 abbrev at_first : List ℕ → Option KeywordWord
