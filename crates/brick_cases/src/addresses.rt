@@ -9,19 +9,35 @@ use brick_address::{Cover, brick_of, coord_of, coords_and_addresses_agree, cover
 use cube_values::{Coords, Part, Parts, Shape, Size, Sizes, Span};
 use std::alloc::{AllocError, Global};
 use std::process::Abort;
-use std::test::Fail;
 
-fn shape_of(alloc: Global, sizes: &[(u32, u32)]) -> Result<Shape, AllocError> {
-    let mut items = Vec::new(alloc);
-    for (cardinality, range) in sizes {
-        items.push(Size {
-            cardinality: *cardinality,
-            range: *range,
-        })?;
-    }
-    Ok(Shape {
-        sizes: Sizes::from_vec(items),
+// A cardinality and a range with a colon between them.
+fn size_of(word: &str) -> Option<Size> {
+    let (cardinality, range) = word.split_once(':')?;
+    Some(Size {
+        cardinality: cardinality.parse::<u32>().ok()?,
+        range: range.parse::<u32>().ok()?,
     })
+}
+
+// A cube of dimensions with these sizes.
+fn shape_of(rt: &impl Abort, alloc: Global, text: &str) -> Shape {
+    let mut items = Vec::new(alloc);
+    for word in text.split_whitespace() {
+        let size = size_of(word).expect(rt, "a size");
+        items.push(size).expect(rt, "memory");
+    }
+    Shape {
+        sizes: Sizes::from_vec(items),
+    }
+}
+
+fn numbers_of(rt: &impl Abort, alloc: Global, text: &str) -> Vec<u32> {
+    let mut numbers = Vec::new(alloc);
+    for word in text.split_whitespace() {
+        let number = word.parse::<u32>().ok().expect(rt, "a number");
+        numbers.push(number).expect(rt, "memory");
+    }
+    numbers
 }
 
 /// The number of ranges of a dimension, the last of which may be shorter.
@@ -79,62 +95,78 @@ fn coord_again(shape: &Shape, coords: &[u32], dim: u32) -> u32
     coord_of(shape, brick_of(shape, coords), dim, offset)
 }
 
-/// The address of coordinates is this brick with these offsets, and gives the coordinates back.
-fn check_address(rt: &impl Abort, shape: &Shape, coords: &[u32], brick: u64, offsets: &[u32]) {
+// Whether the coordinates have these offsets, which give them back.
+fn have_offsets(shape: &Shape, coords: &[u32], offsets: &[u32]) -> bool
+    requires shape { IsSoundShape shape.now }
+    requires coords { AreCoords shape.now.sizes coords.now }
+{
     let sizes = shape.sizes.as_slice();
-    let bricks = sound_bricks(sizes).expect(rt, "a sound shape");
-    assert!(rt; sizes.len() <= 16);
-    assert!(rt; are_coords(sizes, coords));
-    assert_eq!(rt; brick_of(shape, coords), brick);
-    assert!(rt; brick < bricks && coords.len() == sizes.len() && offsets.len() == sizes.len());
-    for dim in 0..sizes.len() {
-        let size = sizes[dim];
-        let coord = coords[dim];
-        assert!(rt; coord < size.cardinality);
-        assert_eq!(rt; offset_of(shape, dim as u32, coord), offsets[dim]);
-        assert_eq!(rt; coord_again(shape, coords, dim as u32), coord);
+    if coords.len() != sizes.len() || offsets.len() != sizes.len() {
+        return false;
     }
+    for dim in 0..sizes.len() {
+        let coord = coords[dim];
+        if coord >= sizes[dim].cardinality
+            || offset_of(shape, dim as u32, coord) != offsets[dim]
+            || coord_again(shape, coords, dim as u32) != coord
+        {
+            return false;
+        }
+    }
+    true
+}
+
+// Whether the address of coordinates is this brick with these offsets, and gives the coordinates back.
+fn is_address(shape: &Shape, coords: &[u32], brick: u64, offsets: &[u32]) -> bool {
+    let sizes = shape.sizes.as_slice();
+    let Some(bricks) = sound_bricks(sizes) else {
+        return false;
+    };
+    sizes.len() <= 16
+        && brick < bricks
+        && are_coords(sizes, coords)
+        && brick_of(shape, coords) == brick
+        && have_offsets(shape, coords, offsets)
+}
+
+// Sizes of dimensions, each a cardinality and a range, then coordinates, the number of their brick and their offsets.
+const ADDRESSES: &str = "\
+5:2 | 0 | 0 | 0
+5:2 | 1 | 0 | 1
+5:2 | 2 | 1 | 0
+5:2 | 3 | 1 | 1
+5:2 | 4 | 2 | 0
+5:2 4:2 | 4 3 | 5 | 0 1
+5:2 4:2 | 1 3 | 1 | 1 1
+5:2 4:2 | 2 0 | 2 | 0 0
+10:1 | 7 | 7 | 0
+10:10 | 7 | 0 | 7
+4294967295:4294967295 | 4294967294 | 0 | 4294967294
+4294967295:1 | 4294967294 | 4294967294 | 0
+4294967295:2147483648 | 4294967294 | 1 | 2147483646
+2147483648:1 2147483648:1 | 2147483647 2147483647 | 4611686018427387903 | 0 0
+| | 0 |
+2:1 2:1 2:1 2:1 2:1 2:1 2:1 2:1 2:1 2:1 2:1 2:1 2:1 2:1 2:1 2:1 | 1 1 1 1 1 1 1 1 1 1 1 1 1 1 1 1 | 65535 | 0 0 0 0 0 0 0 0 0 0 0 0 0 0 0 0
+3:2 3:2 3:2 3:2 3:2 3:2 3:2 3:2 3:2 3:2 3:2 3:2 3:2 3:2 3:2 3:2 | 2 0 0 0 0 0 0 0 0 0 0 0 0 0 0 1 | 32768 | 0 0 0 0 0 0 0 0 0 0 0 0 0 0 0 1";
+
+// Whether the address of a row is as it says.
+fn has_address(rt: &impl Abort, alloc: Global, row: &str) -> Option<bool> {
+    let (sizes, row) = row.split_once('|')?;
+    let (coords, row) = row.split_once('|')?;
+    let (brick, offsets) = row.split_once('|')?;
+    let brick = brick.trim().parse::<u64>().ok()?;
+    let shape = shape_of(rt, alloc, sizes);
+    let coords = numbers_of(rt, alloc, coords);
+    let offsets = numbers_of(rt, alloc, offsets);
+    Some(is_address(&shape, coords.as_slice(), brick, offsets.as_slice()))
 }
 
 #[test]
-fn numbers_bricks(rt: HostRuntime) -> Result<(), Fail> {
+fn numbers_bricks(rt: HostRuntime) {
     coords_and_addresses_agree();
-    let most = u32::MAX;
-    let half = 1 << 31;
-    let cases: [(&[(u32, u32)], &[u32], u64, &[u32]); 17] = [
-        (&[(5, 2)], &[0], 0, &[0]),
-        (&[(5, 2)], &[1], 0, &[1]),
-        (&[(5, 2)], &[2], 1, &[0]),
-        (&[(5, 2)], &[3], 1, &[1]),
-        (&[(5, 2)], &[4], 2, &[0]),
-        (&[(5, 2), (4, 2)], &[4, 3], 5, &[0, 1]),
-        (&[(5, 2), (4, 2)], &[1, 3], 1, &[1, 1]),
-        (&[(5, 2), (4, 2)], &[2, 0], 2, &[0, 0]),
-        (&[(10, 1)], &[7], 7, &[0]),
-        (&[(10, 10)], &[7], 0, &[7]),
-        (&[(most, most)], &[most - 1], 0, &[most - 1]),
-        (&[(most, 1)], &[most - 1], 4294967294, &[0]),
-        (&[(most, half)], &[most - 1], 1, &[2147483646]),
-        (
-            &[(half, 1), (half, 1)],
-            &[half - 1, half - 1],
-            4611686018427387903,
-            &[0, 0],
-        ),
-        (&[], &[], 0, &[]),
-        (&[(2, 1); 16], &[1; 16], 65535, &[0; 16]),
-        (
-            &[(3, 2); 16],
-            &[2, 0, 0, 0, 0, 0, 0, 0, 0, 0, 0, 0, 0, 0, 0, 1],
-            32768,
-            &[0, 0, 0, 0, 0, 0, 0, 0, 0, 0, 0, 0, 0, 0, 0, 1],
-        ),
-    ];
-    for (sizes, coords, brick, offsets) in cases {
-        let shape = shape_of(rt.alloc(), sizes)?;
-        check_address(&rt, &shape, coords, brick, offsets);
+    for row in ADDRESSES.lines() {
+        assert!(rt; has_address(&rt, rt.alloc(), row) == Some(true), "{row}");
     }
-    Ok(())
 }
 
 /// Parts of a dimension: intervals within and beyond its coordinates, and lists that rise.
@@ -166,79 +198,129 @@ fn span_of(alloc: Global, first: u32, second: u32) -> Result<Span, AllocError>
     })
 }
 
-/// The cover of a brick of five by four coordinates, by a walk over all of them.
-fn walked_cover(rt: &impl Abort, shape: &Shape, span: &Span, brick: u64) -> Cover
+// What a walk has found of the coordinates of a brick.
+#[derive(Clone, Copy)]
+struct Walked {
+    has_all: bool,
+    has_none: bool,
+    first_lacks: bool,
+}
+
+// The walk after two coordinates more, of which those of the brick count.
+fn walk(
+    rt: &impl Abort,
+    shape: &Shape,
+    span: &Span,
+    brick: u64,
+    at: [u32; 2],
+    so_far: Walked,
+) -> Walked
     requires { IsSoundShape shape.now }
 {
     let parts = span.parts.as_slice();
-    assert!(rt; parts.len() == 2);
-    let mut has_all = true;
-    let mut has_none = true;
-    let mut first_lacks = false;
+    assert!(rt; parts.len() == 2 && are_coords(shape.sizes.as_slice(), &at));
+    if brick_of(shape, &at) != brick {
+        return so_far;
+    }
+    let has = span.has(&at);
+    Walked {
+        has_all: so_far.has_all && has,
+        has_none: so_far.has_none && !has,
+        first_lacks: so_far.first_lacks || !parts[0].has(at[0]),
+    }
+}
+
+// The cover of a brick of five by four coordinates, by a walk over all of them.
+fn walked_cover(rt: &impl Abort, shape: &Shape, span: &Span, brick: u64) -> Cover
+    requires { IsSoundShape shape.now }
+{
+    let mut walked = Walked {
+        has_all: true,
+        has_none: true,
+        first_lacks: false,
+    };
     for x in 0..5 {
         for y in 0..4 {
-            assert!(rt; are_coords(shape.sizes.as_slice(), &[x, y]));
-            if brick_of(shape, &[x, y]) == brick {
-                let has = span.has(&[x, y]);
-                has_all = has_all && has;
-                has_none = has_none && !has;
-                first_lacks = first_lacks || !parts[0].has(x);
-            }
+            walked = walk(rt, shape, span, brick, [x, y], walked);
         }
     }
-    if has_none {
+    if walked.has_none {
         Cover::Outside
-    } else if has_all {
+    } else if walked.has_all {
         Cover::Inside
     } else {
         Cover::Cut {
-            dimension: if first_lacks { 0 } else { 1 },
+            dimension: if walked.first_lacks { 0 } else { 1 },
         }
     }
 }
 
-#[test]
-fn covers_as_a_walk_says(rt: HostRuntime) -> Result<(), Fail> {
-    let shape = shape_of(rt.alloc(), &[(5, 2), (4, 2)])?;
-    let bricks = sound_bricks(shape.sizes.as_slice()).expect(&rt, "a sound shape");
+// The first of six bricks whose cover is not the one that a walk finds.
+fn wrong_brick(rt: &impl Abort, shape: &Shape, span: &Span) -> Option<u64>
+    requires span { All IsSoundPart span.now.parts }
+{
     assert!(rt; shape.sizes.len() <= 16);
-    assert_eq!(rt; bricks, 6);
+    assert!(rt; sound_bricks(shape.sizes.as_slice()) == Some(6));
+    for brick in 0..6 {
+        if covers(shape, span, brick) != walked_cover(rt, shape, span, brick) {
+            return Some(brick);
+        }
+    }
+    None
+}
+
+// The same for the span of these parts.
+fn wrong_in_span(
+    rt: &impl Abort,
+    alloc: Global,
+    shape: &Shape,
+    first: u32,
+    second: u32,
+) -> Option<u64> {
+    let span = span_of(alloc, first, second).expect(rt, "memory");
+    wrong_brick(rt, shape, &span)
+}
+
+#[test]
+fn covers_as_a_walk_says(rt: HostRuntime) {
+    let shape = shape_of(&rt, rt.alloc(), "5:2 4:2");
     for first in 0..12 {
         for second in 0..12 {
-            let span = span_of(rt.alloc(), first, second)?;
-            for brick in 0..bricks {
-                let wanted = walked_cover(&rt, &shape, &span, brick);
-                assert_eq!(rt;
-                    covers(&shape, &span, brick),
-                    wanted,
-                    "{first} {second} {brick}"
-                );
-            }
+            let wrong = wrong_in_span(&rt, rt.alloc(), &shape, first, second);
+            assert_eq!(rt; wrong, None, "{first} {second}");
         }
     }
-    Ok(())
+}
+
+// Whether one dimension of five in ranges of two has three bricks, and the cover of one by an interval is this.
+fn has_cover(rt: &impl Abort, alloc: Global, part: Part, brick: u64, wanted: Cover) -> bool
+    requires { IsSoundPart part }
+{
+    let shape = shape_of(rt, alloc, "5:2");
+    let parts = vec![in alloc; part].expect(rt, "memory");
+    let span = Span {
+        parts: Parts::from_vec(parts),
+    };
+    shape.sizes.len() <= 16
+        && sound_bricks(shape.sizes.as_slice()) == Some(3)
+        && brick < 3
+        && covers(&shape, &span, brick) == wanted
 }
 
 #[test]
-fn covers_one_dimension(rt: HostRuntime) -> Result<(), Fail> {
-    let shape = shape_of(rt.alloc(), &[(5, 2)])?;
-    let bricks = sound_bricks(shape.sizes.as_slice()).expect(&rt, "a sound shape");
-    assert!(rt; shape.sizes.len() <= 16 && bricks == 3);
-    let cases = [
-        (0, 1, 0, Cover::Inside),
-        (0, 1, 1, Cover::Outside),
-        (0, 0, 0, Cover::Cut { dimension: 0 }),
-        (4, 4, 2, Cover::Inside),
-    ];
-    for (first, last, brick, wanted) in cases {
-        let parts = vec![in rt.alloc(); Part::Between(first, last)]?;
-        let span = Span {
-            parts: Parts::from_vec(parts),
-        };
-        assert!(rt; brick < bricks);
-        assert_eq!(rt; covers(&shape, &span, brick), wanted);
-    }
-    let two = span_of(rt.alloc(), 0, 0)?;
+fn covers_one_dimension(rt: HostRuntime) {
+    let alloc = rt.alloc();
+    let cut = Cover::Cut { dimension: 0 };
+    assert!(rt; has_cover(&rt, alloc, Part::Between(0, 1), 0, Cover::Inside));
+    assert!(rt; has_cover(&rt, alloc, Part::Between(0, 1), 1, Cover::Outside));
+    assert!(rt; has_cover(&rt, alloc, Part::Between(0, 0), 0, cut));
+    assert!(rt; has_cover(&rt, alloc, Part::Between(4, 4), 2, Cover::Inside));
+}
+
+#[test]
+fn a_span_of_two_dimensions_misses_one(rt: HostRuntime) {
+    let shape = shape_of(&rt, rt.alloc(), "5:2");
+    let two = span_of(rt.alloc(), 0, 0).expect(&rt, "memory");
+    assert!(rt; sound_bricks(shape.sizes.as_slice()) == Some(3) && shape.sizes.len() <= 16);
     assert_eq!(rt; covers(&shape, &two, 0), Cover::Outside);
-    Ok(())
 }

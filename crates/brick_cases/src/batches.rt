@@ -3,27 +3,44 @@
 use cube_values::CodedRows;
 use std::alloc::AllocError;
 
-const ROWS: [([u32; 2], [i64; 1]); 3] = [([1, 2], [-5]), ([3, 0], [7]), ([1, 2], [i64::MIN])];
+// The coordinates and the metric of a row: the last is the first with another metric.
+fn row(at: usize) -> ([u32; 2], [i64; 1]) {
+    match at {
+        0 => ([1, 2], [-5]),
+        1 => ([3, 0], [7]),
+        _ => ([1, 2], [i64::MIN]),
+    }
+}
+
+fn put_row(batch: &mut CodedRows, at: usize) {
+    let (coords, metrics) = row(at);
+    if batch.len() < batch.room() && batch.dims() == 2 && batch.width() == 1 {
+        batch.push(coords.as_slice(), metrics.as_slice());
+    }
+}
+
+fn has_row(batch: &CodedRows, at: usize) -> bool {
+    let (coords, metrics) = row(at);
+    at < batch.len()
+        && batch.coords_of(at) == coords.as_slice()
+        && batch.metrics_of(at) == metrics.as_slice()
+}
+
+// Whether a batch takes three rows and then none are left.
+fn keeps_three(batch: &mut CodedRows) -> Result<bool, AllocError> {
+    batch.reserve(3)?;
+    for at in 0..3 {
+        put_row(batch, at);
+    }
+    let has_all = batch.len() == 3 && has_row(batch, 0) && has_row(batch, 1) && has_row(batch, 2);
+    batch.clear();
+    Ok(has_all && batch.len() == 0)
+}
 
 #[test]
-fn keeps_rows(rt: HostRuntime) -> Result<(), AllocError> {
+fn keeps_rows(rt: HostRuntime) {
     let mut batch = CodedRows::new(rt.alloc(), 2, 1);
-    for _ in 0..2 {
-        batch.reserve(3)?;
-        for (coords, metrics) in ROWS {
-            if batch.len() < batch.room() && batch.dims() == 2 && batch.width() == 1 {
-                batch.push(coords.as_slice(), metrics.as_slice());
-            }
-        }
-        assert_eq!(rt; batch.len(), 3);
-        for (i, (coords, metrics)) in ROWS.iter().enumerate() {
-            if i < batch.len() {
-                assert_eq!(rt; batch.coords_of(i), coords.as_slice());
-                assert_eq!(rt; batch.metrics_of(i), metrics.as_slice());
-            }
-        }
-        batch.clear();
-        assert_eq!(rt; batch.len(), 0);
+    for round in 0..2 {
+        assert!(rt; keeps_three(&mut batch) == Ok(true), "round {round}");
     }
-    Ok(())
 }

@@ -8,6 +8,8 @@ mod batches;
 #[cfg(test)]
 mod bits;
 #[cfg(test)]
+mod looks;
+#[cfg(test)]
 mod purges;
 #[cfg(test)]
 mod vectors;

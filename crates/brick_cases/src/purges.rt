@@ -4,6 +4,7 @@ ghost use Rattle.std.specs.Prelude.{◌≡◌, ◌≤◌, true, replicate};
 ghost use Rattle.cube_values.specs.EpochsVector.{rows_of};
 ghost use Rattle.purge_plan.specs.Purged.{spared_bits, purged_entries};
 
+use crate::looks::{all_rows, are_entries, epoch_of, hides, is_seen, next, put, vector_of};
 use cube_values::{Bits, Entry, EpochList, Snapshot};
 use epochs_vector::Epochs;
 use purge_plan::{
@@ -21,27 +22,12 @@ struct Left {
     keep: Bits,
 }
 
-// A vector to which each step adds rows of an epoch, or a mark where there are none to add.
-fn vector_of(alloc: Global, steps: &[(u64, u64)]) -> Result<Epochs, AllocError> {
-    let mut epochs = Epochs::new(alloc);
-    for (epoch, rows) in steps {
-        epochs.reserve(1)?;
-        if *rows == 0 {
-            epochs.mark(*epoch);
-        } else if *rows < 1000 && epochs.rows() < 1_000_000 {
-            epochs.append_rows(*epoch, *rows);
-        }
-    }
-    Ok(epochs)
-}
-
 // Purges a copy of the entries.
-fn purge_alone(alloc: Global, epochs: &Epochs, epoch: u64) -> Result<Left, AllocError> {
-    let mut entries = Vec::from_slice(alloc, epochs.entries())?;
-    let mut keep = Bits::new(alloc, epochs.rows())?;
-    keep.reset(epochs.rows());
+fn purge_alone(rt: &impl Abort, alloc: Global, epochs: &Epochs, epoch: u64) -> Left {
+    let mut entries = Vec::from_slice(alloc, epochs.entries()).expect(rt, "memory");
+    let mut keep = all_rows(rt, alloc, epochs.rows());
     plan(&mut entries, epoch, &mut keep);
-    Ok(Left { entries, keep })
+    Left { entries, keep }
 }
 
 // Purges the vector itself.
@@ -69,26 +55,102 @@ fn are_set(keep: &Bits, rows: &[u64]) -> bool {
     found == rows.len()
 }
 
-// Purges what the steps make, alone and within the vector, and compares what is left.
-fn check(
+// A purge of what the steps make, and what is left of it: the numbers of rows, and entries.
+#[derive(Clone, Copy)]
+struct Purge<'a> {
+    steps: &'a str,
+    epoch: u64,
+    rows: &'a str,
+    entries: &'a str,
+}
+
+// The purge of a row of a table, behind what it shows.
+fn purge_of(row: &str) -> Option<Purge> {
+    let (_, row) = row.split_once('|')?;
+    let (steps, row) = row.split_once('|')?;
+    let (epoch, row) = row.split_once('|')?;
+    let (rows, entries) = row.split_once('|')?;
+    Some(Purge {
+        steps,
+        epoch: epoch.trim().parse::<u64>().ok()?,
+        rows,
+        entries,
+    })
+}
+
+fn numbers_of(rt: &impl Abort, alloc: Global, text: &str) -> Vec<u64> {
+    let mut numbers = Vec::new(alloc);
+    for word in text.split_whitespace() {
+        let number = word.parse::<u64>().ok().expect(rt, "a number");
+        numbers.push(number).expect(rt, "memory");
+    }
+    numbers
+}
+
+fn is_done_alone(
     rt: &impl Abort,
     alloc: Global,
-    steps: &[(u64, u64)],
-    epoch: u64,
+    epochs: &Epochs,
+    purge: Purge,
     rows: &[u64],
-    entries: &[Entry],
-) -> Result<(), AllocError> {
-    let mut epochs = vector_of(alloc, steps)?;
-    let left = purge_alone(alloc, &epochs, epoch)?;
-    assert_eq!(rt; left.entries.as_slice(), entries);
-    assert!(rt; are_set(&left.keep, rows));
-    let mut keep = Bits::new(alloc, epochs.rows())?;
-    keep.reset(epochs.rows());
-    purge_within(&mut epochs, epoch, &mut keep);
-    assert_eq!(rt; epochs.entries(), entries);
-    assert!(rt; are_set(&keep, rows));
-    assert_eq!(rt; epochs.rows(), rows.len() as u64);
-    Ok(())
+) -> bool {
+    let left = purge_alone(rt, alloc, epochs, purge.epoch);
+    are_entries(left.entries.as_slice(), purge.entries) && are_set(&left.keep, rows)
+}
+
+fn is_done_within(
+    rt: &impl Abort,
+    alloc: Global,
+    epochs: &mut Epochs,
+    purge: Purge,
+    rows: &[u64],
+) -> bool {
+    let mut keep = all_rows(rt, alloc, epochs.rows());
+    purge_within(epochs, purge.epoch, &mut keep);
+    are_entries(epochs.entries(), purge.entries)
+        && are_set(&keep, rows)
+        && epochs.rows() == rows.len() as u64
+}
+
+// Whether the purge, alone and within the vector, leaves what it should.
+fn is_done(rt: &impl Abort, alloc: Global, purge: Purge) -> bool {
+    let mut epochs = vector_of(rt, alloc, purge.steps);
+    let rows = numbers_of(rt, alloc, purge.rows);
+    is_done_alone(rt, alloc, &epochs, purge, rows.as_slice())
+        && is_done_within(rt, alloc, &mut epochs, purge, rows.as_slice())
+}
+
+// Tries the rows of a table.
+fn check_all(rt: &impl Abort, alloc: Global, table: &str) {
+    for row in table.lines() {
+        let purge = purge_of(row).expect(rt, "a purge");
+        assert!(rt; is_done(rt, alloc, purge), "{row}");
+    }
+}
+
+const REMOVALS: &str = "\
+a mark removes the rows before it | 1:2 2:3 3:0 4:2 | 3 | 5 6 | run:4:2
+the mark of epoch 2 removes the row of epoch 1 behind it as well | 1:2 2:2 2:0 1:1 3:1 | 2 | 5 | run:3:1
+all rows before the two marks of epoch 5 go, and then the marks are one | 3:2 5:0 3:2 5:0 4:0 | 4 | | mark:5:0
+a mark removes the rows of its own epoch before it | 2:3 2:0 2:2 | 2 | 3 4 | run:2:2
+and rows of lower epochs behind it too | 2:2 3:0 1:2 3:1 | 3 | 4 | run:3:1
+the run between two runs of one later epoch goes | 6:1 2:1 6:1 3:0 | 3 | 0 2 | run:6:2";
+
+#[test]
+fn marks_remove_rows(rt: HostRuntime) {
+    check_all(&rt, rt.alloc(), REMOVALS);
+}
+
+const JOINED_RUNS: &str = "\
+old runs become one | 1:2 2:3 4:2 | 3 | 0 1 2 3 4 5 6 | run:2:5 run:4:7
+the greatest epoch stands first | 3:1 1:1 | 3 | 0 1 | run:3:2
+a later run keeps them apart | 1:1 5:1 2:1 3:1 | 3 | 0 1 2 3 | run:1:1 run:5:2 run:3:4
+a later mark keeps them apart | 1:1 5:0 2:1 | 3 | 0 1 | run:1:1 mark:5:1 run:2:2
+at 0 there is nothing to do | 1:2 2:0 1:1 | 0 | 0 1 2 | run:1:2 mark:2:2 run:1:3";
+
+#[test]
+fn old_runs_become_one(rt: HostRuntime) {
+    check_all(&rt, rt.alloc(), JOINED_RUNS);
 }
 
 fn run(epoch: u64, end: u64) -> Entry {
@@ -99,112 +161,9 @@ fn mark(epoch: u64, at: u64) -> Entry {
     Entry::Mark { epoch, at }
 }
 
-#[test]
-fn marks_remove_rows(rt: HostRuntime) -> Result<(), AllocError> {
-    check(
-        &rt,
-        rt.alloc(),
-        &[(1, 2), (2, 3), (3, 0), (4, 2)],
-        3,
-        &[5, 6],
-        &[run(4, 2)],
-    )?;
-    // The mark of epoch 2 removes the row of epoch 1 behind it as well.
-    check(
-        &rt,
-        rt.alloc(),
-        &[(1, 2), (2, 2), (2, 0), (1, 1), (3, 1)],
-        2,
-        &[5],
-        &[run(3, 1)],
-    )?;
-    // All rows before the two marks of epoch 5 go, and then the marks are one.
-    check(
-        &rt,
-        rt.alloc(),
-        &[(3, 2), (5, 0), (3, 2), (5, 0), (4, 0)],
-        4,
-        &[],
-        &[mark(5, 0)],
-    )?;
-    // A mark removes the rows of its own epoch before it, and rows of lower epochs behind it too.
-    check(
-        &rt,
-        rt.alloc(),
-        &[(2, 3), (2, 0), (2, 2)],
-        2,
-        &[3, 4],
-        &[run(2, 2)],
-    )?;
-    check(
-        &rt,
-        rt.alloc(),
-        &[(2, 2), (3, 0), (1, 2), (3, 1)],
-        3,
-        &[4],
-        &[run(3, 1)],
-    )?;
-    // The run between two runs of one later epoch goes.
-    check(
-        &rt,
-        rt.alloc(),
-        &[(6, 1), (2, 1), (6, 1), (3, 0)],
-        3,
-        &[0, 2],
-        &[run(6, 2)],
-    )
-}
-
-#[test]
-fn old_runs_become_one(rt: HostRuntime) -> Result<(), AllocError> {
-    check(
-        &rt,
-        rt.alloc(),
-        &[(1, 2), (2, 3), (4, 2)],
-        3,
-        &[0, 1, 2, 3, 4, 5, 6],
-        &[run(2, 5), run(4, 7)],
-    )?;
-    // The greatest epoch stands first; a later run and a later mark keep them apart.
-    check(&rt, rt.alloc(), &[(3, 1), (1, 1)], 3, &[0, 1], &[run(3, 2)])?;
-    check(
-        &rt,
-        rt.alloc(),
-        &[(1, 1), (5, 1), (2, 1), (3, 1)],
-        3,
-        &[0, 1, 2, 3],
-        &[run(1, 1), run(5, 2), run(3, 4)],
-    )?;
-    check(
-        &rt,
-        rt.alloc(),
-        &[(1, 1), (5, 0), (2, 1)],
-        3,
-        &[0, 1],
-        &[run(1, 1), mark(5, 1), run(2, 2)],
-    )?;
-    // At 0 there is nothing to do.
-    check(
-        &rt,
-        rt.alloc(),
-        &[(1, 2), (2, 0), (1, 1)],
-        0,
-        &[0, 1, 2],
-        &[run(1, 2), mark(2, 2), run(1, 3)],
-    )
-}
-
-// The next number of a series that looks like chance.
-fn next(seed: &mut u64) -> u64 {
-    *seed = seed
-        .wrapping_mul(6_364_136_223_846_793_005)
-        .wrapping_add(1_442_695_040_888_963_407);
-    *seed >> 33
-}
-
 // A small vector of epochs 1 to 5.
-fn some_epochs(alloc: Global, seed: &mut u64) -> Result<Epochs, AllocError> {
-    let mut steps = Vec::new(alloc);
+fn some_epochs(rt: &impl Abort, alloc: Global, seed: &mut u64) -> Epochs {
+    let mut epochs = Epochs::new(alloc);
     for _ in 0..RUNS_AND_MARKS {
         let epoch = 1 + next(seed) % 5;
         let rows = match next(seed) % 8 {
@@ -212,29 +171,9 @@ fn some_epochs(alloc: Global, seed: &mut u64) -> Result<Epochs, AllocError> {
             3 => 1 + next(seed) % 40,
             _ => 1 + next(seed) % 3,
         };
-        steps.push((epoch, rows))?;
+        put(&mut epochs, epoch, rows).expect(rt, "memory");
     }
-    vector_of(alloc, steps.as_slice())
-}
-
-// Whether row `row` of `epoch` is hidden by the entry, where it is a mark.
-fn hides(entry: Entry, epoch: u64, row: u64) -> bool {
-    match entry {
-        Entry::Run { .. } => false,
-        Entry::Mark { epoch: mark, at } => epoch < mark || (epoch == mark && row < at),
-    }
-}
-
-// The epoch of a row, by a look at every run.
-fn epoch_of(entries: &[Entry], row: u64) -> Option<u64> {
-    for entry in entries {
-        if let Entry::Run { epoch, end } = *entry {
-            if row < end {
-                return Some(epoch);
-            }
-        }
-    }
-    None
+    epochs
 }
 
 // Whether a purge removes the row, by a look at every mark.
@@ -250,21 +189,6 @@ fn is_removed(entries: &[Entry], purge: u64, row: u64) -> bool {
         }
     }
     false
-}
-
-// Whether the snapshot sees the row, by a look at every mark.
-fn is_seen(entries: &[Entry], snapshot: &Snapshot, row: u64) -> bool {
-    let Some(epoch) = epoch_of(entries, row) else {
-        return false;
-    };
-    for entry in entries {
-        if let Entry::Mark { epoch: mark, .. } = *entry {
-            if snapshot.sees(mark) && hides(*entry, epoch, row) {
-                return false;
-            }
-        }
-    }
-    snapshot.sees(epoch)
 }
 
 // Adds one row of the epoch, which is then the last of `rows`.
@@ -341,55 +265,68 @@ fn sees_the_same(entries: &[Entry], left: &Left, snapshot: &Snapshot) -> bool {
     true
 }
 
-// Purges at the epoch, and compares rows, entries and what snapshots see.
-fn check_plainly(
-    rt: &impl Abort,
-    alloc: Global,
-    epochs: &Epochs,
-    purge: u64,
-) -> Result<(), AllocError> {
+// Whether the rows that stay are those that a plain look does not remove.
+fn keeps_plain_rows(entries: &[Entry], keep: &Bits, purge: u64) -> bool {
+    for row in 0..keep.len() {
+        if keep.get(row) == is_removed(entries, purge, row) {
+            return false;
+        }
+    }
+    true
+}
+
+// Whether a snapshot so far above the purge is one that may be, and sees the same.
+fn is_blind(entries: &[Entry], left: &Left, purge: u64, own: bool, by: u64, deps: u64) -> bool {
+    let snapshot = above(purge, own, by, deps);
+    snapshot.admissible(purge) && sees_the_same(entries, left, &snapshot)
+}
+
+fn are_blind(entries: &[Entry], left: &Left, purge: u64) -> bool {
+    is_blind(entries, left, purge, false, 0, 0)
+        && is_blind(entries, left, purge, false, 1, 0)
+        && is_blind(entries, left, purge, false, 3, 0)
+        && is_blind(entries, left, purge, true, 1, 0)
+        && is_blind(entries, left, purge, true, 2, 1)
+        && is_blind(entries, left, purge, true, 4, 5)
+        && is_blind(entries, left, purge, true, 5, 6)
+}
+
+// What differs where a vector is purged at an epoch: rows, entries, or what snapshots see.
+fn difference(rt: &impl Abort, alloc: Global, epochs: &Epochs, purge: u64) -> Option<&'static str> {
     let entries = epochs.entries();
-    let left = purge_alone(alloc, epochs, purge)?;
-    for row in 0..left.keep.len() {
+    let left = purge_alone(rt, alloc, epochs, purge);
+    let rebuilt = rebuilt(alloc, entries, purge).expect(rt, "memory");
+    if !keeps_plain_rows(entries, &left.keep, purge) {
+        Some("rows")
+    } else if left.entries.as_slice() != rebuilt.as_slice() {
+        Some("entries")
+    } else if !are_blind(entries, &left, purge) {
+        Some("snapshots")
+    } else {
+        None
+    }
+}
+
+// Purges a vector at each of seven epochs.
+fn check_plainly(rt: &impl Abort, alloc: Global, seed: &mut u64) {
+    let epochs = some_epochs(rt, alloc, seed);
+    for purge in 0..7 {
         assert_eq!(rt;
-            left.keep.get(row),
-            !is_removed(entries, purge, row),
-            "row {row}"
+            difference(rt, alloc, &epochs, purge),
+            None,
+            "purge at {purge}"
         );
     }
-    let rebuilt = rebuilt(alloc, entries, purge)?;
-    assert_eq!(rt; left.entries.as_slice(), rebuilt.as_slice());
-    for (own, by, deps) in [
-        (false, 0, 0),
-        (false, 1, 0),
-        (false, 3, 0),
-        (true, 1, 0),
-        (true, 2, 1),
-        (true, 4, 5),
-        (true, 5, 6),
-    ] {
-        let snapshot = above(purge, own, by, deps);
-        assert!(rt; snapshot.admissible(purge));
-        assert!(rt;
-            sees_the_same(entries, &left, &snapshot),
-            "own {own}, by {by}"
-        );
-    }
-    Ok(())
 }
 
 #[test]
-fn purges_are_those_of_a_plain_look(rt: HostRuntime) -> Result<(), AllocError> {
+fn purges_are_those_of_a_plain_look(rt: HostRuntime) {
     // The laws do nothing when they run.
     purge_changes_nothing_seen();
     purge_keeps_later_epochs();
     purge_leaves_no_old_mark();
     let mut seed = 1;
     for _ in 0..2000 {
-        let epochs = some_epochs(rt.alloc(), &mut seed)?;
-        for purge in 0..7 {
-            check_plainly(&rt, rt.alloc(), &epochs, purge)?;
-        }
+        check_plainly(&rt, rt.alloc(), &mut seed);
     }
-    Ok(())
 }

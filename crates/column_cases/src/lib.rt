@@ -9,3 +9,5 @@ mod making;
 mod packed;
 #[cfg(test)]
 mod rows;
+#[cfg(test)]
+mod tables;

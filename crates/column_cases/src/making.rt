@@ -1,12 +1,13 @@
 //! Columns for the tests, and rows that are put to them one by one.
 
-ghost use Rattle.std.specs.Prelude.{◌≡◌, ◌<◌, ◌≤◌, ◌^◌, IfOk, IfSome, IsTrue, All};
+ghost use Rattle.std.specs.Prelude.{◌≡◌, ◌<◌, ◌≤◌, ◌^◌, IfSome, IsTrue, All};
 ghost use Rattle.std.specs.List.{AllZip};
 ghost use Rattle.cube_values.specs.Shapes.{bricks_of, IsSoundSize};
 
+use crate::tables::{numbers_of, values_of};
 use brick_columns::Columns;
 use cube_values::{Shape, Size, Sizes};
-use std::alloc::{AllocError, Global};
+use std::alloc::Global;
 use std::process::Abort;
 
 // The number of bricks, where each size is sound and the bricks are few enough.
@@ -31,29 +32,23 @@ fn sound_bricks(sizes: &[Size]) -> Option<u64>
     }
 }
 
-// Columns for dimensions of one range each.
-pub fn columns_for(
-    rt: &impl Abort,
-    alloc: Global,
-    ranges: &[u32],
-    metrics: u32,
-) -> Result<Columns, AllocError>
-    ensures { IfOk result
-        (λ made. made.layout ≡ record { ranges = ranges.now; metrics = metrics }) }
+/// Columns for dimensions of one range each.
+pub fn columns_for(rt: &impl Abort, alloc: Global, ranges: &[u32], metrics: u32) -> Columns
+    ensures { result.layout ≡ record { ranges = ranges.now; metrics = metrics } }
 {
     let mut sizes = Vec::new(alloc);
     for range in ranges {
-        sizes.push(Size {
+        let size = Size {
             cardinality: *range,
             range: *range,
-        })?;
+        };
+        sizes.push(size).expect(rt, "memory");
     }
     let shape = Shape {
         sizes: Sizes::from_vec(sizes),
     };
-    assert!(rt; sound_bricks(shape.sizes.as_slice()).is_some());
-    assert!(rt; shape.sizes.len() <= 16);
-    Columns::new(alloc, &shape, metrics)
+    assert!(rt; sound_bricks(shape.sizes.as_slice()).is_some() && shape.sizes.len() <= 16);
+    Columns::new(alloc, &shape, metrics).expect(rt, "memory")
 }
 
 // Whether there is an offset for each range, below it.
@@ -69,21 +64,61 @@ fn are_below(offsets: &[u32], ranges: &[u32]) -> bool
     *offset < *range && are_below(offsets_rest, ranges_rest)
 }
 
-// Puts a row.
+/// Puts a row.
 pub fn put(
     rt: &impl Abort,
     columns: &mut Columns,
     ranges: &[u32],
     metrics: u32,
-    row: (&[u32], &[i64]),
-) -> Result<(), AllocError>
+    offsets: &[u32],
+    values: &[i64],
+)
     requires { columns.old.layout ≡ record { ranges = ranges.now; metrics = metrics } }
     ensures { columns.new.layout ≡ columns.old.layout }
 {
-    columns.reserve(1)?;
-    let (offsets, values) = row;
-    assert!(rt; are_below(offsets, ranges));
-    assert!(rt; values.len() == metrics as usize);
+    columns.reserve(1).expect(rt, "memory");
+    assert!(rt; are_below(offsets, ranges) && values.len() == metrics as usize);
     columns.push_row(offsets, values);
-    Ok(())
+}
+
+// Puts the row of a text: its offsets and, behind a `|`, its metrics.
+fn put_text(
+    rt: &impl Abort,
+    alloc: Global,
+    columns: &mut Columns,
+    ranges: &[u32],
+    metrics: u32,
+    row: &str,
+)
+    requires { columns.old.layout ≡ record { ranges = ranges.now; metrics = metrics } }
+    ensures { columns.new.layout ≡ columns.old.layout }
+{
+    let (offsets, values) = row.split_once('|').expect(rt, "a row");
+    let offsets = numbers_of(rt, alloc, offsets);
+    let values = values_of(rt, alloc, values);
+    put(
+        rt,
+        columns,
+        ranges,
+        metrics,
+        offsets.as_slice(),
+        values.as_slice(),
+    );
+}
+
+/// Columns of the rows of a text, with commas between them.
+pub fn columns_of(
+    rt: &impl Abort,
+    alloc: Global,
+    ranges: &[u32],
+    metrics: u32,
+    rows: &str,
+) -> Columns
+    ensures { result.layout ≡ record { ranges = ranges.now; metrics = metrics } }
+{
+    let mut columns = columns_for(rt, alloc, ranges, metrics);
+    'rows: for row in rows.split(',') {
+        put_text(rt, alloc, &mut columns, ranges, metrics, row);
+    }
+    columns
 }

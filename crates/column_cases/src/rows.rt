@@ -1,124 +1,118 @@
 //! Rows of a brick that come and go, by tables.
 
-ghost use Rattle.std.specs.Prelude.{◌≡◌, ◌<◌, ◌≤◌, IfOk, IsTrue, All, length, [], ◌∷◌};
+ghost use Rattle.std.specs.Prelude.{◌≡◌, ◌<◌, ◌≤◌, IsTrue, All, length, [], ◌∷◌};
 ghost use Rattle.std.specs.List.{AllZip};
 ghost use Rattle.packed_words.specs.Rows.{differences};
 ghost use Rattle.brick_columns.specs.Rows.{LiesFrom};
 ghost use Rattle.cube_values.specs.Batches.{rows_between};
 
-use crate::making::{columns_for, put};
+use crate::making::{columns_for, columns_of};
+use crate::tables::{are_words, numbers_of, values_of};
 use brick_columns::Columns;
 use cube_values::{Bits, CodedRows};
-use std::alloc::{AllocError, Global};
+use std::alloc::Global;
 use std::process::Abort;
 
-const MOST: u32 = u32::MAX;
-
-// Columns of regions in ranges of two and genders in ranges of one, with likes and comments.
-fn visits(rt: &impl Abort, alloc: Global) -> Result<Columns, AllocError>
-    ensures { IfOk result
-        (λ made. made.layout ≡ record { ranges = 2 ∷ 1 ∷ []; metrics = 2 }) }
-{
-    let rows = [
-        ([1, 0], [5, 0]),
-        ([0, 0], [2, 4]),
-        ([0, 0], [3, 1]),
-        ([1, 0], [-7, 2]),
-        ([1, 0], [i64::MIN, i64::MAX]),
-        ([0, 0], [0, -1]),
-    ];
-    let ranges = [2, 1];
-    let mut columns = columns_for(rt, alloc, &ranges, 2)?;
-    assert_eq!(rt; columns.len(), 0);
-    'rows: for (offsets, metrics) in rows {
-        put(rt, &mut columns, &ranges, 2, (&offsets, &metrics))?;
-    }
-    Ok(columns)
-}
-
-// The offsets in a dimension are these.
-fn have_offsets(rt: &impl Abort, columns: &Columns, dim: u32, wanted: &[u32])
+// Whether the offsets in a dimension are those of a text.
+fn have_offsets(rt: &impl Abort, alloc: Global, columns: &Columns, dim: u32, wanted: &str) -> bool
     requires { dim < length columns.now.layout.ranges }
 {
-    assert_eq!(rt; columns.len(), wanted.len() as u64);
-    for at in 0..wanted.len() {
-        assert_eq!(rt;
-            columns.offset(at as u64, dim),
-            wanted[at],
-            "row {at}, dim {dim}"
-        );
-    }
+    let wanted = numbers_of(rt, alloc, wanted);
+    are_offsets(columns, dim, wanted.as_slice())
 }
 
-#[test]
-fn rows_of_a_brick_come_and_go(rt: HostRuntime) -> Result<(), AllocError> {
-    let mut columns = visits(&rt, rt.alloc())?;
-    have_offsets(&rt, &columns, 0, &[1, 0, 0, 1, 1, 0]);
-    have_offsets(&rt, &columns, 1, &[0; 6]);
-    assert_eq!(rt;
-        columns.metrics_of(0),
-        [5, 2, 3, -7, i64::MIN, 0].as_slice()
-    );
-    assert_eq!(rt;
-        columns.metrics_of(1),
-        [0, 4, 1, 2, i64::MAX, -1].as_slice()
-    );
-    // One bit for the region of each row, none for its gender.
-    assert_eq!(rt; columns.words(), [25].as_slice());
-    // The third row and the fourth go.
-    assert!(rt; columns.len() == 6);
-    let mut bits = Bits::new(rt.alloc(), 6)?;
+fn are_offsets(columns: &Columns, dim: u32, wanted: &[u32]) -> bool
+    requires { dim < length columns.now.layout.ranges }
+{
+    if columns.len() != wanted.len() as u64 {
+        return false;
+    }
+    for at in 0..wanted.len() {
+        if columns.offset(at as u64, dim) != wanted[at] {
+            return false;
+        }
+    }
+    true
+}
+
+// Whether the numbers of a metric are those of a text.
+fn have_metrics(rt: &impl Abort, alloc: Global, columns: &Columns, m: u32, wanted: &str) -> bool
+    requires { m < columns.now.layout.metrics }
+{
+    let wanted = values_of(rt, alloc, wanted);
+    columns.metrics_of(m) == wanted.as_slice()
+}
+
+// Regions in ranges of two and genders in ranges of one, with likes and comments.
+const VISITS: &str = "1 0 | 5 0, 0 0 | 2 4, 0 0 | 3 1, 1 0 | -7 2, \
+    1 0 | -9223372036854775808 9223372036854775807, 0 0 | 0 -1";
+
+// One bit for the region of each row, none for its gender.
+fn has_visits(rt: &impl Abort, alloc: Global, columns: &Columns) -> bool
+    requires { columns.now.layout ≡ record { ranges = 2 ∷ 1 ∷ []; metrics = 2 } }
+{
+    have_offsets(rt, alloc, columns, 0, "1 0 0 1 1 0")
+        && have_offsets(rt, alloc, columns, 1, "0 0 0 0 0 0")
+        && have_metrics(rt, alloc, columns, 0, "5 2 3 -7 -9223372036854775808 0")
+        && have_metrics(rt, alloc, columns, 1, "0 4 1 2 9223372036854775807 -1")
+        && are_words(columns.words(), "19")
+}
+
+fn has_visits_left(rt: &impl Abort, alloc: Global, columns: &Columns) -> bool
+    requires { columns.now.layout ≡ record { ranges = 2 ∷ 1 ∷ []; metrics = 2 } }
+{
+    have_offsets(rt, alloc, columns, 0, "1 0 1 0")
+        && have_metrics(rt, alloc, columns, 0, "5 2 -9223372036854775808 0")
+        && have_metrics(rt, alloc, columns, 1, "0 4 9223372036854775807 -1")
+        && are_words(columns.words(), "5")
+}
+
+// The third row and the fourth go.
+fn keep_four(rt: &impl Abort, alloc: Global, columns: &mut Columns)
+    ensures { columns.new.layout ≡ columns.old.layout }
+{
+    let mut bits = Bits::new(alloc, 6).expect(rt, "memory");
     bits.reset(6);
     bits.fill(2, 4, false);
+    assert!(rt; columns.len() == 6);
     columns.keep(&bits);
-    have_offsets(&rt, &columns, 0, &[1, 0, 1, 0]);
-    assert_eq!(rt; columns.metrics_of(0), [5, 2, i64::MIN, 0].as_slice());
-    assert_eq!(rt; columns.metrics_of(1), [0, 4, i64::MAX, -1].as_slice());
-    assert_eq!(rt; columns.words(), [5].as_slice());
-    Ok(())
-}
-
-// Puts rows of offsets, and looks at the words.
-fn check_words(
-    rt: &impl Abort,
-    alloc: Global,
-    ranges: &[u32],
-    rows: &[&[u32]],
-    words: &[u64],
-) -> Result<(), AllocError> {
-    let mut columns = columns_for(rt, alloc, ranges, 1)?;
-    'rows: for (at, offsets) in rows.iter().enumerate() {
-        put(rt, &mut columns, ranges, 1, (offsets, &[at as i64]))?;
-    }
-    assert_eq!(rt; columns.len(), rows.len() as u64);
-    assert_eq!(rt; columns.words(), words);
-    Ok(())
 }
 
 #[test]
-fn words_have_the_bits_of_the_rows(rt: HostRuntime) -> Result<(), AllocError> {
+fn rows_of_a_brick_come_and_go(rt: HostRuntime) {
     let alloc = rt.alloc();
-    // The rows (1, 2) and (0, 1) in one bit and two: 1, 0 1, 0, 1 0.
-    check_words(&rt, alloc, &[2, 3], &[&[1, 2], &[0, 1]], &[21])?;
-    // The greatest range takes 32 bits.
-    check_words(
-        &rt,
-        alloc,
-        &[MOST],
-        &[&[0], &[MOST - 1], &[1]],
-        &[0xffff_fffe_0000_0000, 1],
-    )?;
-    // Sixteen dimensions take a bit each, or 32.
-    check_words(
-        &rt,
-        alloc,
-        &[2; 16],
-        &[&[1, 0, 0, 0, 0, 0, 0, 0, 0, 0, 0, 0, 0, 0, 0, 1], &[1; 16]],
-        &[0xffff_8001],
-    )?;
-    check_words(&rt, alloc, &[MOST; 16], &[&[1; 16]], &[0x1_0000_0001; 8])?;
-    // No dimension takes no bit.
-    check_words(&rt, alloc, &[], &[&[], &[]], &[])
+    assert!(rt; columns_for(&rt, alloc, &[2, 1], 2).len() == 0);
+    let mut columns = columns_of(&rt, alloc, &[2, 1], 2, VISITS);
+    assert!(rt; has_visits(&rt, alloc, &columns));
+    keep_four(&rt, alloc, &mut columns);
+    assert!(rt; has_visits_left(&rt, alloc, &columns));
+}
+
+// Ranges, rows of offsets below them with one metric, and the words of the rows by digits of 16.
+const WORDS: &str = "\
+2 3 / 1 2 | 0, 0 1 | 1 / 15
+4294967295 / 0 | 0, 4294967294 | 1, 1 | 2 / fffffffe00000000 1
+2 2 2 2 2 2 2 2 2 2 2 2 2 2 2 2 / 1 0 0 0 0 0 0 0 0 0 0 0 0 0 0 1 | 0, 1 1 1 1 1 1 1 1 1 1 1 1 1 1 1 1 | 1 / ffff8001
+4294967295 4294967295 4294967295 4294967295 4294967295 4294967295 4294967295 4294967295 4294967295 4294967295 4294967295 4294967295 4294967295 4294967295 4294967295 4294967295 / 1 1 1 1 1 1 1 1 1 1 1 1 1 1 1 1 | 0 / 100000001 100000001 100000001 100000001 100000001 100000001 100000001 100000001
+/ | 0, | 1 /";
+
+// Whether columns of these rows have these words.
+fn has_words(rt: &impl Abort, alloc: Global, row: &str) -> Option<bool> {
+    let (ranges, row) = row.split_once('/')?;
+    let (rows, words) = row.split_once('/')?;
+    let ranges = numbers_of(rt, alloc, ranges);
+    let columns = columns_of(rt, alloc, ranges.as_slice(), 1, rows);
+    let count = rows.split(',').count() as u64;
+    Some(columns.len() == count && are_words(columns.words(), words))
+}
+
+// The rows (1, 2) and (0, 1) are in one bit and two: 1, 0 1, 0, 1 0. The greatest range takes 32 bits; sixteen dimensions
+// take a bit each, or 32; and no dimension takes no bit.
+#[test]
+fn words_have_the_bits_of_the_rows(rt: HostRuntime) {
+    for row in WORDS.lines() {
+        assert!(rt; has_words(&rt, rt.alloc(), row) == Some(true), "{row}");
+    }
 }
 
 // Whether the coordinates are not below the starts, and by less than the ranges above them.
@@ -164,61 +158,60 @@ fn can_be_put(
 }
 
 // A batch of rows of two dimensions and one metric.
-fn batch_of(
-    rt: &impl Abort,
-    alloc: Global,
-    rows: &[([u32; 2], i64)],
-) -> Result<CodedRows, AllocError> {
+fn batch_of(rt: &impl Abort, alloc: Global, rows: &str) -> CodedRows {
     let mut batch = CodedRows::new(alloc, 2, 1);
-    batch.reserve(rows.len())?;
-    'rows: for (coords, metric) in rows {
-        assert!(rt; batch.len() < batch.room());
-        batch.push(coords, &[*metric]);
+    batch.reserve(rows.split(',').count()).expect(rt, "memory");
+    'rows: for row in rows.split(',') {
+        put_in_batch(rt, alloc, &mut batch, row);
     }
-    Ok(batch)
+    batch
 }
 
-// Puts the rows of a batch from one place up to another.
-fn put_between(
-    rt: &impl Abort,
-    columns: &mut Columns,
-    batch: &CodedRows,
-    places: (usize, usize),
-    starts: &[u32],
-) -> Result<(), AllocError>
+fn put_in_batch(rt: &impl Abort, alloc: Global, batch: &mut CodedRows, row: &str)
+    requires dims { batch.old.dims ≡ 2 }
+    requires width { batch.old.width ≡ 1 }
+    ensures dims { batch.new.dims ≡ 2 }
+    ensures width { batch.new.width ≡ 1 }
+{
+    let (coords, metrics) = row.split_once('|').expect(rt, "a row");
+    let coords = numbers_of(rt, alloc, coords);
+    let metrics = values_of(rt, alloc, metrics);
+    assert!(rt; batch.len() < batch.room() && coords.len() == 2 && metrics.len() == 1);
+    batch.push(coords.as_slice(), metrics.as_slice());
+}
+
+// Puts the rows of a batch from one place up to another into a brick from (6, 8) on.
+fn put_between(rt: &impl Abort, columns: &mut Columns, batch: &CodedRows, from: usize, to: usize)
     requires { columns.old.layout ≡ record { ranges = 3 ∷ 2 ∷ []; metrics = 1 } }
     ensures { columns.new.layout ≡ columns.old.layout }
 {
-    let (from, to) = places;
     assert!(rt; from <= to && to <= batch.len());
-    columns.reserve((to - from) as u64)?;
-    assert!(rt; can_be_put(batch, from, to, starts, &[3, 2], 1));
-    columns.push_rows(batch, from, to, starts);
-    Ok(())
+    columns.reserve((to - from) as u64).expect(rt, "memory");
+    assert!(rt; can_be_put(batch, from, to, &[6, 8], &[3, 2], 1));
+    columns.push_rows(batch, from, to, &[6, 8]);
+}
+
+// The bits are 0, 0, 1, then 0, 1, 0, then 1, 0, 1 from bit 0 on.
+fn has_three_rows(rt: &impl Abort, alloc: Global, columns: &Columns) -> bool
+    requires { columns.now.layout ≡ record { ranges = 3 ∷ 2 ∷ []; metrics = 1 } }
+{
+    have_offsets(rt, alloc, columns, 0, "0 2 1")
+        && have_offsets(rt, alloc, columns, 1, "1 0 1")
+        && have_metrics(rt, alloc, columns, 0, "2 -3 4")
+        && are_words(columns.words(), "154")
 }
 
 #[test]
-fn a_range_of_a_batch_is_put(rt: HostRuntime) -> Result<(), AllocError> {
-    // A brick from (6, 8) on, in ranges of three and two. The first row and the last are of other bricks.
+fn a_range_of_a_batch_is_put(rt: HostRuntime) {
+    // The brick has ranges of three and two. The first row and the last are of other bricks.
     let batch = batch_of(
         &rt,
         rt.alloc(),
-        &[
-            ([2, 8], 1),
-            ([6, 9], 2),
-            ([8, 8], -3),
-            ([7, 9], 4),
-            ([9, 9], 5),
-        ],
-    )?;
-    let mut columns = columns_for(&rt, rt.alloc(), &[3, 2], 1)?;
-    put_between(&rt, &mut columns, &batch, (1, 3), &[6, 8])?;
-    put_between(&rt, &mut columns, &batch, (3, 3), &[6, 8])?;
-    put_between(&rt, &mut columns, &batch, (3, 4), &[6, 8])?;
-    have_offsets(&rt, &columns, 0, &[0, 2, 1]);
-    have_offsets(&rt, &columns, 1, &[1, 0, 1]);
-    assert_eq!(rt; columns.metrics_of(0), [2, -3, 4].as_slice());
-    // 0, 0, 1, then 0, 1, 0, then 1, 0, 1 from bit 0 on.
-    assert_eq!(rt; columns.words(), [340].as_slice());
-    Ok(())
+        "2 8 | 1, 6 9 | 2, 8 8 | -3, 7 9 | 4, 9 9 | 5",
+    );
+    let mut columns = columns_for(&rt, rt.alloc(), &[3, 2], 1);
+    put_between(&rt, &mut columns, &batch, 1, 3);
+    put_between(&rt, &mut columns, &batch, 3, 3);
+    put_between(&rt, &mut columns, &batch, 3, 4);
+    assert!(rt; has_three_rows(&rt, rt.alloc(), &columns));
 }

@@ -1,18 +1,18 @@
 //! Calls of a desk beside the plain program over its journal, and the list of cubes.
-ghost use Rattle.std.specs.Prelude.{◌≡◌, IfOk};
+ghost use Rattle.std.specs.Prelude.{◌≡◌, None, IfOk, IsTrue};
+ghost use Rattle.cube_journal.specs.Counters.{held_by};
+ghost use Rattle.cube_language.specs.Cubes.{IsStorable};
 ghost use Rattle.aosi_desk.specs.State.{state_of};
 
 use crate::states::{is_free, is_reading, is_writing, may_ask};
 use aosi_desk::{CubeAnswer, CubeFound, Desk, RoundEnd};
 use cube_journal::AbortCause;
 use cube_language::Decl;
-use cube_schema::{DimDecls, Names, check};
+use cube_schema::{DimDecls, Names, Schema, check};
 use cube_values::Text;
 use plain_journal::{State, is_legal, state_of};
 use std::alloc::{AllocError, Global};
 use std::mem::size_of;
-use std::process::Abort;
-use std::test::Fail;
 
 // A desk of sixteen sessions over a store that keeps all up to 7, and for each entry of its journal the name of
 // the cube that its statement speaks of, or none.
@@ -34,9 +34,25 @@ fn cube(alloc: Global, name: &str) -> Result<Decl, AllocError> {
     })
 }
 
+// The declaration of a cube, which can be stored.
+fn storable_cube(alloc: Global, name: &str) -> Result<Decl, AllocError>
+    ensures { IfOk result (λ decl. IsStorable decl) }
+{
+    let decl = cube(alloc, name)?;
+    match check(alloc, &decl) {
+        Ok(_) => Ok(decl),
+        Err(_) => Err(AllocError),
+    }
+}
+
+fn schema(alloc: Global, name: &str) -> Result<Schema, AllocError> {
+    let decl = cube(alloc, name)?;
+    check(alloc, &decl).map_err(|_| AllocError)
+}
+
 // A desk with the cube `visits`.
-fn opening(alloc: Global) -> Result<Trial, Fail> {
-    let cubes = [check(alloc, &cube(alloc, "visits")?)?];
+fn opening(alloc: Global) -> Result<Trial, AllocError> {
+    let cubes = [schema(alloc, "visits")?];
     Ok(Trial {
         desk: Desk::new(alloc, 16, &cubes, 7)?,
         names: Vec::new(alloc),
@@ -51,7 +67,7 @@ fn plain(alloc: Global, trial: &Trial) -> Result<State, AllocError>
 }
 
 // A call of a desk that speaks of no cube.
-#[derive(Clone, Copy, Debug)]
+#[derive(Clone, Copy)]
 enum Call {
     Write(u32),
     Read(u32),
@@ -90,19 +106,26 @@ fn make(alloc: Global, trial: &mut Trial, call: Call) -> Result<bool, AllocError
     Ok(true)
 }
 
+// Whether a session holds no snapshot.
+fn may_make_cube(alloc: Global, trial: &Trial, session: u32) -> Result<bool, AllocError>
+    ensures { IfOk result (λ may. IsTrue may
+        → held_by (state_of trial.now.desk.register).snapshots session ≡ None) }
+{
+    let state = plain(alloc, trial)?;
+    Ok(is_free(&state, session))
+}
+
 // Asks for a cube where the session holds no snapshot.
 fn created(
     alloc: Global,
     trial: &mut Trial,
     session: u32,
     name: &str,
-) -> Result<Option<CubeAnswer>, Fail> {
-    let state = plain(alloc, trial)?;
-    let decl = cube(alloc, name)?;
-    let _schema = check(alloc, &decl)?;
-    if !is_free(&state, session) {
+) -> Result<Option<CubeAnswer>, AllocError> {
+    if !may_make_cube(alloc, trial, session)? {
         return Ok(None);
     }
+    let decl = storable_cube(alloc, name)?;
     let answer = trial.desk.create_cube(session, 1, decl)?;
     trial.names.push(Text::new(alloc, name)?)?;
     Ok(Some(answer))
@@ -119,18 +142,24 @@ fn place(alloc: Global, trial: &mut Trial, name: &str) -> Result<Option<u32>, Al
     }
 }
 
-fn compare(rt: &impl Abort, alloc: Global, trial: &Trial) -> Result<(), Fail> {
-    let state = plain(alloc, trial)?;
-    let counters = trial.desk.counters();
-    assert_eq!(rt;
-        (counters.ec, counters.lce, counters.lse),
-        (state.ec, state.lce(), state.lse)
-    );
-    assert_eq!(rt; counters.pending.as_slice(), state.pending.as_slice());
+fn has_counters(desk: &Desk, state: &State) -> bool {
+    let counters = desk.counters();
+    counters.ec == state.ec
+        && counters.lce == state.lce()
+        && counters.lse == state.lse
+        && counters.pending.as_slice() == state.pending.as_slice()
+}
+
+fn has_snapshots(desk: &Desk, state: &State) -> bool {
     let oldest = state.snapshots.first().map(|o| o.bound);
-    assert_eq!(rt; trial.desk.open_roll().front().map(|o| o.bound), oldest);
-    assert_eq!(rt; trial.desk.open_roll().len(), state.snapshots.len());
-    Ok(())
+    desk.open_roll().front().map(|o| o.bound) == oldest
+        && desk.open_roll().len() == state.snapshots.len()
+}
+
+// Whether the desk has what its journal has come to.
+fn is_as_plain(alloc: Global, trial: &Trial) -> Result<bool, AllocError> {
+    let state = plain(alloc, trial)?;
+    Ok(has_counters(&trial.desk, &state) && has_snapshots(&trial.desk, &state))
 }
 
 fn legal(alloc: Global, trial: &Trial) -> Result<bool, AllocError> {
@@ -144,41 +173,69 @@ fn legal(alloc: Global, trial: &Trial) -> Result<bool, AllocError> {
     )
 }
 
-#[test]
-fn sixteen_at_once(rt: HostRuntime) -> Result<(), Fail> {
-    // Each order takes the sessions by steps of a number that has no factor in common with 16.
-    for step in [1u32, 7, 15] {
-        let mut trial = opening(rt.alloc())?;
-        for session in 1..=16u32 {
-            assert!(rt; make(rt.alloc(), &mut trial, Call::Write(session))?);
-            assert!(rt; make(rt.alloc(), &mut trial, Call::Read(session.wrapping_add(32)))?);
-            compare(&rt, rt.alloc(), &trial)?;
+// A session opens a writer, and one of its holder numbers a reader.
+fn opens_both(alloc: Global, trial: &mut Trial, session: u32) -> Result<bool, AllocError> {
+    let holder = session.wrapping_add(32);
+    Ok(
+        make(alloc, trial, Call::Write(session))?
+            && make(alloc, trial, Call::Read(holder))?
+            && is_as_plain(alloc, trial)?,
+    )
+}
+
+// The writer ends, by a commit in each other turn, and the reader.
+fn ends_both(
+    alloc: Global,
+    trial: &mut Trial,
+    session: u32,
+    turn: u32,
+) -> Result<bool, AllocError> {
+    let holder = session.wrapping_add(32);
+    let end = if turn % 2 == 0 {
+        Call::Commit(session)
+    } else {
+        Call::Abort(session)
+    };
+    Ok(make(alloc, trial, end)? && make(alloc, trial, Call::Close(holder))?)
+}
+
+// A round is asked for. The last snapshot holds the target back.
+fn asks_round(alloc: Global, trial: &mut Trial, is_last: bool) -> Result<bool, AllocError> {
+    Ok(
+        make(alloc, trial, Call::Open)?
+            && make(alloc, trial, Call::Safe)? == is_last
+            && is_as_plain(alloc, trial)?,
+    )
+}
+
+// Sixteen sessions open both, and end them in an order that takes the sessions by steps of a number.
+fn all_go_well(alloc: Global, trial: &mut Trial, step: u32) -> Result<bool, AllocError> {
+    for session in 1..=16u32 {
+        if !opens_both(alloc, trial, session)? {
+            return Ok(false);
         }
-        for turn in 0..16u32 {
-            let session = (turn.wrapping_mul(step) % 16).wrapping_add(1);
-            let end = if turn % 2 == 0 {
-                Call::Commit(session)
-            } else {
-                Call::Abort(session)
-            };
-            assert!(rt; make(rt.alloc(), &mut trial, end)?);
-            assert!(rt;
-                make(
-                    rt.alloc(),
-                    &mut trial,
-                    Call::Close(session.wrapping_add(32))
-                )?
-            );
-            assert!(rt; make(rt.alloc(), &mut trial, Call::Open)?);
-            // The last snapshot holds the target back.
-            assert_eq!(rt; make(rt.alloc(), &mut trial, Call::Safe)?, turn == 15);
-            compare(&rt, rt.alloc(), &trial)?;
-        }
-        assert_eq!(rt; trial.desk.counters().lse, 23);
-        assert!(rt; legal(rt.alloc(), &trial)?);
-        assert_eq!(rt; trial.desk.into_journal().len(), 81);
     }
-    Ok(())
+    for turn in 0..16u32 {
+        let session = (turn.wrapping_mul(step) % 16).wrapping_add(1);
+        if !ends_both(alloc, trial, session, turn)? || !asks_round(alloc, trial, turn == 15)? {
+            return Ok(false);
+        }
+    }
+    Ok(trial.desk.counters().lse == 23)
+}
+
+fn sixteen_go_well(alloc: Global, step: u32) -> Result<bool, AllocError> {
+    let mut trial = opening(alloc)?;
+    let go_well = all_go_well(alloc, &mut trial, step)? && legal(alloc, &trial)?;
+    Ok(go_well && trial.desk.into_journal().len() == 81)
+}
+
+#[test]
+fn sixteen_at_once(rt: HostRuntime) {
+    // Each number has no factor in common with 16.
+    for step in [1u32, 7, 15] {
+        assert!(rt; sixteen_go_well(rt.alloc(), step) == Ok(true), "by {step}");
+    }
 }
 
 /// How many cubes a desk has after its first.
@@ -190,35 +247,70 @@ fn cubes_after_first(alloc: Global, desk: &Desk) -> Result<usize, AllocError> {
     Ok(desk.cubes_from(alloc, 1)?.len())
 }
 
-#[test]
-fn cubes(rt: HostRuntime) -> Result<(), Fail> {
-    let mut trial = opening(rt.alloc())?;
-    assert_eq!(rt; place(rt.alloc(), &mut trial, "visits")?, Some(0));
-    assert_eq!(rt; place(rt.alloc(), &mut trial, "c14")?, None);
-    let names = [
-        "c00", "c01", "c02", "c03", "c04", "c05", "c06", "c07", "c08", "c09", "c10", "c11", "c12",
-        "c13", "c14",
-    ];
+// Whether a cube is at this place.
+fn is_at(
+    alloc: Global,
+    trial: &mut Trial,
+    name: &str,
+    wanted: Option<u32>,
+) -> Result<bool, AllocError> {
+    Ok(place(alloc, trial, name)? == wanted)
+}
+
+// Whether this is answered where a session asks for a cube.
+fn is_answered(
+    alloc: Global,
+    trial: &mut Trial,
+    session: u32,
+    name: &str,
+    wanted: CubeAnswer,
+) -> Result<bool, AllocError> {
+    Ok(created(alloc, trial, session, name)? == Some(wanted))
+}
+
+// As many cubes as a desk can have beside its first.
+const NAMES: &str = "c00 c01 c02 c03 c04 c05 c06 c07 c08 c09 c10 c11 c12 c13 c14";
+
+fn all_are_made(alloc: Global, trial: &mut Trial) -> Result<bool, AllocError> {
     let mut count = 0u32;
-    for name in names {
+    for name in NAMES.split(' ') {
         let made = CubeAnswer::Created {
             epoch: u64::from(count).wrapping_add(8),
             place: count.wrapping_add(1),
         };
-        assert_eq!(rt; created(rt.alloc(), &mut trial, 2, name)?, Some(made));
+        if !is_answered(alloc, trial, 2, name, made)? {
+            return Ok(false);
+        }
         count = count.wrapping_add(1);
     }
-    for (name, answer) in [
-        ("c07", CubeAnswer::Exists),
-        ("visits", CubeAnswer::Exists),
-        ("c15", CubeAnswer::TooMany),
-    ] {
-        assert_eq!(rt; created(rt.alloc(), &mut trial, 3, name)?, Some(answer));
-    }
-    assert_eq!(rt; place(rt.alloc(), &mut trial, "c14")?, Some(15));
-    assert_eq!(rt; cubes_after_first(rt.alloc(), &trial.desk)?, 15);
-    assert_eq!(rt; trial.desk.counters().lce, 22);
-    assert!(rt; legal(rt.alloc(), &trial)?);
+    Ok(count == 15)
+}
+
+fn no_more_is_made(alloc: Global, trial: &mut Trial) -> Result<bool, AllocError> {
+    Ok(
+        is_answered(alloc, trial, 3, "c07", CubeAnswer::Exists)?
+            && is_answered(alloc, trial, 3, "visits", CubeAnswer::Exists)?
+            && is_answered(alloc, trial, 3, "c15", CubeAnswer::TooMany)?,
+    )
+}
+
+fn has_sixteen(alloc: Global, trial: &Trial) -> Result<bool, AllocError> {
+    Ok(
+        trial.desk.counters().lce == 22
+            && cubes_after_first(alloc, &trial.desk)? == 15
+            && legal(alloc, trial)?,
+    )
+}
+
+#[test]
+fn cubes(rt: HostRuntime) {
+    let alloc = rt.alloc();
+    let mut trial = opening(alloc).expect(&rt, "memory");
+    assert!(rt; is_at(alloc, &mut trial, "visits", Some(0)) == Ok(true));
+    assert!(rt; is_at(alloc, &mut trial, "c14", None) == Ok(true));
+    assert!(rt; all_are_made(alloc, &mut trial) == Ok(true));
+    assert!(rt; no_more_is_made(alloc, &mut trial) == Ok(true));
+    assert!(rt; is_at(alloc, &mut trial, "c14", Some(15)) == Ok(true));
+    assert!(rt; has_sixteen(alloc, &trial) == Ok(true));
     assert!(rt; size_of::<Desk>() <= 48);
-    Ok(())
 }

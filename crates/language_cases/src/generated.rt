@@ -1,7 +1,8 @@
 //! Files that were worked out apart, by tools/generator.
 
+use crate::tables::first_other;
 use cube_gen::{part, part_name, script};
-use std::test::Fail;
+use std::alloc::{AllocError, Global};
 
 /// The FNV-1a checksum of 64 bits.
 fn checksum(bytes: &[u8]) -> u64 {
@@ -12,39 +13,71 @@ fn checksum(bytes: &[u8]) -> u64 {
     sum
 }
 
-#[test]
-fn one_row(rt: HostRuntime) -> Result<(), Fail> {
-    let alloc = rt.alloc();
-    assert_eq!(rt; part(alloc, 1, 1)?.as_slice(), b"r6,286,44\n".as_slice());
-    for session in 2..5 {
-        assert_eq!(rt; part(alloc, 1, session)?.len(), 0);
-    }
-    Ok(())
+/// How many rows there are in all, and a session.
+fn asked_in(text: &str) -> Option<(u64, u32)> {
+    let (rows, session) = text.split_once(' ')?;
+    Some((rows.parse::<u64>().ok()?, session.parse::<u32>().ok()?))
 }
 
-#[test]
-fn a_thousand_rows(rt: HostRuntime) -> Result<(), Fail> {
-    let table = [
-        (1, 2394, 16_494_910_505_886_425_849),
-        (2, 2412, 9_526_471_174_237_799_875),
-        (3, 2405, 14_442_020_725_321_560_032),
-        (4, 2385, 4_257_641_271_038_587_240),
-    ];
-    for (session, length, sum) in table {
-        let text = part(rt.alloc(), 1000, session)?;
-        assert_eq!(rt; text.len(), length);
-        assert_eq!(rt; checksum(text.as_slice()), sum);
+/// The part of a session.
+fn part_shown(alloc: Global, text: &str) -> Result<String, AllocError> {
+    match asked_in(text) {
+        Some((rows, session)) => {
+            String::from_utf8_lossy(alloc, part(alloc, rows, session)?.as_slice())
+        }
+        None => String::from_str(alloc, "no part"),
     }
-    Ok(())
 }
 
+/// The length of a session's part and its checksum.
+fn sum_shown(alloc: Global, text: &str) -> Result<String, AllocError> {
+    match asked_in(text) {
+        Some((rows, session)) => {
+            let bytes = part(alloc, rows, session)?;
+            format!(in alloc; "{} {}", bytes.len(), checksum(bytes.as_slice()))
+        }
+        None => String::from_str(alloc, "no part"),
+    }
+}
+
+const ONE_ROW: &str = r"
+1 1|r6,286,44\n|
+1 2||
+1 3||
+1 4||
+";
+
 #[test]
-fn what_is_loaded(rt: HostRuntime) -> Result<(), Fail> {
-    let alloc = rt.alloc();
-    assert_eq!(rt; part_name(alloc, 3)?.as_str(), "part3.csv");
-    assert_eq!(rt;
-        script(alloc, 4)?.as_slice(),
-        b"LOAD visits FROM 'part4.csv' REJECT 0;".as_slice()
-    );
-    Ok(())
+fn one_row(rt: HostRuntime) {
+    assert_eq!(rt; first_other(rt.alloc(), ONE_ROW, part_shown), Ok(None));
+}
+
+const THOUSAND_ROWS: &str = r"
+1000 1|2394 16494910505886425849|
+1000 2|2412 9526471174237799875|
+1000 3|2405 14442020725321560032|
+1000 4|2385 4257641271038587240|
+";
+
+#[test]
+fn a_thousand_rows(rt: HostRuntime) {
+    assert_eq!(rt; first_other(rt.alloc(), THOUSAND_ROWS, sum_shown), Ok(None));
+}
+
+/// The name of the part that a session loads, or its script.
+fn loaded_shown(alloc: Global, asked: &str) -> Result<String, AllocError> {
+    match asked {
+        "name 3" => String::from_str(alloc, part_name(alloc, 3)?.as_str()),
+        _ => String::from_utf8_lossy(alloc, script(alloc, 4)?.as_slice()),
+    }
+}
+
+const LOADED: &str = r"
+name 3|part3.csv|
+script 4|LOAD visits FROM 'part4.csv' REJECT 0;|
+";
+
+#[test]
+fn what_is_loaded(rt: HostRuntime) {
+    assert_eq!(rt; first_other(rt.alloc(), LOADED, loaded_shown), Ok(None));
 }

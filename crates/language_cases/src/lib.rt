@@ -16,6 +16,8 @@ mod reports;
 #[cfg(test)]
 mod schemas;
 #[cfg(test)]
+mod tables;
+#[cfg(test)]
 mod trees;
 #[cfg(test)]
 mod words;

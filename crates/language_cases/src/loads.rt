@@ -2,12 +2,12 @@
 
 mod files;
 
+use crate::tables::{first_other, first_other_bytes};
 use csv_load::{Loader, Record, Step};
 use cube_schema::{Schema, read_cubes};
 use cube_values::Value;
-use files::{FILES_OF_POINTS, FILES_OF_VISITS, POINTS, VISITS};
+use files::{FEW_AND_MANY, LENT, POINTS, VISITS};
 use std::alloc::{AllocError, Global};
-use std::test::Fail;
 
 /// The cube that a text declares.
 fn schema_of(alloc: Global, text: &str) -> Result<Schema, AllocError> {
@@ -68,76 +68,48 @@ fn shown(alloc: Global, cube: &str, file: &[u8]) -> Result<String, AllocError> {
     calls_shown(alloc, &mut loader, 100)
 }
 
-/// The records of the first file that are shown otherwise.
-fn first_other<'a>(
-    alloc: Global,
-    cube: &str,
-    files: &[(&[u8], &'a str)],
-) -> Result<Option<&'a str>, AllocError> {
-    for (file, wanted) in files {
-        let found = shown(alloc, cube, file)?;
-        if found.as_str() != *wanted {
-            return Ok(Some(*wanted));
-        }
+fn visits_shown(alloc: Global, file: &[u8]) -> Result<String, AllocError> {
+    shown(
+        alloc,
+        "cube visits\ndim region text 4 2\ndim gender text 4 1\nmetric likes\nmetric comments\n",
+        file,
+    )
+}
+
+fn points_shown(alloc: Global, file: &[u8]) -> Result<String, AllocError> {
+    shown(alloc, "cube t\ndim x int 5 2\nmetric m\n", file)
+}
+
+/// The same of a file behind the text of its cube.
+fn shown_of_both(alloc: Global, both: &str) -> Result<String, AllocError> {
+    match both.split_once(';') {
+        Some((cube, file)) => shown(alloc, cube, file.as_bytes()),
+        None => String::from_str(alloc, "no file"),
     }
-    Ok(None)
-}
-
-/// A file with a text of this byte and so many others.
-fn long_text(alloc: Global, first: u8, others: usize) -> Result<Vec<u8>, AllocError> {
-    let mut file = Vec::from_slice(alloc, &[first])?;
-    for _ in 0..others {
-        file.push(b'a')?;
-    }
-    file.extend_from_slice(b",M,3,1\n")?;
-    Ok(file)
 }
 
 #[test]
-fn files_of_visits(rt: HostRuntime) -> Result<(), Fail> {
-    let other = first_other(rt.alloc(), VISITS, &FILES_OF_VISITS)?;
-    assert_eq!(rt; other.unwrap_or("none"), "none");
-    Ok(())
-}
-
-#[test]
-fn files_of_points(rt: HostRuntime) -> Result<(), Fail> {
-    let other = first_other(rt.alloc(), POINTS, &FILES_OF_POINTS)?;
-    assert_eq!(rt; other.unwrap_or("none"), "none");
-    Ok(())
-}
-
-#[test]
-fn long_texts(rt: HostRuntime) -> Result<(), Fail> {
-    let alloc = rt.alloc();
-    let most = shown(alloc, VISITS, long_text(alloc, b'a', 254)?.as_slice())?;
-    assert_eq!(rt; most.len(), 265);
-    let longer = shown(alloc, VISITS, long_text(alloc, b'a', 255)?.as_slice())?;
-    assert_eq!(rt; longer.as_str(), "1 column region TooLong ");
-    let other = shown(alloc, VISITS, long_text(alloc, 0xff, 255)?.as_slice())?;
-    assert_eq!(rt; other.as_str(), "1 column region NotText ");
-    Ok(())
-}
-
-#[test]
-fn few_and_many_dimensions(rt: HostRuntime) -> Result<(), Fail> {
-    let alloc = rt.alloc();
-    let none = shown(alloc, "cube n\nmetric m\n", b"7\n\n8,\n")?;
-    assert_eq!(rt; none.as_str(), "1: 7 2 values 2 WrongCount ");
-    let mut cube = String::from_str(alloc, "cube w\n")?;
-    let mut file = Vec::new(alloc);
-    for k in 0..16u32 {
-        cube.push_str(format!(in alloc; "dim d{k} int 20 20\n")?.as_str())?;
-        file.extend_from_slice(format!(in alloc; "{k},")?.as_bytes())?;
-    }
-    cube.push_str("metric m\n")?;
-    file.extend_from_slice(b"-5\n")?;
-    let many = shown(alloc, cube.as_str(), file.as_slice())?;
+fn files_of_visits(rt: HostRuntime) {
     assert_eq!(rt;
-        many.as_str(),
-        "1: 0 1 2 3 4 5 6 7 8 9 10 11 12 13 14 15 -5 "
+        first_other_bytes(rt.alloc(), VISITS, visits_shown),
+        Ok(None)
     );
-    Ok(())
+}
+
+#[test]
+fn files_of_points(rt: HostRuntime) {
+    assert_eq!(rt;
+        first_other_bytes(rt.alloc(), POINTS, points_shown),
+        Ok(None)
+    );
+}
+
+#[test]
+fn few_and_many_dimensions(rt: HostRuntime) {
+    assert_eq!(rt;
+        first_other(rt.alloc(), FEW_AND_MANY, shown_of_both),
+        Ok(None)
+    );
 }
 
 /// What the loader lends of the first record of a file, where it is a row of two dimensions, a text and
@@ -159,17 +131,15 @@ fn lent(alloc: Global, schema: &Schema, file: &[u8]) -> Result<String, AllocErro
     }
 }
 
-#[test]
-fn a_row_is_lent(rt: HostRuntime) -> Result<(), Fail> {
-    let alloc = rt.alloc();
+fn lent_shown(alloc: Global, file: &[u8]) -> Result<String, AllocError> {
     let schema = schema_of(
         alloc,
         "cube v\ndim region text 4 2\ndim day int 365 31\nmetric m\n",
     )?;
-    assert_eq!(rt;
-        lent(alloc, &schema, b"CA,364,-2\n")?.as_str(),
-        "1 CA 364 -2 "
-    );
-    assert_eq!(rt; lent(alloc, &schema, b"CA,365,-2\n")?.as_str(), "");
-    Ok(())
+    lent(alloc, &schema, file)
+}
+
+#[test]
+fn a_row_is_lent(rt: HostRuntime) {
+    assert_eq!(rt; first_other_bytes(rt.alloc(), LENT, lent_shown), Ok(None));
 }

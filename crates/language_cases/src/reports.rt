@@ -2,12 +2,12 @@
 
 mod refusals;
 
+use crate::tables::first_other;
 use cube_journal::{AbortCause, Counters, JournalEntry, LostCause, Rejection, Rejections, Reply};
 use cube_language::{BadRow, Reason};
 use cube_values::{EpochList, Field, Line, Table, Text};
 use report_text::{end_bytes, entry_bytes, put_head, put_journal, reply_bytes};
 use std::alloc::{AllocError, Global};
-use std::test::Fail;
 
 /// A table of one line.
 fn one_line(alloc: Global, line: Vec<Field>) -> Result<Table, AllocError> {
@@ -30,265 +30,276 @@ fn two_epochs() -> EpochList {
     epochs
 }
 
-/// Whether the reply to the second statement of the first session is written so.
-fn replies(alloc: Global, reply: Reply, wanted: &str) -> Result<bool, AllocError> {
-    Ok(reply_bytes(alloc, 1, 2, &reply)?.as_slice() == wanted.as_bytes())
-}
-
-/// The replies that say an epoch alone, by the order of their names, at epoch 4.
-fn at_four(place: u32) -> Reply {
+/// The replies that say an epoch alone, at epoch 4, by a name.
+fn at_four(name: &str) -> Reply {
     let epoch = 4;
-    match place {
-        0 => Reply::Begun { epoch },
-        1 => Reply::Committed { epoch },
-        2 => Reply::Created { epoch },
-        3 => Reply::Dropped { epoch },
-        4 => Reply::Flushed { epoch },
-        5 => Reply::Purged { epoch },
+    match name {
+        "begun" => Reply::Begun { epoch },
+        "committed" => Reply::Committed { epoch },
+        "created" => Reply::Created { epoch },
+        "dropped" => Reply::Dropped { epoch },
+        "flushed" => Reply::Flushed { epoch },
+        "purged" => Reply::Purged { epoch },
         _ => Reply::RolledBack { epoch },
     }
 }
 
-const AT_FOUR: [&str; 7] = [
-    "1.2 begun 4\n",
-    "1.2 committed 4\n",
-    "1.2 created epoch 4\n",
-    "1.2 dropped epoch 4\n",
-    "1.2 flushed 4\n",
-    "1.2 purged 4\n",
-    "1.2 rolled back 4\n",
-];
+/// The text and NULL.
+fn text_and_null(alloc: Global) -> Result<Table, AllocError> {
+    let name = Text::new(alloc, "O'Hara")?;
+    one_line(alloc, vec![in alloc; Field::Text(name), Field::Null]?)
+}
 
-#[test]
-fn replies_of_epochs(rt: HostRuntime) -> Result<(), Fail> {
-    let alloc = rt.alloc();
-    let mut place = 0u32;
-    for wanted in &AT_FOUR {
-        let wanted = *wanted;
-        assert!(rt; replies(alloc, at_four(place), wanted)?, "{wanted}");
-        place = place.wrapping_add(1);
+fn four_numbers(alloc: Global) -> Result<Table, AllocError> {
+    let below = Field::Decimal {
+        neg: true,
+        whole: 0,
+        four: 5000,
+    };
+    let most = Field::Decimal {
+        neg: false,
+        whole: 9_223_372_036_854_775_807,
+        four: 7,
+    };
+    let sum = Field::Whole(27_670_116_110_564_327_421);
+    one_line(alloc, vec![in alloc; Field::Whole(-5), below, most, sum]?)
+}
+
+fn two_rejections(alloc: Global) -> Result<Rejections, AllocError> {
+    let second = Rejection {
+        number: 2,
+        why: misfit(alloc, "likes", Reason::NotNumber)?,
+    };
+    let third = Rejection {
+        number: 3,
+        why: BadRow::WrongCount { values: 3 },
+    };
+    Ok(Rejections::from_vec(vec![in alloc; second, third]?))
+}
+
+fn counters_at(ec: u64, lce: u64, lse: u64, pending: EpochList) -> Counters {
+    Counters {
+        ec,
+        lce,
+        lse,
+        pending,
     }
-    let stored = Reply::Stored { rows: 3, epoch: 2 };
-    assert!(rt; replies(alloc, stored, "1.2 stored 3 epoch 2\n")?);
-    let counters = Counters {
-        ec: 4,
-        lce: 1,
-        lse: 0,
-        pending: two_epochs(),
-    };
-    let wanted = "1.2 epochs ec 4 lce 1 lse 0 pending [2,3]\n";
-    assert!(rt; replies(alloc, Reply::Epochs { counters }, wanted)?);
-    let counters = Counters {
-        ec: 2,
-        lce: 1,
-        lse: 1,
-        pending: EpochList::new(),
-    };
-    let wanted = "1.2 epochs ec 2 lce 1 lse 1 pending []\n";
-    assert!(rt; replies(alloc, Reply::Epochs { counters }, wanted)?);
-    Ok(())
 }
+
+/// The replies that say more, by a name.
+fn reply(alloc: Global, name: &str) -> Result<Reply, AllocError> {
+    Ok(match name {
+        "stored" => Reply::Stored { rows: 3, epoch: 2 },
+        "epochs" => Reply::Epochs {
+            counters: counters_at(4, 1, 0, two_epochs()),
+        },
+        "epochs without pending" => Reply::Epochs {
+            counters: counters_at(2, 1, 1, EpochList::new()),
+        },
+        "rows" => Reply::Rows {
+            epoch: 4,
+            table: text_and_null(alloc)?,
+        },
+        "no rows" => Reply::Rows {
+            epoch: 0,
+            table: Table::new(alloc),
+        },
+        "watching" => Reply::Watching {
+            epoch: 2,
+            table: four_numbers(alloc)?,
+        },
+        "loaded" => Reply::Loaded {
+            rows: 2,
+            rejected: 102,
+            list: two_rejections(alloc)?,
+            epoch: 1,
+        },
+        _ => at_four(name),
+    })
+}
+
+/// The reply to the second statement of the first session.
+fn reply_shown(alloc: Global, name: &str) -> Result<String, AllocError> {
+    let reply = reply(alloc, name)?;
+    String::from_utf8_lossy(alloc, reply_bytes(alloc, 1, 2, &reply)?.as_slice())
+}
+
+const REPLIES: &str = r"
+begun|1.2 begun 4\n|
+committed|1.2 committed 4\n|
+created|1.2 created epoch 4\n|
+dropped|1.2 dropped epoch 4\n|
+flushed|1.2 flushed 4\n|
+purged|1.2 purged 4\n|
+rolled back|1.2 rolled back 4\n|
+stored|1.2 stored 3 epoch 2\n|
+epochs|1.2 epochs ec 4 lce 1 lse 0 pending [2,3]\n|
+epochs without pending|1.2 epochs ec 2 lce 1 lse 1 pending []\n|
+rows|1.2 rows 1 epoch 4\n'O''Hara',NULL\n|
+no rows|1.2 rows 0 epoch 0\n|
+watching|1.2 watching 1 epoch 2\n-5,-0.5000,9223372036854775807.0007,27670116110564327421\n|
+loaded|1.2 stored 2 rejected 102 epoch 1\nreject 2 column likes NotNumber\nreject 3 values 3 WrongCount\n|
+";
 
 #[test]
-fn replies_of_lines(rt: HostRuntime) -> Result<(), Fail> {
-    let alloc = rt.alloc();
-    let texts = vec![in alloc; Field::Text(Text::new(alloc, "O'Hara")?), Field::Null]?;
-    let rows = Reply::Rows {
-        epoch: 4,
-        table: one_line(alloc, texts)?,
-    };
-    assert!(rt; replies(alloc, rows, "1.2 rows 1 epoch 4\n'O''Hara',NULL\n")?);
-    let none = Reply::Rows {
-        epoch: 0,
-        table: Table::new(alloc),
-    };
-    assert!(rt; replies(alloc, none, "1.2 rows 0 epoch 0\n")?);
-    let numbers = vec![in alloc;
-        Field::Whole(-5),
-        Field::Decimal {
-            neg: true,
-            whole: 0,
-            four: 5000
-        },
-        Field::Decimal {
-            neg: false,
-            whole: 9_223_372_036_854_775_807,
-            four: 7
-        },
-        Field::Whole(27_670_116_110_564_327_421),
-    ]?;
-    let watching = Reply::Watching {
-        epoch: 2,
-        table: one_line(alloc, numbers)?,
-    };
-    let wanted =
-        "1.2 watching 1 epoch 2\n-5,-0.5000,9223372036854775807.0007,27670116110564327421\n";
-    assert!(rt; replies(alloc, watching, wanted)?);
-    let list = vec![in alloc;
-        Rejection {
-            number: 2,
-            why: misfit(alloc, "likes", Reason::NotNumber)?
-        },
-        Rejection {
-            number: 3,
-            why: BadRow::WrongCount { values: 3 }
-        },
-    ]?;
-    let loaded = Reply::Loaded {
-        rows: 2,
-        rejected: 102,
-        list: Rejections::from_vec(list),
-        epoch: 1,
-    };
-    let wanted =
-        "1.2 stored 2 rejected 102 epoch 1\nreject 2 column likes NotNumber\nreject 3 values 3 WrongCount\n";
-    assert!(rt; replies(alloc, loaded, wanted)?);
-    Ok(())
+fn replies(rt: HostRuntime) {
+    assert_eq!(rt; first_other(rt.alloc(), REPLIES, reply_shown), Ok(None));
 }
 
-/// The entries of a session's statement, by the order of their names.
-fn entry(place: u32) -> JournalEntry {
+/// The entries of a session's statement, by a name.
+fn entry(name: &str) -> JournalEntry {
     let session = 1;
     let statement = 2;
     let epoch = 3;
-    match place {
-        0 => JournalEntry::Begin {
+    match name {
+        "begin" => JournalEntry::Begin {
             session,
             statement,
             epoch,
             deps: EpochList::new(),
         },
-        1 => JournalEntry::Begin {
+        "begin with deps" => JournalEntry::Begin {
             session,
             statement,
             epoch: 4,
             deps: two_epochs(),
         },
-        2 => JournalEntry::Cleared { session, statement },
-        3 => JournalEntry::Committed {
+        "cleared" => JournalEntry::Cleared { session, statement },
+        "committed" => JournalEntry::Committed {
             session,
             statement,
             epoch,
         },
-        4 => JournalEntry::Cube {
+        "cube" => JournalEntry::Cube {
             session,
             statement,
             epoch,
         },
-        5 => JournalEntry::Flushed { session, statement },
-        6 => JournalEntry::Idle { epoch },
-        7 => JournalEntry::Purged {
+        "flushed" => JournalEntry::Flushed { session, statement },
+        "idle" => JournalEntry::Idle { epoch },
+        "purged" => JournalEntry::Purged {
             session,
             statement,
             epoch,
         },
-        8 => JournalEntry::Read {
+        "read" => JournalEntry::Read {
             session: 17,
             statement,
             epoch,
         },
-        9 => JournalEntry::ReadEnd {
+        "readend" => JournalEntry::ReadEnd {
             session: 33,
             statement,
         },
-        10 => JournalEntry::Refused {
+        "refused" => JournalEntry::Refused {
             session,
             statement,
             code: 17,
         },
-        11 => JournalEntry::Round { epoch },
-        12 => JournalEntry::RoundLost {
+        "round" => JournalEntry::Round { epoch },
+        "lost disk" => JournalEntry::RoundLost {
             epoch,
             cause: LostCause::Disk,
         },
-        13 => JournalEntry::RoundLost {
+        "lost memory" => JournalEntry::RoundLost {
             epoch,
             cause: LostCause::Memory,
         },
-        14 => JournalEntry::Safe { epoch },
+        "safe" => JournalEntry::Safe { epoch },
         _ => JournalEntry::Show { session, statement },
     }
 }
 
-const ENTRIES: [&str; 16] = [
-    "begin 1.2 epoch 3 deps []",
-    "begin 1.2 epoch 4 deps [2,3]",
-    "cleared 1.2",
-    "committed 1.2 epoch 3",
-    "cube 1.2 epoch 3",
-    "flushed 1.2",
-    "idle 3",
-    "purged 1.2 epoch 3",
-    "read 17.2 epoch 3",
-    "readend 33.2",
-    "refused 1.2 code 17",
-    "round 3",
-    "lost 3 disk",
-    "lost 3 memory",
-    "safe 3",
-    "show 1.2",
-];
+fn entry_shown(alloc: Global, name: &str) -> Result<String, AllocError> {
+    String::from_utf8_lossy(alloc, entry_bytes(alloc, &entry(name))?.as_slice())
+}
 
-const ABORTS: [(AbortCause, &str); 6] = [
-    (AbortCause::Asked, "aborted 1.2 epoch 3 Asked"),
-    (AbortCause::EndOfScript, "aborted 1.2 epoch 3 EndOfScript"),
-    (
-        AbortCause::TooManyRejected,
-        "aborted 1.2 epoch 3 TooManyRejected",
-    ),
-    (AbortCause::ReadFault, "aborted 1.2 epoch 3 ReadFault"),
-    (AbortCause::NoMemory, "aborted 1.2 epoch 3 NoMemory"),
-    (
-        AbortCause::ShardFull {
+const ENTRIES: &str = r"
+begin|begin 1.2 epoch 3 deps []|
+begin with deps|begin 1.2 epoch 4 deps [2,3]|
+cleared|cleared 1.2|
+committed|committed 1.2 epoch 3|
+cube|cube 1.2 epoch 3|
+flushed|flushed 1.2|
+idle|idle 3|
+purged|purged 1.2 epoch 3|
+read|read 17.2 epoch 3|
+readend|readend 33.2|
+refused|refused 1.2 code 17|
+round|round 3|
+lost disk|lost 3 disk|
+lost memory|lost 3 memory|
+safe|safe 3|
+show|show 1.2|
+";
+
+/// Why a transaction is aborted, by the name of the cause.
+fn cause(name: &str) -> AbortCause {
+    match name {
+        "Asked" => AbortCause::Asked,
+        "EndOfScript" => AbortCause::EndOfScript,
+        "TooManyRejected" => AbortCause::TooManyRejected,
+        "ReadFault" => AbortCause::ReadFault,
+        "NoMemory" => AbortCause::NoMemory,
+        _ => AbortCause::ShardFull {
             shard: 4,
             rows: 1_099_511_627_776,
         },
-        "aborted 1.2 epoch 3 ShardFull 4 rows 1099511627776",
-    ),
-];
-
-#[test]
-fn entries_and_the_closing_line(rt: HostRuntime) -> Result<(), Fail> {
-    let alloc = rt.alloc();
-    let mut place = 0u32;
-    for wanted in &ENTRIES {
-        let wanted = *wanted;
-        let text = entry_bytes(alloc, &entry(place))?;
-        assert!(rt; text.as_slice() == wanted.as_bytes(), "{wanted}");
-        place = place.wrapping_add(1);
     }
-    for (cause, wanted) in &ABORTS {
-        let wanted = *wanted;
-        let aborted = JournalEntry::Aborted {
-            session: 1,
-            statement: 2,
-            epoch: 3,
-            cause: *cause,
-        };
-        let text = entry_bytes(alloc, &aborted)?;
-        assert!(rt; text.as_slice() == wanted.as_bytes(), "{wanted}");
-    }
-    let counters = Counters {
-        ec: 5,
-        lce: 4,
-        lse: 3,
-        pending: two_epochs(),
-    };
-    let text = end_bytes(alloc, &counters)?;
-    assert_eq!(rt; text.as_slice(), b"end ec 5 lce 4 lse 3\n".as_slice());
-    Ok(())
 }
 
-/// What is appended to a buffer stands after what it has.
+fn abort_shown(alloc: Global, name: &str) -> Result<String, AllocError> {
+    let aborted = JournalEntry::Aborted {
+        session: 1,
+        statement: 2,
+        epoch: 3,
+        cause: cause(name),
+    };
+    String::from_utf8_lossy(alloc, entry_bytes(alloc, &aborted)?.as_slice())
+}
+
+const ABORTS: &str = r"
+Asked|aborted 1.2 epoch 3 Asked|
+EndOfScript|aborted 1.2 epoch 3 EndOfScript|
+TooManyRejected|aborted 1.2 epoch 3 TooManyRejected|
+ReadFault|aborted 1.2 epoch 3 ReadFault|
+NoMemory|aborted 1.2 epoch 3 NoMemory|
+ShardFull|aborted 1.2 epoch 3 ShardFull 4 rows 1099511627776|
+";
+
 #[test]
-fn a_head_and_a_journal(rt: HostRuntime) -> Result<(), Fail> {
-    let alloc = rt.alloc();
+fn entries(rt: HostRuntime) {
+    assert_eq!(rt; first_other(rt.alloc(), ENTRIES, entry_shown), Ok(None));
+}
+
+#[test]
+fn aborts(rt: HostRuntime) {
+    assert_eq!(rt; first_other(rt.alloc(), ABORTS, abort_shown), Ok(None));
+}
+
+/// A head and a journal in one buffer, where each stands after what it has.
+fn head_and_journal(alloc: Global) -> Result<Vec<u8>, AllocError> {
     let mut out = Vec::new(alloc);
     put_head(&mut out, 2)?;
-    put_journal(&mut out, &[entry(11), entry(14)])?;
-    assert_eq!(rt;
-        out.as_slice(),
-        b"session 2\njournal 2\nround 3\nsafe 3\n".as_slice()
-    );
-    Ok(())
+    put_journal(&mut out, &[entry("round"), entry("safe")])?;
+    Ok(out)
+}
+
+/// The closing line, or a head and a journal.
+fn line_shown(alloc: Global, name: &str) -> Result<String, AllocError> {
+    let bytes = match name {
+        "end" => end_bytes(alloc, &counters_at(5, 4, 3, two_epochs()))?,
+        _ => head_and_journal(alloc)?,
+    };
+    String::from_utf8_lossy(alloc, bytes.as_slice())
+}
+
+const LINES: &str = r"
+end|end ec 5 lce 4 lse 3\n|
+head and journal|session 2\njournal 2\nround 3\nsafe 3\n|
+";
+
+#[test]
+fn the_closing_line_and_a_journal(rt: HostRuntime) {
+    assert_eq!(rt; first_other(rt.alloc(), LINES, line_shown), Ok(None));
 }

@@ -20,31 +20,33 @@ pub fn three_cubes(rt: &impl Abort, alloc: Global) -> Vec<Schema> {
     read_cubes(alloc, CUBES.as_bytes()).expect(rt, "three cubes")
 }
 
-fn texts_of(rt: &impl Abort, alloc: Global, texts: &[&str]) -> Texts {
+fn texts_of(rt: &impl Abort, alloc: Global, words: &str) -> Texts {
     let mut made = Vec::new(alloc);
-    for text in texts {
-        made.push(Text::new(alloc, text).expect(rt, "memory"))
-            .expect(rt, "memory");
+    for word in words.split_whitespace() {
+        let text = Text::new(alloc, word).expect(rt, "memory");
+        made.push(text).expect(rt, "memory");
     }
     Texts::from_vec(made)
 }
 
-fn lists_of(rt: &impl Abort, alloc: Global, lists: &[&[&str]]) -> TextLists {
+// The names of a cube, a list for each dimension with a slash between two.
+fn lists_of(rt: &impl Abort, alloc: Global, lists: &str) -> TextLists {
     let mut made = Vec::new(alloc);
-    for texts in lists {
-        made.push(texts_of(rt, alloc, texts)).expect(rt, "memory");
+    if !lists.is_empty() {
+        for words in lists.split('/') {
+            made.push(texts_of(rt, alloc, words)).expect(rt, "memory");
+        }
     }
     TextLists::from_vec(made)
 }
 
+// Of each cube on a line; of `t` there are none.
+const NAMES: &str = "CA NY WA/M F\n\na b/";
+
 /// The names of the cubes: of `visits` the regions CA, NY, WA and the genders M and F, of `c` a and b.
 pub fn names_of_three(rt: &impl Abort, alloc: Global) -> NameLists {
     let mut names = Vec::new(alloc);
-    for lists in [
-        &[&["CA", "NY", "WA"][..], &["M", "F"]][..],
-        &[],
-        &[&["a", "b"], &[]],
-    ] {
+    for lists in NAMES.lines() {
         names.push(lists_of(rt, alloc, lists)).expect(rt, "memory");
     }
     NameLists::from_vec(names)

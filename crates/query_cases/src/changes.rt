@@ -4,14 +4,12 @@ ghost use Rattle.std.specs.Prelude.{◌≡◌, ◌<◌, List, All, IfOk};
 ghost use Rattle.cube_values.specs.declared.row.CodedRow.{CodedRow};
 ghost use Rattle.query_cases.specs.Trials.{IsTrial, one_row, sum_and_count};
 
+use crate::fields::is_table;
 use agg_fold::Partial;
-use cube_values::{
-    BoundItem, BoundItems, BoundQuery, Coords, Field, Line, NameLists, Part, Parts, Span, Table,
-};
+use cube_values::{BoundItem, BoundItems, BoundQuery, Coords, NameLists, Part, Parts, Span, Table};
 use standing_query::{Change, Watch};
 use std::alloc::{AllocError, Global};
 use std::mem::swap;
-use std::test::Fail;
 
 fn sum_and_count(alloc: Global, group: &[u32]) -> Result<BoundQuery, AllocError>
     ensures { IfOk result (λ query. query ≡ sum_and_count group.now) }
@@ -74,17 +72,6 @@ fn followed(
     })
 }
 
-// Whether a table has one line alone, a sum and a count.
-fn is_line(table: &Table, sum: &Field, count: i128) -> bool {
-    match table.as_slice() {
-        [line] => match line.as_slice() {
-            [first, Field::Whole(second)] => first == sum && *second == count,
-            _ => false,
-        },
-        _ => false,
-    }
-}
-
 // The answers over no rows, over this one, and over none again.
 fn shown(alloc: Global, group: &[u32], coord: u32, metric: i64) -> Result<Answers, AllocError>
     requires { All (λ dim. dim < 1) group.now }
@@ -97,19 +84,17 @@ fn shown(alloc: Global, group: &[u32], coord: u32, metric: i64) -> Result<Answer
 }
 
 #[test]
-fn without_a_group_the_one_line_stays(rt: HostRuntime) -> Result<(), Fail> {
-    let shown = shown(rt.alloc(), &[], 0, 5)?;
-    assert!(rt; is_line(&shown.before, &Field::Null, 0));
-    assert!(rt; is_line(&shown.meanwhile, &Field::Whole(5), 1));
-    assert!(rt; is_line(&shown.afterwards, &Field::Null, 0));
-    Ok(())
+fn without_a_group_the_one_line_stays(rt: HostRuntime) {
+    let shown = shown(rt.alloc(), &[], 0, 5).expect(&rt, "memory");
+    assert!(rt; is_table(&shown.before, "NULL 0"));
+    assert!(rt; is_table(&shown.meanwhile, "5 1"));
+    assert!(rt; is_table(&shown.afterwards, "NULL 0"));
 }
 
 #[test]
-fn a_group_whose_last_row_went_is_left_out(rt: HostRuntime) -> Result<(), Fail> {
-    let shown = shown(rt.alloc(), &[0], 3, -2)?;
-    assert!(rt; shown.before.is_empty());
-    assert!(rt; is_line(&shown.meanwhile, &Field::Whole(-2), 1));
-    assert!(rt; shown.afterwards.is_empty());
-    Ok(())
+fn a_group_whose_last_row_went_is_left_out(rt: HostRuntime) {
+    let shown = shown(rt.alloc(), &[0], 3, -2).expect(&rt, "memory");
+    assert!(rt; is_table(&shown.before, ""));
+    assert!(rt; is_table(&shown.meanwhile, "-2 1"));
+    assert!(rt; is_table(&shown.afterwards, ""));
 }

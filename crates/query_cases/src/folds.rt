@@ -6,13 +6,13 @@ ghost use Rattle.cube_values.specs.declared.row.CodedRow.{CodedRow};
 ghost use Rattle.agg_fold.specs.Standing.{StandsFor};
 ghost use Rattle.query_cases.specs.TwoRows.{StandsForFew, count_and_sum, three_and_five};
 
+use crate::fields::is_table;
 use agg_fold::Partial;
 use cube_values::{
-    BoundItem, BoundItems, BoundQuery, Coords, Field, NameLists, Part, Parts, Span, Table, Text,
+    BoundItem, BoundItems, BoundQuery, Coords, NameLists, Part, Parts, Span, Table, Text,
     TextLists, Texts,
 };
 use std::alloc::{AllocError, Global};
-use std::test::Fail;
 
 mod plain;
 
@@ -121,11 +121,11 @@ fn query(alloc: Global, group: &[u32], items: &[BoundItem]) -> Result<BoundQuery
     })
 }
 
-/// The texts of the first dimension; the others have numbers.
-fn names(alloc: Global, texts: &[&str]) -> Result<NameLists, AllocError> {
+/// The texts of the first dimension, with a blank between two; the others have numbers.
+fn names(alloc: Global, texts: &str) -> Result<NameLists, AllocError> {
     let mut list = Texts::new(alloc);
-    for text in texts {
-        list.push(Text::new(alloc, *text)?)?;
+    for text in texts.split(' ') {
+        list.push(Text::new(alloc, text)?)?;
     }
     let mut lists = TextLists::new(alloc);
     lists.push(list)?;
@@ -148,45 +148,13 @@ fn tables(
     Ok((one, three))
 }
 
-/// A field that is wanted.
-#[derive(Clone, Copy)]
-enum Wanted {
-    Text(&'static str),
-    Whole(i128),
-    /// Whether it is below 0, the whole part and the ten-thousandths.
-    Decimal(bool, u128, u16),
-    Null,
-}
-
-fn is_field(field: &Field, wanted: Wanted) -> bool {
-    match (field, wanted) {
-        (Field::Text(text), Wanted::Text(other)) => text.as_str() == other,
-        (Field::Whole(n), Wanted::Whole(other)) => *n == other,
-        (Field::Decimal { neg, whole, four }, Wanted::Decimal(is_below, units, parts)) => {
-            *neg == is_below && *whole == units && *four == parts
-        }
-        (Field::Null, Wanted::Null) => true,
-        _ => false,
-    }
-}
-
-fn are_fields(fields: &[Field], wanted: &[Wanted]) -> bool {
-    let mut pairs = fields.iter().zip(wanted);
-    fields.len() == wanted.len() && pairs.all(|(field, one)| is_field(field, *one))
-}
-
-fn is_table(table: &Table, wanted: &[&[Wanted]]) -> bool {
-    let mut pairs = table.as_slice().iter().zip(wanted);
-    table.len() == wanted.len() && pairs.all(|(line, one)| are_fields(line.as_slice(), one))
-}
-
 /// Whether this is the table of rows, both ways.
 fn gives(
     alloc: Global,
     query: &BoundQuery,
     names: &NameLists,
     rows: &[Made],
-    wanted: &[&[Wanted]],
+    wanted: &str,
 ) -> Result<bool, AllocError>
     requires { length rows.now < 2 ^ 40 }
 {
@@ -201,9 +169,37 @@ const fn row(coord: u32, metric: i64) -> Made {
     }
 }
 
-#[test]
-fn whole_sums(rt: HostRuntime) -> Result<(), Fail> {
-    let alloc = rt.alloc();
+fn row_in(text: &str) -> Option<Made> {
+    let (coord, metric) = text.split_once(' ')?;
+    Some(row(coord.parse::<u32>().ok()?, metric.parse::<i64>().ok()?))
+}
+
+/// The rows of a text: the first coordinate and the metric of each.
+fn rows_in(alloc: Global, text: &str) -> Result<Vec<Made>, AllocError> {
+    let mut rows = Vec::new(alloc);
+    for row in text.split(", ") {
+        rows.push(row_in(row).ok_or(AllocError)?)?;
+    }
+    Ok(rows)
+}
+
+/// Whether this is the table of the rows of a text, both ways.
+fn gives_for(
+    alloc: Global,
+    query: &BoundQuery,
+    names: &NameLists,
+    rows: &str,
+    wanted: &str,
+) -> Result<bool, AllocError> {
+    let rows = rows_in(alloc, rows)?;
+    if rows.len() > 100 {
+        return Err(AllocError);
+    }
+    gives(alloc, query, names, rows.as_slice(), wanted)
+}
+
+/// All totals of the metric, over all rows.
+fn query_of_totals(alloc: Global) -> Result<BoundQuery, AllocError> {
     let items = [
         BoundItem::Sum(0),
         BoundItem::Avg(0),
@@ -211,73 +207,66 @@ fn whole_sums(rt: HostRuntime) -> Result<(), Fail> {
         BoundItem::Max(0),
         BoundItem::Count,
     ];
-    let names = names(alloc, &[])?;
-    let query = query(alloc, &[], &items)?;
-    let largest = [row(0, i64::MAX), row(1, i64::MAX), row(1, i64::MAX)];
-    let wanted = [
-        Wanted::Whole(27670116110564327421),
-        Wanted::Decimal(false, 9223372036854775807, 0),
-        Wanted::Whole(9223372036854775807),
-        Wanted::Whole(9223372036854775807),
-        Wanted::Whole(3),
-    ];
-    assert!(rt;
-        gives(alloc, &query, &names, &largest, &[&wanted])?,
-        "three times the largest"
-    );
-    let least = [row(0, i64::MIN), row(0, i64::MIN)];
-    let wanted = [
-        Wanted::Whole(-18446744073709551616),
-        Wanted::Decimal(true, 9223372036854775808, 0),
-        Wanted::Whole(-9223372036854775808),
-        Wanted::Whole(-9223372036854775808),
-        Wanted::Whole(2),
-    ];
-    assert!(rt;
-        gives(alloc, &query, &names, &least, &[&wanted])?,
-        "twice the least"
-    );
-    let half = [row(0, -1), row(4, 0)];
-    let wanted = [
-        Wanted::Whole(-1),
-        Wanted::Decimal(true, 0, 5000),
-        Wanted::Whole(-1),
-        Wanted::Whole(0),
-        Wanted::Whole(2),
-    ];
-    assert!(rt;
-        gives(alloc, &query, &names, &half, &[&wanted])?,
-        "minus a half"
-    );
-    Ok(())
+    query(alloc, &[], &items)
 }
 
-fn count_of(alloc: Global, query: &BoundQuery, rows: &[Made]) -> Result<u64, AllocError>
-    requires { length rows.now < 2 ^ 40 }
-{
-    Ok(fold(alloc, query, rows, 0, 1)?.rows())
+/// Whether these are the totals of the rows of a text.
+fn has_totals(alloc: Global, rows: &str, wanted: &str) -> Result<bool, AllocError> {
+    let query = query_of_totals(alloc)?;
+    gives_for(alloc, &query, &NameLists::new(alloc), rows, wanted)
+}
+
+const THREE_TIMES_THE_LARGEST: &str =
+    "0 9223372036854775807, 1 9223372036854775807, 1 9223372036854775807";
+
+const TWICE_THE_LEAST: &str = "0 -9223372036854775808, 0 -9223372036854775808";
+
+const MINUS_A_HALF: &str = "0 -1, 4 0";
+
+#[test]
+fn whole_sums(rt: HostRuntime) {
+    let largest =
+        "27670116110564327421 9223372036854775807.0000 9223372036854775807 9223372036854775807 3";
+    assert!(rt; has_totals(rt.alloc(), THREE_TIMES_THE_LARGEST, largest) == Ok(true));
+    let least =
+        "-18446744073709551616 -9223372036854775808.0000 -9223372036854775808 -9223372036854775808 2";
+    assert!(rt; has_totals(rt.alloc(), TWICE_THE_LEAST, least) == Ok(true));
+    assert!(rt; has_totals(rt.alloc(), MINUS_A_HALF, "-1 -0.5000 -1 0 2") == Ok(true));
+}
+
+/// The sum and the least by the texts of the first dimension.
+fn query_by_text(alloc: Global) -> Result<BoundQuery, AllocError> {
+    let items = [BoundItem::Group(0), BoundItem::Sum(0), BoundItem::Min(0)];
+    query(alloc, &[0], &items)
+}
+
+/// Whether the rows of a text give the sums 8 and 1 by text.
+fn are_merged(alloc: Global, rows: &str) -> Result<bool, AllocError> {
+    let query = query_by_text(alloc)?;
+    let names = names(alloc, "NY CA CA")?;
+    gives_for(alloc, &query, &names, rows, "'CA' 8 3\n'NY' 1 1")
+}
+
+/// How many rows a fold counts.
+fn count_of(alloc: Global, rows: &str) -> Result<u64, AllocError> {
+    let query = query_by_text(alloc)?;
+    let rows = rows_in(alloc, rows)?;
+    if rows.len() > 100 {
+        return Err(AllocError);
+    }
+    Ok(fold(alloc, &query, rows.as_slice(), 0, 1)?.rows())
 }
 
 #[test]
-fn merged_partials(rt: HostRuntime) -> Result<(), Fail> {
+fn merged_partials(rt: HostRuntime) {
     let alloc = rt.alloc();
-    let items = [BoundItem::Group(0), BoundItem::Sum(0), BoundItem::Min(0)];
-    let names = names(alloc, &["NY", "CA", "CA"])?;
-    let query = query(alloc, &[0], &items)?;
-    let wanted: [&[Wanted]; 2] = [
-        &[Wanted::Text("CA"), Wanted::Whole(8), Wanted::Whole(3)],
-        &[Wanted::Text("NY"), Wanted::Whole(1), Wanted::Whole(1)],
-    ];
-    let rows = [row(1, 3), row(1, 5), row(0, 1)];
-    assert!(rt; gives(alloc, &query, &names, &rows, &wanted)?, "by text");
+    assert!(rt; are_merged(alloc, "1 3, 1 5, 0 1") == Ok(true), "by text");
     // two coordinates with one text are one group
-    let rows = [row(1, 3), row(2, 5), row(0, 1)];
     assert!(rt;
-        gives(alloc, &query, &names, &rows, &wanted)?,
+        are_merged(alloc, "1 3, 2 5, 0 1") == Ok(true),
         "one text twice"
     );
-    assert_eq!(rt; count_of(alloc, &query, &rows)?, 3);
-    Ok(())
+    assert!(rt; count_of(alloc, "1 3, 2 5, 0 1") == Ok(3));
 }
 
 /// COUNT and SUM over a cube without dimensions and with one metric.
@@ -351,36 +340,32 @@ fn over_none_left(alloc: Global, query: &BoundQuery, two: &Partial) -> Result<Ta
     total.finish(query, &NameLists::new(alloc))
 }
 
-/// Whether an answer has one line alone, a count and a sum.
-fn is_count_and(table: &Table, count: i128, sum: Wanted) -> bool {
-    is_table(table, &[&[Wanted::Whole(count), sum]])
+/// Whether the answers over the rows are right as they come and go: COUNT and SUM, NULL over none.
+fn come_and_go(alloc: Global, query: &BoundQuery, two: &Partial) -> Result<bool, AllocError>
+    requires query { query.now ≡ count_and_sum }
+    requires two { StandsFor query.now three_and_five two.now.groups }
+{
+    Ok(
+        is_table(&over_two(alloc, query, two)?, "2 8")
+            && is_table(&over_four(alloc, query, two)?, "4 16")
+            && is_table(&over_two_left(alloc, query, two)?, "2 8")
+            && is_table(&over_none_left(alloc, query, two)?, "0 NULL"),
+    )
 }
 
-#[test]
-fn rows_by_their_totals_come_and_go(rt: HostRuntime) -> Result<(), Fail> {
-    let alloc = rt.alloc();
+fn two_come_and_go(alloc: Global) -> Result<bool, AllocError> {
     let query = count_and_sum(alloc)?;
     let two = two_rows(alloc, &query)?;
-    assert!(rt; is_count_and(&over_two(alloc, &query, &two)?, 2, Wanted::Whole(8)));
-    assert!(rt; is_count_and(&over_four(alloc, &query, &two)?, 4, Wanted::Whole(16)));
-    assert!(rt; is_count_and(&over_two_left(alloc, &query, &two)?, 2, Wanted::Whole(8)));
-    assert!(rt; is_count_and(&over_none_left(alloc, &query, &two)?, 0, Wanted::Null));
-    Ok(())
-}
-
-/// Whether a query for these items by a group gives this table over no rows.
-fn gives_of_none(
-    alloc: Global,
-    group: &[u32],
-    items: &[BoundItem],
-    wanted: &[&[Wanted]],
-) -> Result<bool, AllocError> {
-    let query = query(alloc, group, items)?;
-    gives(alloc, &query, &NameLists::new(alloc), &[], wanted)
+    come_and_go(alloc, &query, &two)
 }
 
 #[test]
-fn no_rows(rt: HostRuntime) -> Result<(), Fail> {
+fn rows_by_their_totals_come_and_go(rt: HostRuntime) {
+    assert!(rt; two_come_and_go(rt.alloc()) == Ok(true));
+}
+
+/// Whether a query for all totals by a group gives this table over no rows.
+fn gives_of_none(alloc: Global, group: &[u32], wanted: &str) -> Result<bool, AllocError> {
     let items = [
         BoundItem::Sum(0),
         BoundItem::Min(0),
@@ -388,15 +373,16 @@ fn no_rows(rt: HostRuntime) -> Result<(), Fail> {
         BoundItem::Avg(0),
         BoundItem::Count,
     ];
-    let wanted = [
-        Wanted::Null,
-        Wanted::Null,
-        Wanted::Null,
-        Wanted::Null,
-        Wanted::Whole(0),
-    ];
+    let query = query(alloc, group, &items)?;
+    gives(alloc, &query, &NameLists::new(alloc), &[], wanted)
+}
+
+#[test]
+fn no_rows(rt: HostRuntime) {
     let alloc = rt.alloc();
-    assert!(rt; gives_of_none(alloc, &[], &items, &[&wanted])?, "one line");
-    assert!(rt; gives_of_none(alloc, &[1], &items, &[])?, "no line");
-    Ok(())
+    assert!(rt;
+        gives_of_none(alloc, &[], "NULL NULL NULL NULL 0") == Ok(true),
+        "one line"
+    );
+    assert!(rt; gives_of_none(alloc, &[1], "") == Ok(true), "no line");
 }

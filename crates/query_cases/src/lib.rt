@@ -4,6 +4,8 @@
 #[cfg(test)]
 mod changes;
 #[cfg(test)]
+mod fields;
+#[cfg(test)]
 mod first_rows;
 #[cfg(test)]
 mod folds;

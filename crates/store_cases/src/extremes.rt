@@ -1,131 +1,140 @@
 //! Bricks of the greatest range, of the most dimensions and of none, worked out by hand.
 
-use crate::making::{batch_of, brick_of_steps, has_line, query, reader, shape_of, table};
-use cube_values::{BoundItem, NameLists, Part, Table};
+use crate::making::{batch_of, brick_of_steps, query, reader, shape_of, table};
+use crate::tables::{has_lines, numbers_of};
+use cube_values::{BoundItem, BoundQuery, CodedRows, NameLists, Part, Shape, Table};
 use std::alloc::Global;
 use std::process::Abort;
 
-const MOST: u32 = u32::MAX;
-
-// Appends rows to a brick, and finds for each combination of coordinates in some dimensions how many rows of
-// the parts there are and their sum. There is a part for each dimension, all but the last of them whole.
-fn answer(
-    rt: &impl Abort,
-    alloc: Global,
-    sizes: &[(u32, u32)],
-    number: u64,
-    rows: &[(&[u32], i64)],
-    last: Part,
-    group: &[u32],
-) -> Table {
+// For each combination of coordinates in some dimensions how many rows of the parts there are and their sum. There is a
+// part for each dimension, all but the last of them whole.
+fn query_of(rt: &impl Abort, alloc: Global, dims: usize, last: Part, group: &str) -> BoundQuery {
     let mut parts = Vec::new(alloc);
-    for _ in 1..sizes.len() {
+    for _ in 1..dims {
         parts.push(Part::All).expect(rt, "memory");
     }
-    if !sizes.is_empty() {
+    if dims > 0 {
         parts.push(last).expect(rt, "memory");
     }
-    let shape = shape_of(alloc, sizes).expect(rt, "memory");
-    let batch = batch_of(rt, alloc, sizes.len(), rows).expect(rt, "memory");
-    let steps = [(1, rows.len())];
-    let brick = brick_of_steps(rt, alloc, &shape, number, &batch, &steps).expect(rt, "memory");
+    let group = numbers_of(rt, alloc, group);
     let asked = [BoundItem::Count, BoundItem::Sum(0)];
-    let query = query(alloc, parts, group, &asked).expect(rt, "memory");
+    query(alloc, parts, group.as_slice(), &asked).expect(rt, "memory")
+}
+
+// What a brick of the rows of a batch answers.
+fn answer_of(
+    rt: &impl Abort,
+    alloc: Global,
+    shape: &Shape,
+    number: u64,
+    batch: &CodedRows,
+    query: &BoundQuery,
+) -> Table {
+    let steps = [(1, batch.len())];
+    let brick = brick_of_steps(rt, alloc, shape, number, batch, &steps);
     let names = NameLists::new(alloc);
-    table(rt, alloc, &brick, &shape, &query, &reader(1), &names).expect(rt, "memory")
+    table(rt, alloc, &brick, shape, query, &reader(1), &names)
+}
+
+// A brick, its rows, what is asked of it and the lines of the answer.
+#[derive(Clone, Copy)]
+struct Case<'a> {
+    sizes: &'a str,
+    number: u64,
+    rows: &'a str,
+    group: &'a str,
+    lines: &'a str,
+}
+
+// Whether the brick answers with these lines.
+fn answers(rt: &impl Abort, alloc: Global, case: Case, last: Part) -> bool {
+    let shape = shape_of(rt, alloc, case.sizes);
+    let dims = shape.sizes.len();
+    let batch = batch_of(rt, alloc, dims, case.rows);
+    let query = query_of(rt, alloc, dims, last, case.group);
+    let table = answer_of(rt, alloc, &shape, case.number, &batch, &query);
+    has_lines(&table, case.lines)
 }
 
 #[test]
 fn the_greatest_range_is_one_brick(rt: HostRuntime) {
-    let alloc = rt.alloc();
-    let rows: [(&[u32], i64); 4] = [
-        (&[MOST - 1], 1),
-        (&[0], 2),
-        (&[MOST - 1], 4),
-        (&[1 << 31], 8),
-    ];
-    let sizes = [(MOST, MOST)];
-    let all = answer(&rt, alloc, &sizes, 0, &rows, Part::All, &[0]);
-    assert_eq!(rt; all.len(), 3);
-    assert!(rt; has_line(&all, 0, &[0, 1, 2]));
-    assert!(rt; has_line(&all, 1, &[2_147_483_648, 1, 8]));
-    assert!(rt; has_line(&all, 2, &[4_294_967_294, 2, 5]));
-    let upper = answer(&rt, alloc, &sizes, 0, &rows, Part::Between(1, MOST), &[]);
-    assert!(rt; has_line(&upper, 0, &[3, 13]));
+    let all = Case {
+        sizes: "4294967295:4294967295",
+        number: 0,
+        rows: "4294967294 | 1, 0 | 2, 4294967294 | 4, 2147483648 | 8",
+        group: "0",
+        lines: "0 1 2, 2147483648 1 8, 4294967294 2 5",
+    };
+    let upper = Case {
+        group: "",
+        lines: "3 13",
+        ..all
+    };
+    assert!(rt; answers(&rt, rt.alloc(), all, Part::All));
+    assert!(rt; answers(&rt, rt.alloc(), upper, Part::Between(1, u32::MAX)));
 }
+
+// Sixteen dimensions with two ranges in each, of coordinates 0 and 1 and of 2 alone.
+const SIXTEEN: &str = "3:2 3:2 3:2 3:2 3:2 3:2 3:2 3:2 3:2 3:2 3:2 3:2 3:2 3:2 3:2 3:2";
 
 #[test]
 fn sixteen_dimensions_have_bricks(rt: HostRuntime) {
-    let alloc = rt.alloc();
-    // Two ranges in each dimension, of coordinates 0 and 1 and of 2 alone.
-    let sizes = [(3, 2); 16];
-    let rows: [(&[u32], i64); 4] = [
-        (&[0; 16], 1),
-        (&[1; 16], 2),
-        (&[0, 0, 0, 0, 0, 0, 0, 0, 0, 0, 0, 0, 0, 0, 0, 1], 4),
-        (&[1, 0, 0, 0, 0, 0, 0, 0, 0, 0, 0, 0, 0, 0, 0, 0], 8),
-    ];
-    let all = answer(&rt, alloc, &sizes, 0, &rows, Part::All, &[15, 0]);
-    assert_eq!(rt; all.len(), 4);
-    assert!(rt; has_line(&all, 0, &[0, 0, 1, 1]));
-    assert!(rt; has_line(&all, 1, &[0, 1, 1, 8]));
-    assert!(rt; has_line(&all, 2, &[1, 0, 1, 4]));
-    assert!(rt; has_line(&all, 3, &[1, 1, 1, 2]));
-    let ones = answer(&rt, alloc, &sizes, 0, &rows, Part::Between(1, 1), &[0]);
-    assert_eq!(rt; ones.len(), 2);
-    assert!(rt; has_line(&ones, 0, &[0, 1, 4]));
-    assert!(rt; has_line(&ones, 1, &[1, 1, 2]));
+    let all = Case {
+        sizes: SIXTEEN,
+        number: 0,
+        rows: "0 0 0 0 0 0 0 0 0 0 0 0 0 0 0 0 | 1, 1 1 1 1 1 1 1 1 1 1 1 1 1 1 1 1 | 2, \
+            0 0 0 0 0 0 0 0 0 0 0 0 0 0 0 1 | 4, 1 0 0 0 0 0 0 0 0 0 0 0 0 0 0 0 | 8",
+        group: "15 0",
+        lines: "0 0 1 1, 0 1 1 8, 1 0 1 4, 1 1 1 2",
+    };
+    let ones = Case {
+        group: "0",
+        lines: "0 1 4, 1 1 2",
+        ..all
+    };
+    assert!(rt; answers(&rt, rt.alloc(), all, Part::All));
+    assert!(rt; answers(&rt, rt.alloc(), ones, Part::Between(1, 1)));
 }
 
 #[test]
 fn the_last_brick_has_short_ranges(rt: HostRuntime) {
-    let alloc = rt.alloc();
-    let rows: [(&[u32], i64); 2] = [(&[2; 16], 5), (&[2; 16], 6)];
-    let all = answer(&rt, alloc, &[(3, 2); 16], 65_535, &rows, Part::All, &[7]);
-    assert_eq!(rt; all.len(), 1);
-    assert!(rt; has_line(&all, 0, &[2, 2, 11]));
+    let all = Case {
+        sizes: SIXTEEN,
+        number: 65_535,
+        rows: "2 2 2 2 2 2 2 2 2 2 2 2 2 2 2 2 | 5, 2 2 2 2 2 2 2 2 2 2 2 2 2 2 2 2 | 6",
+        group: "7",
+        lines: "2 2 11",
+    };
+    assert!(rt; answers(&rt, rt.alloc(), all, Part::All));
 }
 
 #[test]
 fn no_dimension_has_one_brick(rt: HostRuntime) {
-    let alloc = rt.alloc();
-    let rows: [(&[u32], i64); 3] = [(&[], 5), (&[], -7), (&[], 9)];
-    let all = answer(&rt, alloc, &[], 0, &rows, Part::All, &[]);
-    assert_eq!(rt; all.len(), 1);
-    assert!(rt; has_line(&all, 0, &[3, 7]));
+    let all = Case {
+        sizes: "",
+        number: 0,
+        rows: "| 5, | -7, | 9",
+        group: "",
+        lines: "3 7",
+    };
+    assert!(rt; answers(&rt, rt.alloc(), all, Part::All));
 }
 
 #[test]
 fn numbers_on_both_sides_of_2_to_the_41_are_summed(rt: HostRuntime) {
-    let alloc = rt.alloc();
-    let within: i64 = 2_199_023_255_551;
-    let rows: [(&[u32], i64); 9] = [
-        (&[0], within),
-        (&[1], -within),
-        (&[4], 7),
-        (&[0], -1),
-        (&[1], 0),
-        (&[4], -7),
-        (&[4], 3),
-        (&[2], 5),
-        (&[0], 1),
-    ];
-    let sizes = [(5, 5)];
-    let all = answer(&rt, alloc, &sizes, 0, &rows, Part::All, &[0]);
-    assert_eq!(rt; all.len(), 4);
-    assert!(rt; has_line(&all, 0, &[0, 3, 2_199_023_255_551]));
-    assert!(rt; has_line(&all, 1, &[1, 2, -2_199_023_255_551]));
-    assert!(rt; has_line(&all, 2, &[2, 1, 5]));
-    assert!(rt; has_line(&all, 3, &[4, 3, 3]));
-    let beyond: [(&[u32], i64); 5] = [
-        (&[3], within + 1),
-        (&[0], -within - 1),
-        (&[3], within + 1),
-        (&[0], -within - 1),
-        (&[3], i64::MAX),
-    ];
-    let few = answer(&rt, alloc, &sizes, 0, &beyond, Part::All, &[0]);
-    assert_eq!(rt; few.len(), 2);
-    assert!(rt; has_line(&few, 0, &[0, 2, -4_398_046_511_104]));
-    assert!(rt; has_line(&few, 1, &[3, 3, 9_223_376_434_901_286_911]));
+    let within = Case {
+        sizes: "5:5",
+        number: 0,
+        rows: "0 | 2199023255551, 1 | -2199023255551, 4 | 7, 0 | -1, 1 | 0, 4 | -7, 4 | 3, 2 | 5, 0 | 1",
+        group: "0",
+        lines: "0 3 2199023255551, 1 2 -2199023255551, 2 1 5, 4 3 3",
+    };
+    let beyond = Case {
+        rows: "3 | 2199023255552, 0 | -2199023255552, 3 | 2199023255552, 0 | -2199023255552, \
+            3 | 9223372036854775807",
+        lines: "0 2 -4398046511104, 3 3 9223376434901286911",
+        ..within
+    };
+    assert!(rt; answers(&rt, rt.alloc(), within, Part::All));
+    assert!(rt; answers(&rt, rt.alloc(), beyond, Part::All));
 }

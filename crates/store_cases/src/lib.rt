@@ -14,4 +14,6 @@ mod plain_lines;
 #[cfg(test)]
 mod steps;
 #[cfg(test)]
+mod tables;
+#[cfg(test)]
 mod worked;

@@ -9,28 +9,36 @@ ghost use Rattle.brick_address.specs.Addresses.{AreCoords, LieIn};
 ghost use Rattle.cube_values.specs.Batches.{rows_between};
 ghost use Rattle.brick_store.specs.Bricks.{IsRowOf};
 
+use crate::tables::numbers_of;
 use agg_fold::Partial;
 use brick_address::brick_of;
 use brick_store::{Brick, Scratch};
 use cube_values::{
-    BoundItem, BoundItems, BoundQuery, CodedRows, Coords, EpochList, Field, NameLists, Part, Parts,
-    Shape, Size, Sizes, Snapshot, Span, Table,
+    BoundItem, BoundItems, BoundQuery, CodedRows, Coords, EpochList, NameLists, Part, Parts, Shape,
+    Size, Sizes, Snapshot, Span, Table,
 };
 use std::alloc::{AllocError, Global};
 use std::process::Abort;
 
-/// A cube of dimensions with these cardinalities and range sizes.
-pub fn shape_of(alloc: Global, sizes: &[(u32, u32)]) -> Result<Shape, AllocError> {
-    let mut made = Vec::new(alloc);
-    for (cardinality, range) in sizes {
-        made.push(Size {
-            cardinality: *cardinality,
-            range: *range,
-        })?;
-    }
-    Ok(Shape {
-        sizes: Sizes::from_vec(made),
+// A cardinality and a range with a colon between them.
+fn size_of(word: &str) -> Option<Size> {
+    let (cardinality, range) = word.split_once(':')?;
+    Some(Size {
+        cardinality: cardinality.parse::<u32>().ok()?,
+        range: range.parse::<u32>().ok()?,
     })
+}
+
+/// A cube of dimensions with these cardinalities and range sizes.
+pub fn shape_of(rt: &impl Abort, alloc: Global, sizes: &str) -> Shape {
+    let mut made = Vec::new(alloc);
+    for word in sizes.split_whitespace() {
+        let size = size_of(word).expect(rt, "a size");
+        made.push(size).expect(rt, "memory");
+    }
+    Shape {
+        sizes: Sizes::from_vec(made),
+    }
 }
 
 // The number of bricks, where each size is sound and the bricks are few enough.
@@ -108,17 +116,11 @@ fn are_rows_of(shape: &Shape, number: u64, batch: &CodedRows, from: usize, to: u
 }
 
 // A brick without rows, of one metric.
-fn empty_brick(
-    rt: &impl Abort,
-    alloc: Global,
-    shape: &Shape,
-    number: u64,
-) -> Result<Brick, AllocError>
-    ensures { IfOk result (λ made. made.home
-        ≡ record { sizes = shape.now.sizes; metrics = 1; number = number }) }
+fn empty_brick(rt: &impl Abort, alloc: Global, shape: &Shape, number: u64) -> Brick
+    ensures { result.home ≡ record { sizes = shape.now.sizes; metrics = 1; number = number } }
 {
     assert!(rt; has_brick(shape, number));
-    Brick::new(alloc, shape, 1, number)
+    Brick::new(alloc, shape, 1, number).expect(rt, "memory")
 }
 
 // Appends the rows of a batch from one place up to another. Where there is none, deletes.
@@ -129,21 +131,20 @@ fn step(
     number: u64,
     epoch: u64,
     batch: &CodedRows,
-    places: (usize, usize),
-) -> Result<(), AllocError>
+    from: usize,
+    to: usize,
+)
     requires { brick.old.home ≡ record { sizes = shape.now.sizes; metrics = 1; number = number } }
     ensures { brick.new.home ≡ brick.old.home }
 {
-    let (from, to) = places;
     assert!(rt; from <= to && to <= batch.len());
     assert!(rt; from == to || are_rows_of(shape, number, batch, from, to));
-    brick.prepare((to - from) as u64, 1)?;
+    brick.prepare((to - from) as u64, 1).expect(rt, "memory");
     if from == to {
         brick.mark(epoch);
     } else {
         brick.append(epoch, batch, from, to);
     }
-    Ok(())
 }
 
 fn is_sound_item(group: &[u32], metrics: usize, item: BoundItem) -> bool
@@ -259,8 +260,8 @@ pub fn query(
     })
 }
 
-/// The table of the rows of a brick that a snapshot sees.
-pub fn table(
+// The table of the rows of a brick that a snapshot sees.
+fn table_of(
     rt: &impl Abort,
     alloc: Global,
     brick: &Brick,
@@ -281,41 +282,28 @@ pub fn table(
     partial.finish(query, names)
 }
 
+/// The table of the rows of a brick that a snapshot sees.
+pub fn table(
+    rt: &impl Abort,
+    alloc: Global,
+    brick: &Brick,
+    shape: &Shape,
+    query: &BoundQuery,
+    snapshot: &Snapshot,
+    names: &NameLists,
+) -> Table
+    requires shape { brick.now.home.sizes ≡ shape.now.sizes }
+    requires metrics { brick.now.home.metrics ≡ 1 }
+{
+    table_of(rt, alloc, brick, shape, query, snapshot, names).expect(rt, "memory")
+}
+
 /// A reader at an epoch.
 pub fn reader(epoch: u64) -> Snapshot {
     Snapshot {
         epoch,
         deps: EpochList::new(),
         own: false,
-    }
-}
-
-/// Whether a field is this number.
-pub fn is_number(field: &Field, number: i128) -> bool {
-    match field {
-        Field::Whole(whole) => *whole == number,
-        _ => false,
-    }
-}
-
-// The fields of a line are these numbers.
-fn has_numbers(fields: &[Field], numbers: &[i128]) -> bool {
-    if fields.len() != numbers.len() {
-        return false;
-    }
-    for i in 0..fields.len() {
-        if !is_number(&fields[i], numbers[i]) {
-            return false;
-        }
-    }
-    true
-}
-
-/// Whether line `at` of a table has these numbers.
-pub fn has_line(table: &Table, at: usize, numbers: &[i128]) -> bool {
-    match table.as_slice().get(at) {
-        Some(line) => has_numbers(line.as_slice(), numbers),
-        None => false,
     }
 }
 
@@ -337,18 +325,24 @@ pub fn put(rt: &impl Abort, batch: &mut CodedRows, coords: &[u32], metric: i64)
     batch.push(coords, &[metric]);
 }
 
-/// A batch of rows of coordinates and a metric.
-pub fn batch_of(
-    rt: &impl Abort,
-    alloc: Global,
-    dims: usize,
-    rows: &[(&[u32], i64)],
-) -> Result<CodedRows, AllocError> {
-    let mut batch = empty_batch(alloc, dims, rows.len())?;
-    'rows: for (coords, metric) in rows {
-        put(rt, &mut batch, coords, *metric);
+// Puts the row of a text: its coordinates and, behind a `|`, its metric.
+fn put_text(rt: &impl Abort, alloc: Global, batch: &mut CodedRows, row: &str)
+    requires { batch.old.width ≡ 1 }
+    ensures { batch.new.width ≡ 1 }
+{
+    let (coords, metric) = row.split_once('|').expect(rt, "a row");
+    let metric = metric.trim().parse::<i64>().ok().expect(rt, "a metric");
+    let coords = numbers_of(rt, alloc, coords);
+    put(rt, batch, coords.as_slice(), metric);
+}
+
+/// A batch of the rows of a text, with commas between them.
+pub fn batch_of(rt: &impl Abort, alloc: Global, dims: usize, rows: &str) -> CodedRows {
+    let mut batch = empty_batch(alloc, dims, rows.split(',').count()).expect(rt, "memory");
+    'rows: for row in rows.split(',') {
+        put_text(rt, alloc, &mut batch, row);
     }
-    Ok(batch)
+    batch
 }
 
 /// A brick of the rows of a batch, so many for each step; a step of none deletes.
@@ -359,16 +353,15 @@ pub fn brick_of_steps(
     number: u64,
     batch: &CodedRows,
     steps: &[(u64, usize)],
-) -> Result<Brick, AllocError>
-    ensures { IfOk result (λ made. made.home
-        ≡ record { sizes = shape.now.sizes; metrics = 1; number = number }) }
+) -> Brick
+    ensures { result.home ≡ record { sizes = shape.now.sizes; metrics = 1; number = number } }
 {
-    let mut brick = empty_brick(rt, alloc, shape, number)?;
+    let mut brick = empty_brick(rt, alloc, shape, number);
     let mut at: usize = 0;
     'steps: for (epoch, rows) in steps {
         let to = at.saturating_add(*rows);
-        step(rt, &mut brick, shape, number, *epoch, batch, (at, to))?;
+        step(rt, &mut brick, shape, number, *epoch, batch, at, to);
         at = to;
     }
-    Ok(brick)
+    brick
 }

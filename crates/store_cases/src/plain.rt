@@ -92,7 +92,7 @@ fn compare_one(
     let parts = vec![in alloc; texts, numbers].expect(rt, "memory");
     let group = some_group(seed);
     let query = query(alloc, parts, group, &ASKED).expect(rt, "memory");
-    let table = table(rt, alloc, brick, shape, &query, snapshot, names).expect(rt, "memory");
+    let table = table(rt, alloc, brick, shape, &query, snapshot, names);
     let lines = plain_lines(alloc, past, group, &query.span, snapshot).expect(rt, "memory");
     assert!(rt; agrees(&table, group, lines.as_slice()));
 }
@@ -127,9 +127,7 @@ fn brick_of(rt: &impl Abort, alloc: Global, shape: &Shape, past: &Past) -> Brick
     let rows = past.rows();
     let mut batch = empty_batch(alloc, 2, rows).expect(rt, "memory");
     put_rows(rt, &mut batch, past.number, rows as u64);
-    brick_of_steps(rt, alloc, shape, past.number, &batch, past.steps.as_slice()).expect(
-        rt, "memory",
-    )
+    brick_of_steps(rt, alloc, shape, past.number, &batch, past.steps.as_slice())
 }
 
 // One brick: as its steps made it, then with an epoch rolled back, then purged.
@@ -161,7 +159,7 @@ fn one_case(
 fn bricks_answer_what_a_walk_finds(rt: HostRuntime) {
     let alloc = rt.alloc();
     // Texts below five in ranges of two, and numbers below a thousand in ranges of 600.
-    let shape = shape_of(alloc, &[(5, 2), (1000, 600)]).expect(&rt, "memory");
+    let shape = shape_of(&rt, alloc, "5:2 1000:600");
     let names = names(alloc).expect(&rt, "memory");
     let mut seed = 1;
     for number in 0..6 {

@@ -1,7 +1,7 @@
 //! The lines of an answer by a plain walk.
 
-use crate::making::is_number;
 use crate::steps::{Past, coords_of, metric_of};
+use crate::tables::is_number;
 use cube_values::{Field, NameLists, Snapshot, Span, Table, Text, TextLists, Texts};
 use std::alloc::{AllocError, Global};
 

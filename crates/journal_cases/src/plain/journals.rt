@@ -1,126 +1,173 @@
-//! Journals for the tests, a line for each entry.
+//! Journals for the tests, as texts in the words in which a journal is written.
 
 use cube_journal::{AbortCause, JournalEntry, LostCause};
 use cube_values::EpochList;
+use std::alloc::{AllocError, Global};
 
-/// An entry of a journal: a session, a statement, and then an epoch or the number of a refusal.
-#[derive(Clone, Copy, Debug)]
-pub enum Line {
-    Begin(u32, u32, u64, &'static [u64]),
-    Read(u32, u32, u64),
-    ReadEnd(u32, u32),
-    Committed(u32, u32, u64),
-    Aborted(u32, u32, u64),
-    Refused(u32, u32, u32),
-    Cleared(u32, u32),
-    Show(u32, u32),
-    Flushed(u32, u32),
-    Purged(u32, u32, u64),
-    Cube(u32, u32, u64),
-    Round(u64),
-    Idle(u64),
-    Safe(u64),
-    LostToDisk(u64),
-    LostToMemory(u64),
+/// An entry of a journal as it is written, and by how much its last number is to be raised, where it has one.
+#[derive(Clone, Copy)]
+pub struct Line<'a> {
+    pub text: &'a str,
+    pub raise: u64,
 }
 
-fn epochs(list: &[u64]) -> EpochList {
-    let mut epochs = EpochList::new();
-    for epoch in list {
-        if epochs.as_slice().len() < EpochList::MOST {
-            epochs.push(*epoch);
-        }
+/// Appends the lines of a text, which a mark parts. An empty text has none.
+pub fn append_lines<'a>(
+    lines: &mut Vec<Line<'a>>,
+    text: &'a str,
+    mark: &str,
+) -> Result<(), AllocError> {
+    if text.is_empty() {
+        return Ok(());
     }
-    epochs
+    for text in text.split(mark) {
+        lines.push(Line { text, raise: 0 })?;
+    }
+    Ok(())
+}
+
+/// The lines of a text, which a mark parts.
+pub fn lines_in<'a>(alloc: Global, text: &'a str, mark: &str) -> Result<Vec<Line<'a>>, AllocError> {
+    let mut lines = Vec::new(alloc);
+    append_lines(&mut lines, text, mark)?;
+    Ok(lines)
+}
+
+// A text up to a mark, and the rest behind it.
+fn cut<'a>(text: &'a str, mark: char) -> (&'a str, &'a str) {
+    match text.split_once(mark) {
+        Some((front, behind)) => (front, behind),
+        None => (text, ""),
+    }
 }
 
 /// The entry of a line.
-pub fn entry(line: &Line) -> JournalEntry {
-    match *line {
-        Line::Begin(session, statement, epoch, deps) => JournalEntry::Begin {
+pub fn entry(line: Line) -> Option<JournalEntry> {
+    let (kind, rest) = line.text.split_once(' ')?;
+    match rest.split_once('.') {
+        Some((session, rest)) => of_session(kind, session.parse::<u32>().ok()?, rest, line.raise),
+        None => of_flusher(kind, rest, line.raise),
+    }
+}
+
+// An entry of a session, with its statement and what stands behind it.
+fn of_session(kind: &str, session: u32, rest: &str, raise: u64) -> Option<JournalEntry> {
+    let (statement, rest) = cut(rest, ' ');
+    let statement = statement.parse::<u32>().ok()?;
+    if rest.is_empty() {
+        return without_number(kind, session, statement);
+    }
+    // The word before the number says what it counts.
+    let (_, rest) = rest.split_once(' ')?;
+    let (number, rest) = cut(rest, ' ');
+    let number = number.parse::<u64>().ok()?.saturating_add(raise);
+    match kind {
+        "begin" => Some(JournalEntry::Begin {
+            session,
+            statement,
+            epoch: number,
+            deps: deps_in(rest)?,
+        }),
+        "refused" => Some(JournalEntry::Refused {
+            session,
+            statement,
+            code: u32::try_from(number).ok()?,
+        }),
+        _ => with_epoch(kind, session, statement, number),
+    }
+}
+
+fn without_number(kind: &str, session: u32, statement: u32) -> Option<JournalEntry> {
+    match kind {
+        "readend" => Some(JournalEntry::ReadEnd { session, statement }),
+        "cleared" => Some(JournalEntry::Cleared { session, statement }),
+        "show" => Some(JournalEntry::Show { session, statement }),
+        "flushed" => Some(JournalEntry::Flushed { session, statement }),
+        _ => None,
+    }
+}
+
+fn with_epoch(kind: &str, session: u32, statement: u32, epoch: u64) -> Option<JournalEntry> {
+    match kind {
+        "read" => Some(JournalEntry::Read {
             session,
             statement,
             epoch,
-            deps: epochs(deps),
-        },
-        Line::Read(session, statement, epoch) => JournalEntry::Read {
+        }),
+        "committed" => Some(JournalEntry::Committed {
             session,
             statement,
             epoch,
-        },
-        Line::ReadEnd(session, statement) => JournalEntry::ReadEnd { session, statement },
-        Line::Committed(session, statement, epoch) => JournalEntry::Committed {
-            session,
-            statement,
-            epoch,
-        },
-        Line::Aborted(session, statement, epoch) => JournalEntry::Aborted {
+        }),
+        "aborted" => Some(JournalEntry::Aborted {
             session,
             statement,
             epoch,
             cause: AbortCause::ReadFault,
-        },
-        Line::Refused(session, statement, code) => JournalEntry::Refused {
-            session,
-            statement,
-            code,
-        },
-        Line::Cleared(session, statement) => JournalEntry::Cleared { session, statement },
-        Line::Show(session, statement) => JournalEntry::Show { session, statement },
-        Line::Flushed(session, statement) => JournalEntry::Flushed { session, statement },
-        Line::Purged(session, statement, epoch) => JournalEntry::Purged {
+        }),
+        "purged" => Some(JournalEntry::Purged {
             session,
             statement,
             epoch,
-        },
-        Line::Cube(session, statement, epoch) => JournalEntry::Cube {
+        }),
+        "cube" => Some(JournalEntry::Cube {
             session,
             statement,
             epoch,
-        },
-        Line::Round(epoch) => JournalEntry::Round { epoch },
-        Line::Idle(epoch) => JournalEntry::Idle { epoch },
-        Line::Safe(epoch) => JournalEntry::Safe { epoch },
-        Line::LostToDisk(epoch) => JournalEntry::RoundLost {
-            epoch,
-            cause: LostCause::Disk,
-        },
-        Line::LostToMemory(epoch) => JournalEntry::RoundLost {
-            epoch,
-            cause: LostCause::Memory,
-        },
+        }),
+        _ => None,
     }
 }
 
-/// The line with its last number one more, where it has one.
-pub fn raised(line: Line) -> Line {
-    match line {
-        Line::Begin(session, statement, epoch, deps) => {
-            Line::Begin(session, statement, epoch.saturating_add(1), deps)
-        }
-        Line::Read(session, statement, epoch) => {
-            Line::Read(session, statement, epoch.saturating_add(1))
-        }
-        Line::Committed(session, statement, epoch) => {
-            Line::Committed(session, statement, epoch.saturating_add(1))
-        }
-        Line::Aborted(session, statement, epoch) => {
-            Line::Aborted(session, statement, epoch.saturating_add(1))
-        }
-        Line::Refused(session, statement, code) => {
-            Line::Refused(session, statement, code.saturating_add(1))
-        }
-        Line::Purged(session, statement, epoch) => {
-            Line::Purged(session, statement, epoch.saturating_add(1))
-        }
-        Line::Cube(session, statement, epoch) => {
-            Line::Cube(session, statement, epoch.saturating_add(1))
-        }
-        Line::Round(epoch) => Line::Round(epoch.saturating_add(1)),
-        Line::Idle(epoch) => Line::Idle(epoch.saturating_add(1)),
-        Line::Safe(epoch) => Line::Safe(epoch.saturating_add(1)),
-        Line::LostToDisk(epoch) => Line::LostToDisk(epoch.saturating_add(1)),
-        Line::LostToMemory(epoch) => Line::LostToMemory(epoch.saturating_add(1)),
-        other => other,
+fn of_flusher(kind: &str, rest: &str, raise: u64) -> Option<JournalEntry> {
+    let (number, cause) = cut(rest, ' ');
+    let epoch = number.parse::<u64>().ok()?.saturating_add(raise);
+    match kind {
+        "round" => Some(JournalEntry::Round { epoch }),
+        "idle" => Some(JournalEntry::Idle { epoch }),
+        "safe" => Some(JournalEntry::Safe { epoch }),
+        "lost" => Some(JournalEntry::RoundLost {
+            epoch,
+            cause: lost_cause(cause)?,
+        }),
+        _ => None,
     }
+}
+
+fn lost_cause(cause: &str) -> Option<LostCause> {
+    match cause {
+        "disk" => Some(LostCause::Disk),
+        "memory" => Some(LostCause::Memory),
+        _ => None,
+    }
+}
+
+// The epochs in brackets, with a comma between two.
+fn deps_in(text: &str) -> Option<EpochList> {
+    let (_, rest) = text.split_once('[')?;
+    let (list, _) = rest.split_once(']')?;
+    if list.is_empty() {
+        return Some(EpochList::new());
+    }
+    epochs_in(list)
+}
+
+// Appends the epoch of a word, and says whether it is one for which there is room.
+fn push_epoch(epochs: &mut EpochList, word: &str) -> bool {
+    match word.parse::<u64>() {
+        Ok(epoch) if epochs.as_slice().len() < EpochList::MOST => {
+            epochs.push(epoch);
+            true
+        }
+        _ => false,
+    }
+}
+
+fn epochs_in(list: &str) -> Option<EpochList> {
+    let mut epochs = EpochList::new();
+    let mut all_are_read = true;
+    for word in list.split(',') {
+        all_are_read = push_epoch(&mut epochs, word) && all_are_read;
+    }
+    if all_are_read { Some(epochs) } else { None }
 }

@@ -2,11 +2,9 @@
 
 ghost use Rattle.std.specs.Prelude.{◌<◌, ◌^◌, length};
 
-use super::{Made, Wanted, are_fields, gives, names, query, row, tables};
-use cube_values::{BoundItem, BoundQuery, Line, NameLists, Table};
+use super::{Made, gives, names, query, row, tables};
+use cube_values::{BoundItem, BoundQuery, Field, Line, NameLists, Table};
 use std::alloc::{AllocError, Global};
-use std::process::Abort;
-use std::test::Fail;
 
 /// A group of the plain fold, by its key.
 #[derive(Clone, Copy)]
@@ -21,17 +19,16 @@ struct Plain {
 /// The key of a row: its coordinates in the first `columns` dimensions, 0 in the others. The first one is
 /// turned round, since its texts fall as the coordinates rise.
 fn plain_key(row: Made, columns: usize) -> [u32; 3] {
-    let mut key = [0u32; 3];
-    for i in 0..3 {
-        if i < columns {
-            key[i] = if i == 0 {
-                4u32.wrapping_sub(row.coords[i])
-            } else {
-                row.coords[i]
-            };
-        }
-    }
-    key
+    let [first, second, third] = row.coords;
+    [
+        if columns > 0 {
+            4u32.wrapping_sub(first)
+        } else {
+            0
+        },
+        if columns > 1 { second } else { 0 },
+        if columns > 2 { third } else { 0 },
+    ]
 }
 
 fn plain_fold(alloc: Global, rows: &[Made], columns: usize) -> Result<Vec<Plain>, AllocError> {
@@ -67,43 +64,85 @@ fn plain_fold(alloc: Global, rows: &[Made], columns: usize) -> Result<Vec<Plain>
 }
 
 /// The average in ten-thousandths, cut toward zero.
-fn plain_average(group: &Plain) -> Wanted {
+fn is_average(field: &Field, group: &Plain) -> bool {
     let count = i128::from(group.count);
     let cut = if count > 0 {
         group.sum.wrapping_mul(10_000).unsigned_abs() / count.unsigned_abs()
     } else {
         0
     };
-    Wanted::Decimal(
-        group.sum < 0 && cut > 0,
-        cut / 10_000,
-        (cut % 10_000) as u16,
-    )
+    match field {
+        Field::Decimal { neg, whole, four } => {
+            *neg == (group.sum < 0 && cut > 0)
+                && *whole == cut / 10_000
+                && *four == (cut % 10_000) as u16
+        }
+        _ => false,
+    }
 }
 
-const TEXTS: [&str; 5] = ["v", "w", "x", "y", "z"];
+fn is_whole(field: &Field, wanted: i128) -> bool {
+    match field {
+        Field::Whole(n) => *n == wanted,
+        _ => false,
+    }
+}
+
+fn text_of(place: u32) -> &'static str {
+    match place {
+        0 => "v",
+        1 => "w",
+        2 => "x",
+        3 => "y",
+        4 => "z",
+        _ => "",
+    }
+}
+
+fn is_text_of(field: &Field, place: u32) -> bool {
+    match field {
+        Field::Text(text) => text.as_str() == text_of(place),
+        _ => false,
+    }
+}
+
+/// Whether fields are the first columns of a group's key.
+fn is_key(fields: &[Field], key: [u32; 3]) -> bool {
+    match fields {
+        [] => true,
+        [first] => is_text_of(first, key[0]),
+        [first, second] => is_text_of(first, key[0]) && is_whole(second, i128::from(key[1])),
+        [first, second, third] => {
+            is_text_of(first, key[0])
+                && is_whole(second, i128::from(key[1]))
+                && is_whole(third, i128::from(key[2]))
+        }
+        _ => false,
+    }
+}
+
+/// Whether fields are the totals of a group.
+fn are_totals(fields: &[Field], group: &Plain) -> bool {
+    match fields {
+        [count, sum, least, greatest, average] => {
+            is_whole(count, i128::from(group.count))
+                && is_whole(sum, group.sum)
+                && is_whole(least, i128::from(group.least))
+                && is_whole(greatest, i128::from(group.greatest))
+                && is_average(average, group)
+        }
+        _ => false,
+    }
+}
 
 /// Whether a line has the first columns of a group's key, and its totals.
 fn is_plain_line(line: &Line, group: &Plain, columns: usize) -> bool {
-    let place = group.key[0] as usize;
-    let key = [
-        Wanted::Text(if place < 5 { TEXTS[place] } else { "" }),
-        Wanted::Whole(i128::from(group.key[1])),
-        Wanted::Whole(i128::from(group.key[2])),
-    ];
-    let totals = [
-        Wanted::Whole(i128::from(group.count)),
-        Wanted::Whole(group.sum),
-        Wanted::Whole(i128::from(group.least)),
-        Wanted::Whole(i128::from(group.greatest)),
-        plain_average(group),
-    ];
     let fields = line.as_slice();
-    if columns > 3 || columns > fields.len() {
+    if columns > fields.len() {
         return false;
     }
     let (first, others) = fields.split_at(columns);
-    are_fields(first, &key[..columns]) && are_fields(others, &totals)
+    is_key(first, group.key) && are_totals(others, group)
 }
 
 fn is_plain_table(table: &Table, groups: &[Plain], columns: usize) -> bool {
@@ -154,40 +193,36 @@ fn query_by(alloc: Global, columns: usize) -> Result<BoundQuery, AllocError> {
     query(alloc, &dims[..columns.min(3)], items.as_slice())
 }
 
-/// Checks the answer by the first columns, in one partial and in three.
-fn check_columns(
-    rt: &impl Abort,
+/// Whether the answer by the first columns is that of the plain fold, in one partial and in three.
+fn is_as_plain(
     alloc: Global,
     names: &NameLists,
     rows: &[Made],
     columns: usize,
-) -> Result<(), AllocError>
+) -> Result<bool, AllocError>
     requires { length rows.now < 2 ^ 40 }
 {
     let groups = plain_fold(alloc, rows, columns)?;
     let query = query_by(alloc, columns)?;
     let (one, three) = tables(alloc, &query, names, rows)?;
-    assert!(rt;
-        is_plain_table(&one, groups.as_slice(), columns),
-        "one partial by {columns} columns"
-    );
-    assert!(rt;
-        is_plain_table(&three, groups.as_slice(), columns),
-        "three partials by {columns} columns"
-    );
-    Ok(())
+    Ok(
+        is_plain_table(&one, groups.as_slice(), columns)
+            && is_plain_table(&three, groups.as_slice(), columns),
+    )
 }
 
 #[test]
-fn many_rows_as_by_the_plain_fold(rt: HostRuntime) -> Result<(), Fail> {
+fn many_rows_as_by_the_plain_fold(rt: HostRuntime) {
     let alloc = rt.alloc();
-    let names = names(alloc, &["z", "y", "x", "w", "v"])?;
-    let rows = made_rows(alloc, 5000)?;
+    let names = names(alloc, "z y x w v").expect(&rt, "memory");
+    let rows = made_rows(alloc, 5000).expect(&rt, "memory");
     assert_eq!(rt; rows.len(), 5000);
     for columns in 0..4usize {
-        check_columns(&rt, alloc, &names, rows.as_slice(), columns)?;
+        assert!(rt;
+            is_as_plain(alloc, &names, rows.as_slice(), columns) == Ok(true),
+            "by {columns} columns"
+        );
     }
-    Ok(())
 }
 
 /// Rows with a sum of -1.
@@ -199,14 +234,23 @@ fn minus_one(alloc: Global, count: usize) -> Result<Vec<Made>, AllocError> {
     Ok(rows)
 }
 
-#[test]
-fn a_small_sum_over_many_rows(rt: HostRuntime) -> Result<(), Fail> {
-    let alloc = rt.alloc();
-    let rows = minus_one(alloc, 100_000)?;
-    assert_eq!(rt; rows.len(), 100_000);
+/// Whether so many rows with a sum of -1 have an average of 0.
+fn is_cut_to_zero(alloc: Global, count: usize) -> Result<bool, AllocError> {
+    let rows = minus_one(alloc, count)?;
+    if rows.len() != count || count > 1_000_000 {
+        return Ok(false);
+    }
     let query = query(alloc, &[], &[BoundItem::Sum(0), BoundItem::Avg(0)])?;
-    let wanted = [Wanted::Whole(-1), Wanted::Decimal(false, 0, 0)];
-    let names = NameLists::new(alloc);
-    assert!(rt; gives(alloc, &query, &names, rows.as_slice(), &[&wanted])?);
-    Ok(())
+    gives(
+        alloc,
+        &query,
+        &NameLists::new(alloc),
+        rows.as_slice(),
+        "-1 0.0000",
+    )
+}
+
+#[test]
+fn a_small_sum_over_many_rows(rt: HostRuntime) {
+    assert!(rt; is_cut_to_zero(rt.alloc(), 100_000) == Ok(true));
 }

@@ -1,6 +1,6 @@
 use Rattle.std.proofs.Common.{[], arith}
 use Rattle.brick_store.specs.Rows.{rows_shown}
-use Rattle.store_cases.proofs.making.table.Goals as goal
+use Rattle.store_cases.proofs.making.table_of.Goals as goal
 
 pub scan-requires-clause-room : goal.scan-requires-clause-room
 scan-requires-clause-room g c = ([], c.new-partial.ensures c.args.query.now, omega arith)
