@@ -1,6 +1,7 @@
 mod Elements
 mod Hands
 mod Tasks
+mod DoneSoFar
 mod LastWorkers
 mod Starts
 mod SideEnds

@@ -70,6 +70,23 @@ module _ {C T Q A W : Type 0} {g : Ghosts C T Q A} where
     abbrev pub IsWorked : Task C W T Q A g → Task C W T Q A g → Type 0
     IsWorked before after = (number : ℕ) → IsHeldBy b number [] before → HasWorked number before after
 
+  module _ (may : W → ℕ → List T → ℕ → Type 0) (done : W → W → List T → ℕ → List (Event Q A) → Type 0)
+      (b : Board C T Q A) where
+    -- What was to be done by a work that might begin was done so far by the calls of this caller.
+    pub record IsDoneFrom (number : ℕ) (first : W) (task : Task C W T Q A g) : Type 0 where
+      pub own : List (Event Q A)
+      pub held : IsHeldBy b number own task
+      pub may_begin : may first (callers_of b) (opening_of b) number
+      pub work : done first task.work (opening_of b) number own
+
+    -- Some work was.
+    abbrev pub IsDoneSoFar : Task C W T Q A g → Type 0
+    IsDoneSoFar task = (number : ℕ) × (first : W) × IsDoneFrom number first task
+
+    -- Whichever was, it still is.
+    abbrev pub GoesOn : Task C W T Q A g → Task C W T Q A g → Type 0
+    GoesOn before after = (number : ℕ) (first : W) → IsDoneFrom number first before → IsDoneFrom number first after
+
   module _ (stopped : W → W → ℕ → List T → List (Event Q A) → Type 0) (b : Board C T Q A) where
     -- Main has stopped the flusher.
     pub record HasStopped (before after : Task C W T Q A g) : Type 0 where

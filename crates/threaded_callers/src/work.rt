@@ -29,6 +29,23 @@ pub trait CallerWork<C: Cells> {
         ensures others { P.others caller.new ≡ P.others caller.old }
         ensures done { has_done self.old self.new (P.opening caller.old) (P.number caller.old)
             (P.own caller.new) };
+
+    /// Goes on once the works of all that began beside it are done, by more calls of its caller. Most works have nothing
+    /// left to do then.
+    fn finish<R: Wait, P: CellCaller<C>>(&mut self, _rt: &R, _board: &Board<C>, _caller: &mut P)
+        requires board { P.calls_on _board.now _caller.old }
+        requires done { (first : Self) × may_begin first (callers_of _board.now) (P.opening _caller.old)
+            (P.number _caller.old) × has_done first self.old (P.opening _caller.old)
+            (P.number _caller.old) (P.own _caller.old) }
+        ensures board { P.calls_on _board.now _caller.new }
+        ensures opening { P.opening _caller.new ≡ P.opening _caller.old }
+        ensures number { P.number _caller.new ≡ P.number _caller.old }
+        ensures others { P.others _caller.new ≡ P.others _caller.old }
+        ensures done { (first : Self) → may_begin first (callers_of _board.now) (P.opening _caller.old)
+            (P.number _caller.old) → has_done first self.old (P.opening _caller.old)
+            (P.number _caller.old) (P.own _caller.old) → has_done first self.new
+            (P.opening _caller.old) (P.number _caller.old) (P.own _caller.new) }
+    {}
 }
 
 /// The work of main, the caller that waits for the others: it stops the flusher once the sessions have

@@ -1,7 +1,7 @@
 //! Tasks that are worked on, each on a thread of its own.
 ghost use Rattle.std.specs.Prelude.{◌≡◌, ℕ, ◌+◌, ◌<◌, length, slice_index_or};
 ghost use Rattle.threaded_callers.specs.Ends.{TaskEnds};
-ghost use Rattle.threaded_callers.specs.Tasks.{AreReady, IsReady, IsWorked};
+ghost use Rattle.threaded_callers.specs.Tasks.{AreReady, GoesOn, IsDoneSoFar, IsReady, IsWorked};
 
 use crate::task::Task;
 use crate::work::CallerWork;
@@ -74,7 +74,34 @@ where
     );
 }
 
-// Does the works of all tasks, or of none.
+// Goes on with the work of a task.
+fn finish_task<C: Cells, R: Wait, W: CallerWork<C>>(rt: &R, board: &Board<C>, task: &mut Task<C, W>)
+    requires done { IsDoneSoFar W.may_begin W.has_done board.now task.old }
+    ensures { GoesOn W.may_begin W.has_done board.now task.old task.new }
+{
+    match &mut task.pass {
+        Some(pass) => task.work.finish(rt, board, pass),
+        None => unreachable!(),
+    }
+}
+
+// Goes on with the works of all tasks, one after the other.
+fn finish_all<C: Cells, R: Wait, W: CallerWork<C>>(
+    rt: &R,
+    board: &Board<C>,
+    tasks: &mut [Task<C, W>],
+)
+    requires done { (k : ℕ) (d : _) → k < length tasks.old
+        → IsDoneSoFar W.may_begin W.has_done board.now (slice_index_or tasks.old k d) }
+    ensures { (k : ℕ) (d : _) → k < length tasks.old → GoesOn W.may_begin W.has_done board.now
+        (slice_index_or tasks.old k d) (slice_index_or tasks.new k d) }
+{
+    for k in 0..tasks.len() {
+        finish_task(rt, board, &mut tasks[k]);
+    }
+}
+
+// Does the works of all tasks, or of none. Once all are done, each goes on here.
 pub(crate) fn work_where<C: Cells + Send + Sync, R: Threads + Wait + Sync, W: CallerWork<C> + Send>(
     rt: &R,
     board: &Board<C>,
@@ -90,5 +117,6 @@ where
 {
     if begins {
         work_all(rt, board, tasks);
+        finish_all(rt, board, tasks);
     }
 }

@@ -22,4 +22,8 @@ impl<C: Cells, W: CallerWork<C>> CallerWork<C> for NumberedWork<W> {
     fn work<R: Wait, P: CellCaller<C>>(&mut self, rt: &R, board: &Board<C>, caller: &mut P) {
         self.work.work(rt, board, caller);
     }
+
+    fn finish<R: Wait, P: CellCaller<C>>(&mut self, rt: &R, board: &Board<C>, caller: &mut P) {
+        self.work.finish(rt, board, caller);
+    }
 }
