@@ -38,11 +38,11 @@ module _ {H G : Type 0} (size : CoreSize) where
       → ((session : ℕ) → 1 ≤ session → session ≤ size.sessions → IsServed cells session session size.shards)
       → OpenWithRowsOfCubes cells → (k : ℕ) (d : ScriptWork H G) → k < size.sessions
       → MayPlay (slice_index_or works k d).size.shards (slice_index_or works k d).size.sessions
-      (slice_index_or works k d).player (slice_index_or works k d).script.items (slice_index_or works k d).replies.items
-      (vec_capacity (slice_index_or works k d).replies) callers cells (1 + k)
+      (slice_index_or works k d).player (slice_index_or works k d).script.items (slice_index_or works k d).closing.items
+      (slice_index_or works k d).replies.items (vec_capacity (slice_index_or works k d).replies) callers cells (1 + k)
   works-may-begin works are as_many callers cells all served rows k d lt =
       let at = work-at 1 works k d are (omega (arith, lt, as_many)) in
       let w = slice_index_or works k d in
-      coe 1 0 (i. MayPlay (at.size_is i).shards (at.size_is i).sessions w.player w.script.items w.replies.items
-      (vec_capacity w.replies) callers cells (1 + k))
+      coe 1 0 (i. MayPlay (at.size_is i).shards (at.size_is i).sessions w.player w.script.items w.closing.items
+      w.replies.items (vec_capacity w.replies) callers cells (1 + k))
       (at.ready callers (1 + k) cells (omega (arith, lt)) all (served (1 + k) (omega arith) (omega (arith, lt))) rows)

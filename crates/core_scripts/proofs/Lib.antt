@@ -4,5 +4,6 @@ pub mod LoadsPlayed
 pub mod RefusedOn
 pub mod PlayedTexts
 pub mod FreshSessions
+pub mod FinishedWorks
 pub mod PlayedWorks
 pub mod BegunWorks

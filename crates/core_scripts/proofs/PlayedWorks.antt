@@ -5,7 +5,7 @@ use Rattle.core_events.specs.Events.{IsSession, Opening}
 use Rattle.core_program.specs.CoreFits.{CoreEntry}
 use Rattle.core_program.specs.Knowing.{IsClientOf}
 use Rattle.core_scripts.specs.PlayedWhole.{PlaysToTheEnd}
-use Rattle.core_scripts.specs.ScriptWorks.{HasPlayedOut}
+use Rattle.core_scripts.specs.ScriptWorks.{HasPlayedOut, script_in}
 use Rattle.core_scripts.specs.ToldFiles.{ShelfTold, files_told}
 use Rattle.core_scripts.specs.declared.work.ScriptWork.{ScriptWork}
 use Rattle.cube_core.specs.declared.cell.CoreCell.{CoreCell}
@@ -17,7 +17,7 @@ use Rattle.scripted_pasts.specs.Performed.{every_of}
 use Rattle.shard_events.specs.ShardsInRuns.{FitsShard, ShardAnswerSays}
 use Rattle.threaded_callers.specs.Ends.{EndsAs}
 use Rattle.threaded_core.specs.CallerEnds.{EndsBy}
-use Rattle.core_scripts.specs.ScriptsOnThreads.{AreOfSessions, AreShelvesOf, AreWhole, files_of_shelves, replies_in, script_in}
+use Rattle.core_scripts.specs.ScriptsOnThreads.{AreOfSessions, AreShelvesOf, AreWhole, files_of_shelves, replies_in}
 use Rattle.turn_board.specs.History.{of_caller}
 
 -- ---- what stands in a list for a session

@@ -5,7 +5,7 @@ use Rattle.core_events.specs.Events.{Opening}
 use Rattle.core_program.specs.CoreFits.{CoreEntry, OpensCells}
 use Rattle.core_program.specs.declared.size.CoreSize.{CoreSize}
 use Rattle.core_scripts.specs.PlayedWhole.{MayPlay}
-use Rattle.core_scripts.specs.ScriptWorks.{HasPlayedOut}
+use Rattle.core_scripts.specs.ScriptWorks.{HasPlayedOut, script_in}
 use Rattle.core_scripts.specs.ToldFiles.{ShelfTold}
 use Rattle.core_scripts.specs.declared.work.PlayRoom.{PlayRoom}
 use Rattle.core_scripts.specs.declared.work.ScriptWork.{ScriptWork}
@@ -22,7 +22,7 @@ use Rattle.session_texts.specs.ToldTexts.{AreTextsTold}
 use Rattle.shard_events.specs.ShardsInRuns.{FitsShard, ShardAnswerSays}
 use Rattle.threaded_core.specs.RanCores.{HasRunOnThreads}
 use Rattle.threaded_core.specs.declared.cores.RanCore.{RanCore}
-use Rattle.core_scripts.specs.ScriptsOnThreads.{AreOfSessions, AreShelvesOf, AreWhole, files_of_shelves, replies_in, script_in}
+use Rattle.core_scripts.specs.ScriptsOnThreads.{AreOfSessions, AreShelvesOf, AreWhole, files_of_shelves, replies_in}
 
 -- The cells of a core that was opened over what a file keeps.
 pub record AreCellsOfCore (shards sessions : ℕ) (cells : OpeningCells) : Type 0 where
@@ -45,8 +45,8 @@ module _ {H G : Type 0} where
     pub ready : (callers caller : ℕ) (cells : OpeningCells) → number ≤ size.sessions
         → size.sessions + 2 + size.shards ≤ callers → IsServed cells caller number size.shards
         → OpenWithRowsOfCubes cells
-        → MayPlay size.shards size.sessions work.player work.script.items work.replies.items (vec_capacity work.replies)
-        callers cells caller
+        → MayPlay size.shards size.sessions work.player work.script.items work.closing.items work.replies.items
+        (vec_capacity work.replies) callers cells caller
 
   -- So are these works, of which the first has this number.
   abbrev pub AreReadyWorks : CoreSize → ℕ → List (ScriptWork H G) → Type 0

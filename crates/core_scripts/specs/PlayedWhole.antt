@@ -1,10 +1,11 @@
 -- A session that has played its script to the end, as the work of a caller of the core.
 -- Source: this project's own.
-use Rattle.std.specs.Prelude.{◌≡◌, ◌+◌, ◌≤◌, ℕ, List, [], length, None, Option}
+use Rattle.std.specs.Prelude.{◌≡◌, ◌+◌, ◌≤◌, ℕ, List, [], ◌++◌, length, None, Option}
 use Rattle.std.specs.List.{AllByRecursion}
 use Rattle.core_program.specs.CoreFits.{CoreEntry}
 use Rattle.counted_scripts.specs.CountedLoads.{CountsInTurn}
 use Rattle.script_sentences.specs.GivenTexts.{IsProperSaid}
+use Rattle.core_scripts.specs.PlayingSessions.{IsPlaying}
 use Rattle.core_scripts.specs.ToldFiles.{ShelfTold, files_told}
 use Rattle.core_scripts.specs.declared.player.ScriptPlayer.{ScriptPlayer}
 use Rattle.core_states.specs.StandingInCore.{state_of_session}
@@ -45,6 +46,20 @@ pub record CountsOfShelf (script : List Sentence) (replies : List Reply) (faults
   pub count_faults : CountsInTurn CountsFault script replies faults new_faults
   pub count_absences : CountsInTurn CountsAbsence script replies absences new_absences
 
+-- They went on by these statements, whatever was counted before them.
+abbrev pub CountsOn : List Sentence → List Reply → List Reply → ℕ → ℕ → ℕ → ℕ → Type 0
+CountsOn more replies said faults new_faults absences new_absences =
+    (script : List Sentence) (old_faults old_absences : ℕ)
+    → CountsOfShelf script replies old_faults faults old_absences absences
+    → CountsOfShelf (script ++ more) said old_faults new_faults old_absences new_absences
+
+-- Whatever it has played with these replies, it has then played these statements too, and has ended it.
+abbrev pub PlaysOnToTheEnd : ShelfTold → List (CoreCell CoreShard) → ℕ → ScriptPlayer → List CoreEntry → List Reply
+    → List Sentence → List Reply → List CoreEntry → Type 0
+PlaysOnToTheEnd told cells caller old own replies more said now =
+    (script : List Sentence) → IsPlaying told cells caller old own script replies
+    → PlaysToTheEnd told cells caller old.session.number (every_of old.session) (script ++ more) said now
+
 -- A session that has executed nothing yet, and knows no text.
 pub record IsFresh (player : ScriptPlayer) : Type 0 where
   pub state : state_of_session player.session None ≡ fresh_session
@@ -52,15 +67,16 @@ pub record IsFresh (player : ScriptPlayer) : Type 0 where
   pub watch : player.watch ≡ None
   pub texts : (own : List CoreEntry) → AreTextsTold own player.texts
 
--- It may play a script, with room for its replies, on a board with so many callers.
-pub record MayPlay (shards sessions : ℕ) (player : ScriptPlayer) (script : List Said) (replies : List Reply) (room : ℕ)
-    (callers : ℕ) (cells : List (CoreCell CoreShard)) (caller : ℕ) : Type 0 where
+-- It may play a script and then its closing part, with room for its replies, on a board with so many callers.
+pub record MayPlay (shards sessions : ℕ) (player : ScriptPlayer) (script closing : List Said) (replies : List Reply)
+    (room : ℕ) (callers : ℕ) (cells : List (CoreCell CoreShard)) (caller : ℕ) : Type 0 where
   pub all : sessions + 2 + shards ≤ callers
   pub is_session : player.session.number ≤ sessions
   pub served : IsServed cells caller player.session.number shards
   pub rows : OpenWithRowsOfCubes cells
   pub fresh : IsFresh player
-  pub few : length script ≤ MOST_STATEMENTS
+  pub few : length script + length closing ≤ MOST_STATEMENTS
   pub proper : AllByRecursion IsProperSaid script
+  pub proper_closing : AllByRecursion IsProperSaid closing
   pub no_replies : replies ≡ []
-  pub fits : length script ≤ room
+  pub fits : length script + length closing ≤ room

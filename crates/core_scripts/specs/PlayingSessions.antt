@@ -75,6 +75,12 @@ module _ (told : ShelfTold) (cells : List (CoreCell CoreShard)) (caller : ℕ) w
       (script : List Sentence) (replies : List Reply) → IsPlaying old own script replies
       → IsPlaying new now (script ++ sentence ∷ []) (replies ++ said ∷ [])
 
+  -- Whatever it has played with these replies, it has then played these statements too, and has those replies.
+  abbrev pub PlaysThrough : ScriptPlayer → List CoreEntry → List Reply → List Sentence → ScriptPlayer → List CoreEntry
+      → List Reply → Type 0
+  PlaysThrough old own replies more new now said =
+      (script : List Sentence) → IsPlaying old own script replies → IsPlaying new now (script ++ more) said
+
 -- It is playing some script.
 pub record IsInScript (cells : List (CoreCell CoreShard)) (caller : ℕ) (player : ScriptPlayer) (own : List CoreEntry)
     : Type 0 where

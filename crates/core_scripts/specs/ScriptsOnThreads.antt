@@ -1,11 +1,9 @@
 -- Works of sessions that play their scripts, one for each.
 -- Source: this project's own.
-use Rattle.std.specs.Prelude.{◌≡◌, ℕ, ◌+◌, ◌<◌, true, List, length, map, slice_index_or}
+use Rattle.std.specs.Prelude.{◌≡◌, ℕ, ◌+◌, ◌<◌, true, List, length, slice_index_or}
 use Rattle.core_scripts.specs.ToldFiles.{ShelfTold, files_told}
 use Rattle.core_scripts.specs.declared.work.ScriptWork.{ScriptWork}
 use Rattle.cube_journal.specs.declared.reply.Reply.{Reply}
-use Rattle.cube_run.specs.RunRecords.{Sentence}
-use Rattle.script_sentences.specs.Sentences.{sentence_of}
 use Rattle.scripted_pasts.specs.Performed.{every_of}
 use Rattle.scripted_pasts.specs.PlayedScripts.{FileClaim}
 
@@ -15,10 +13,7 @@ module _ {H : Type 0} where
   files_of_shelves told shelves session = files_told (told (shelves session))
 
 module _ {H G : Type 0} where
-  -- The script of a work, and the replies that it has.
-  abbrev pub script_in : ScriptWork H G → List Sentence
-  script_in work = map sentence_of work.script.items
-
+  -- The replies that a work has.
   abbrev pub replies_in : ScriptWork H G → List Reply
   replies_in work = work.replies.items
 

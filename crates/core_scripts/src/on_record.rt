@@ -2,7 +2,7 @@
 ghost use Rattle.std.specs.Prelude.{◌≡◌, ℕ, true, List, map};
 ghost use Rattle.core_events.specs.Events.{Opening};
 ghost use Rattle.core_program.specs.CoreFits.{OpensCells};
-ghost use Rattle.core_scripts.specs.ScriptWorks.{HasPlayedOut};
+ghost use Rattle.core_scripts.specs.ScriptWorks.{HasPlayedOut, script_in};
 ghost use Rattle.core_scripts.specs.declared.work.ScriptWork.{ScriptWork};
 ghost use Rattle.cube_core.specs.declared.cell.CoreCell.{CoreCell};
 ghost use Rattle.cube_rounds.specs.Stands.{Kept};
@@ -14,7 +14,7 @@ ghost use Rattle.shard_events.specs.ShardsInRuns.{FitsShard, ShardAnswerSays};
 ghost use Rattle.scripted_ends.specs.PlayedHistories.{IsPlayedRun};
 ghost use Rattle.threaded_core.specs.RanCores.{HasRunOnThreads};
 ghost use Rattle.threaded_core.specs.declared.cores.RanCore.{RanCore};
-ghost use Rattle.core_scripts.specs.ScriptsOnThreads.{AreOfSessions, AreShelvesOf, AreWhole, files_of_shelves, replies_in, script_in};
+ghost use Rattle.core_scripts.specs.ScriptsOnThreads.{AreOfSessions, AreShelvesOf, AreWhole, files_of_shelves, replies_in};
 
 use crate::told_files::FromShelf;
 use flush_loop::MakesRounds;

@@ -1,11 +1,12 @@
 //! A script, text by text, and its end.
 ghost use Rattle.std.specs.Bool.{OnTrue};
 ghost use Rattle.std.specs.List.{AllByRecursion};
-ghost use Rattle.std.specs.Prelude.{◌≡◌, ◌+◌, ◌≤◌, [], length, map, vec_capacity};
-ghost use Rattle.core_scripts.specs.PlayedWhole.{CountsOfShelf, PlaysToTheEnd};
-ghost use Rattle.core_scripts.specs.PlayingSessions.{IsPlaying, holder_kept};
+ghost use Rattle.std.specs.Prelude.{◌≡◌, ◌+◌, ◌≤◌, List, length, map, vec_capacity};
+ghost use Rattle.core_scripts.specs.PlayedWhole.{CountsOn, PlaysOnToTheEnd};
+ghost use Rattle.core_scripts.specs.PlayingSessions.{IsInScript, IsPlaying, PlaysThrough, holder_kept};
 ghost use Rattle.script_sentences.specs.GivenTexts.{IsProperSaid};
 ghost use Rattle.core_watches.specs.BoundReaders.{OpenWithRowsOfCubes};
+ghost use Rattle.cube_run.specs.RunRecords.{Sentence};
 ghost use Rattle.script_sentences.specs.Sentences.{sentence_of};
 ghost use Rattle.scripted_pasts.specs.Performed.{every_of};
 ghost use Rattle.scripted_pasts.specs.Served.{IsServed};
@@ -28,9 +29,10 @@ use std::alloc::{AllocError, Global};
 use std::sync::Wait;
 use turn_board::Board;
 
-// Plays the texts of a script in their order, each once the gate lets it begin, and adds their replies, for which there is
-// room. False where a statement stopped for want of memory; nothing is played behind it.
-fn play_texts<R: Wait, P: CellCaller<ShardCells>, H: Shelf, G: Gate>(
+/// Plays texts behind what a session has played, in their order, each once the gate lets it begin, and adds their replies,
+/// for which there is room. Each LOAD reads its file from the shelf. False where a statement stopped for want of memory;
+/// nothing is played behind it.
+pub(crate) fn play_texts<R: Wait, P: CellCaller<ShardCells>, H: Shelf, G: Gate>(
     rt: &R,
     board: &Board<ShardCells>,
     caller: &mut P,
@@ -50,25 +52,32 @@ fn play_texts<R: Wait, P: CellCaller<ShardCells>, H: Shelf, G: Gate>(
     requires rows { OpenWithRowsOfCubes (P.opening caller.old) }
     requires few { player.old.session.statements + length script.items ≤ MOST_STATEMENTS }
     requires proper { AllByRecursion IsProperSaid script.items }
-    requires room { length script.items ≤ vec_capacity replies.old }
-    requires none { replies.old.items ≡ [] }
-    requires playing { IsPlaying (H.told shelf.old) (P.opening caller.old) (P.number caller.old)
-        player.old (P.own caller.old) [] [] }
+    requires room { length replies.old.items + length script.items ≤ vec_capacity replies.old }
+    requires playing { (before : List Sentence) × IsPlaying (H.told shelf.old)
+        (P.opening caller.old) (P.number caller.old) player.old (P.own caller.old) before
+        replies.old.items }
     ensures board { P.calls_on board.now caller.new }
     ensures opening { P.opening caller.new ≡ P.opening caller.old }
     ensures number { P.number caller.new ≡ P.number caller.old }
     ensures others { P.others caller.new ≡ P.others caller.old }
     ensures same { H.told shelf.new ≡ H.told shelf.old }
     ensures later { H.fault_count shelf.old ≤ H.fault_count shelf.new }
-    ensures counts { OnTrue result (CountsOfShelf (map sentence_of script.items) replies.new.items
-        (H.fault_count shelf.old) (H.fault_count shelf.new)
+    ensures counts { OnTrue result (CountsOn (map sentence_of script.items) replies.old.items
+        replies.new.items (H.fault_count shelf.old) (H.fault_count shelf.new)
         (H.absence_count shelf.old) (H.absence_count shelf.new)) }
     ensures few { player.new.session.statements ≤ MOST_STATEMENTS }
     ensures session { player.new.session.number ≡ player.old.session.number }
     ensures every { every_of player.new.session ≡ every_of player.old.session }
-    ensures played { OnTrue result (IsPlaying (H.told shelf.old) (P.opening caller.new)
-        (P.number caller.new) player.new (P.own caller.new) (map sentence_of script.items)
-        replies.new.items) }
+    ensures more { OnTrue result (player.new.session.statements
+        ≡ player.old.session.statements + length script.items) }
+    ensures answered { OnTrue result (length replies.new.items
+        ≡ length replies.old.items + length script.items) }
+    ensures capacity { vec_capacity replies.new ≡ vec_capacity replies.old }
+    ensures in_script { OnTrue result (IsInScript (P.opening caller.new) (P.number caller.new)
+        player.new (P.own caller.new)) }
+    ensures played { OnTrue result (PlaysThrough (H.told shelf.old) (P.opening caller.new)
+        (P.number caller.new) player.old (P.own caller.old) replies.old.items
+        (map sentence_of script.items) player.new (P.own caller.new) replies.new.items) }
 {
     'script: for said in script {
         gate.before(player.session.number, player.session.statements + 1);
@@ -90,10 +99,10 @@ fn holder_of(watch: &Option<CoreWatch>) -> Option<u32>
     }
 }
 
-/// Plays a script to its end: its texts in their order, each with its reply, for which there is room; then a transaction that
-/// is open is rolled back, and the reader of a watch is closed. Each LOAD reads its file from the shelf. The gate may hold
-/// each text up before it is played. False where a statement or the end stopped for want of memory; nothing is done behind
-/// it.
+/// Plays the last texts of a script behind what its session has played, in their order, each with its reply, for which
+/// there is room; then a transaction that is open is rolled back, and the reader of a watch is closed. Each LOAD reads its
+/// file from the shelf. The gate may hold each text up before it is played. False where a statement or the end stopped for
+/// want of memory; nothing is done behind it.
 pub fn play_to_the_end<R: Wait, P: CellCaller<ShardCells>, H: Shelf, G: Gate>(
     rt: &R,
     board: &Board<ShardCells>,
@@ -114,21 +123,21 @@ pub fn play_to_the_end<R: Wait, P: CellCaller<ShardCells>, H: Shelf, G: Gate>(
     requires rows { OpenWithRowsOfCubes (P.opening caller.old) }
     requires few { player.old.session.statements + length script.items ≤ MOST_STATEMENTS }
     requires proper { AllByRecursion IsProperSaid script.items }
-    requires room { length script.items ≤ vec_capacity replies.old }
-    requires none { replies.old.items ≡ [] }
-    requires playing { IsPlaying (H.told shelf.old) (P.opening caller.old) (P.number caller.old)
-        player.old (P.own caller.old) [] [] }
+    requires room { length replies.old.items + length script.items ≤ vec_capacity replies.old }
+    requires playing { (before : List Sentence) × IsPlaying (H.told shelf.old)
+        (P.opening caller.old) (P.number caller.old) player.old (P.own caller.old) before
+        replies.old.items }
     ensures board { P.calls_on board.now caller.new }
     ensures opening { P.opening caller.new ≡ P.opening caller.old }
     ensures number { P.number caller.new ≡ P.number caller.old }
     ensures others { P.others caller.new ≡ P.others caller.old }
     ensures same { H.told shelf.new ≡ H.told shelf.old }
     ensures later { H.fault_count shelf.old ≤ H.fault_count shelf.new }
-    ensures counts { OnTrue result (CountsOfShelf (map sentence_of script.items) replies.new.items
-        (H.fault_count shelf.old) (H.fault_count shelf.new)
+    ensures counts { OnTrue result (CountsOn (map sentence_of script.items) replies.old.items
+        replies.new.items (H.fault_count shelf.old) (H.fault_count shelf.new)
         (H.absence_count shelf.old) (H.absence_count shelf.new)) }
-    ensures ended { OnTrue result (PlaysToTheEnd (H.told shelf.old) (P.opening caller.old)
-        (P.number caller.old) player.old.session.number (every_of player.old.session)
+    ensures ended { OnTrue result (PlaysOnToTheEnd (H.told shelf.old) (P.opening caller.old)
+        (P.number caller.old) player.old (P.own caller.old) replies.old.items
         (map sentence_of script.items) replies.new.items (P.own caller.new)) }
 {
     if !play_texts(

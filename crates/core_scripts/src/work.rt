@@ -1,5 +1,5 @@
 //! A session that plays its script, as the work of a caller on a thread.
-ghost use Rattle.std.specs.Prelude.{◌≡◌, ◌≤◌, IfOk, length, vec_capacity};
+ghost use Rattle.std.specs.Prelude.{◌≡◌, ◌+◌, ◌≤◌, IfOk, length, vec_capacity};
 ghost use Rattle.std.specs.List.{AllByRecursion};
 ghost use Rattle.core_scripts.specs.GivenScripts.{IsPlayRoom, IsReadyWork};
 ghost use Rattle.core_scripts.specs.PlayedWhole.{MayPlay};
@@ -7,7 +7,7 @@ ghost use Rattle.script_sentences.specs.GivenTexts.{IsProperSaid};
 ghost use Rattle.core_scripts.specs.ScriptWorks.{HasPlayedOut};
 
 use crate::player::ScriptPlayer;
-use crate::scripts::play_to_the_end;
+use crate::scripts::{play_texts, play_to_the_end};
 use board_callers::CellCaller;
 use core_program::CoreSize;
 use core_states::CoreSession;
@@ -51,9 +51,13 @@ pub struct ScriptWork<'g, H, G> {
     pub player: ScriptPlayer,
     /// What is to be played yet.
     pub script: Vec<Said>,
+    /// What is played behind it, once all sessions have played their scripts.
+    pub closing: Vec<Said>,
+    /// Whether the script was played, and the closing part is left.
+    pub halfway: bool,
     pub shelf: H,
     pub replies: Vec<Reply>,
-    /// Whether the script was played to its end. If not, it was not begun, or memory ran out.
+    /// Whether all was played to its end. If not, it was not begun, or it is halfway, or memory ran out.
     pub whole: bool,
     pub alloc: Global,
     /// What may hold it up before a statement.
@@ -61,24 +65,27 @@ pub struct ScriptWork<'g, H, G> {
 }
 
 impl<'g, H, G> ScriptWork<'g, H, G> {
-    /// The work of the session of this number, from 1 on, with its room. After so many of its commits a round follows,
-    /// if after any.
+    /// The work of the session of this number, from 1 on, with its room: a script, and what is played behind it once all
+    /// sessions have played theirs. After so many of its commits a round follows, if after any.
     pub fn new(
         alloc: Global,
         size: CoreSize,
         number: u32,
         round_every: Option<u32>,
         script: Vec<Said>,
+        closing: Vec<Said>,
         shelf: H,
         room: PlayRoom,
         gate: &'g G,
     ) -> ScriptWork<'g, H, G>
-        requires few { length script.items ≤ MOST_STATEMENTS }
+        requires few { length script.items + length closing.items ≤ MOST_STATEMENTS }
         requires proper { AllByRecursion IsProperSaid script.items }
-        requires room { IsPlayRoom (length script.items) room }
+        requires proper_closing { AllByRecursion IsProperSaid closing.items }
+        requires room { IsPlayRoom (length script.items + length closing.items) room }
         ensures ready { IsReadyWork size number result }
         ensures every { result.player.session.round_every ≡ round_every }
         ensures script { result.script ≡ script }
+        ensures closing { result.closing ≡ closing }
         ensures shelf { result.shelf ≡ shelf }
     {
         let session = CoreSession {
@@ -97,6 +104,8 @@ impl<'g, H, G> ScriptWork<'g, H, G> {
                 texts,
             },
             script,
+            closing,
+            halfway: false,
             shelf,
             replies,
             whole: false,
@@ -108,7 +117,8 @@ impl<'g, H, G> ScriptWork<'g, H, G> {
 
 impl<'g, H: Shelf, G: Gate> CallerWork<ShardCells> for ScriptWork<'g, H, G> {
     ghost may_begin = { λ w callers cells caller. MayPlay w.size.shards w.size.sessions w.player
-        w.script.items w.replies.items (vec_capacity w.replies) callers cells caller };
+        w.script.items w.closing.items w.replies.items (vec_capacity w.replies) callers cells
+        caller };
 
     ghost has_done = { λ before after cells caller own. HasPlayedOut H.told H.fault_count
         H.absence_count before after cells caller own };
@@ -122,17 +132,60 @@ impl<'g, H: Shelf, G: Gate> CallerWork<ShardCells> for ScriptWork<'g, H, G> {
         sessions_begin_with_nothing::<CoreShard>();
         watches_are_kept();
         let script = std::mem::replace(&mut self.script, Vec::new(self.alloc));
-        self.whole = play_to_the_end(
-            rt,
-            board,
-            caller,
-            &self.size,
-            &mut self.player,
-            script,
-            &mut self.shelf,
-            &mut self.replies,
-            self.gate,
-            self.alloc,
-        );
+        let last = self.closing.is_empty();
+        if last {
+            self.halfway = false;
+            self.whole = play_to_the_end(
+                rt,
+                board,
+                caller,
+                &self.size,
+                &mut self.player,
+                script,
+                &mut self.shelf,
+                &mut self.replies,
+                self.gate,
+                self.alloc,
+            );
+        } else {
+            self.whole = false;
+            self.halfway = play_texts(
+                rt,
+                board,
+                caller,
+                &self.size,
+                &mut self.player,
+                script,
+                &mut self.shelf,
+                &mut self.replies,
+                self.gate,
+                self.alloc,
+            );
+        }
+    }
+
+    fn finish<R: Wait, P: CellCaller<ShardCells>>(
+        &mut self,
+        rt: &R,
+        board: &Board<ShardCells>,
+        caller: &mut P,
+    ) {
+        let halfway = self.halfway;
+        if halfway {
+            self.halfway = false;
+            let closing = std::mem::replace(&mut self.closing, Vec::new(self.alloc));
+            self.whole = play_to_the_end(
+                rt,
+                board,
+                caller,
+                &self.size,
+                &mut self.player,
+                closing,
+                &mut self.shelf,
+                &mut self.replies,
+                self.gate,
+                self.alloc,
+            );
+        }
     }
 }

@@ -7,7 +7,8 @@ use Rattle.core_events.specs.Events.{Opening}
 use Rattle.core_records.specs.CoreRecords.{RunScripts, record_of}
 use Rattle.core_scripts.proofs.PlayedWorks.{element-at}
 use Rattle.core_scripts.specs.GivenScripts.{AreReadyWorks, HavePlayedOnThreads}
-use Rattle.core_scripts.specs.ScriptsOnThreads.{replies_in, script_in}
+use Rattle.core_scripts.specs.ScriptWorks.{script_in}
+use Rattle.core_scripts.specs.ScriptsOnThreads.{replies_in}
 use Rattle.core_scripts.specs.ToldFiles.{ShelfTold, files_told}
 use Rattle.core_scripts.specs.declared.work.ScriptWork.{ScriptWork}
 use Rattle.counted_scripts.specs.CountedLoads.{CountsInTurn}

@@ -4,8 +4,8 @@ use Rattle.std.proofs.lemmas.Bool.Decides.{leb_tells}
 use Rattle.std.specs.Bool.{OnTrue}
 use Rattle.core_scripts.proofs.PlayedWorks.{element-at}
 use Rattle.core_scripts.specs.PlayedWhole.{CountsOfShelf}
-use Rattle.core_scripts.specs.ScriptWorks.{HasPlayedOut}
-use Rattle.core_scripts.specs.ScriptsOnThreads.{AreWhole, script_in, replies_in}
+use Rattle.core_scripts.specs.ScriptWorks.{HasPlayedOut, script_in}
+use Rattle.core_scripts.specs.ScriptsOnThreads.{AreWhole, replies_in}
 use Rattle.core_scripts.specs.ToldFiles.{ShelfTold}
 use Rattle.core_scripts.specs.declared.work.ScriptWork.{ScriptWork}
 use Rattle.core_program.specs.CoreFits.{CoreEntry}

@@ -2,6 +2,7 @@ pub mod KeptOnRecord
 pub mod FinalLists
 pub mod RecordedRuns
 pub mod Lists
+pub mod SplitScripts
 pub mod KeptByRuns
 pub mod LeftShelves
 pub mod PlayedRuns

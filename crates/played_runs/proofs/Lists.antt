@@ -1,5 +1,5 @@
 -- Lists of works, with what each has.
-use Rattle.std.proofs.Common.{◌≡◌, ◌∙◌, ℕ, zero, suc, ◌+◌, ◌<◌, ◌≤◌, List, [], ◌∷◌, ◌++◌, length, map, slice_get, get_or, unwrap_or, remove, refl, sym, ap, arith}
+use Rattle.std.proofs.Common.{◌≡◌, ◌∙◌, ℕ, zero, suc, ◌+◌, ◌<◌, ◌≤◌, ◌↔◌, Bool, IsTrue, List, [], ◌∷◌, ◌++◌, length, map, slice_get, get_or, unwrap_or, remove, refl, sym, ap, arith, append_assoc}
 use Rattle.std.specs.List.{AllByRecursion}
 
 -- The first element is taken out.
@@ -73,3 +73,27 @@ moved-on f xs now x front back all now-is front-is so_far =
     ∙ with-last f xs x back
     ∙ ap (λ (r : List _). map f xs ++ r) (sym front-is)
     ∙ so_far
+
+-- What one has that is taken out of a list is put behind what those had that were taken out before.
+pub put-behind : {X Y : Type 0} (f : X → Y) (xs now : List Y) (y : Y) (left back : List X) (x : X) (all : List Y)
+    → now ≡ xs ++ y ∷ [] → y ≡ f x → left ≡ x ∷ back → xs ++ map f left ≡ all → now ++ map f back ≡ all
+put-behind f xs now y left back x all now-is is out so_far =
+    ap (λ (n : List _). n ++ map f back) now-is
+    ∙ append_assoc xs (y ∷ []) (map f back)
+    ∙ ap (λ z. xs ++ z ∷ map f back) is
+    ∙ ap (λ (l : List _). xs ++ map f l) (sym out)
+    ∙ so_far
+
+-- One more is taken out: all are whole where this one is, those before it were, and those behind it are.
+pub whole-on : {X : Type 0} (P : X → Type 0) {A : Type 0} (whole now : Bool) (left back : List X) (x : X) → left ≡ x ∷ back
+    → (IsTrue now → IsTrue whole × P x) → (IsTrue whole → P x → IsTrue now)
+    → ((IsTrue whole × AllByRecursion P left) ↔ A) → (IsTrue now × AllByRecursion P back) ↔ A
+whole-on P whole now left back x out tells told held = (
+  λ h. let w = tells h.0 in held.0 (w.0, coe 1 0 (i. AllByRecursion P (out i)) (w.1, h.1)),
+  λ a. let w = held.1 a in let all = coe 0 1 (i. AllByRecursion P (out i)) w.1 in (told w.0 all.0, all.1),
+)
+
+pub whole-last : {X : Type 0} (P : X → Type 0) {A : Type 0} (whole : Bool) (left : List X) → length left ≡ 0
+    → ((IsTrue whole × AllByRecursion P left) ↔ A) → IsTrue whole ↔ A
+whole-last P whole [] none held = (λ w. held.0 (w, tt), λ a. (held.1 a).0)
+whole-last P whole (x ∷ left) none held = absurd (omega (arith, none))

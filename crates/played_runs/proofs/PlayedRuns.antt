@@ -6,7 +6,8 @@ use Rattle.core_events.specs.Events.{CoreEvent, IsSession, Opening}
 use Rattle.core_scripts.proofs.PlayedWorks.{element-at}
 use Rattle.core_scripts.specs.GivenScripts.{AreReadyWorks, HavePlayedOnThreads}
 use Rattle.core_scripts.proofs.BegunWorks.{work-at}
-use Rattle.core_scripts.specs.ScriptsOnThreads.{AreOfSessions, AreShelvesOf, files_of_shelves, replies_in, script_in}
+use Rattle.core_scripts.specs.ScriptsOnThreads.{AreOfSessions, AreShelvesOf, files_of_shelves, replies_in}
+use Rattle.core_scripts.specs.ScriptWorks.{script_in}
 use Rattle.core_scripts.specs.ToldFiles.{ShelfTold, files_told}
 use Rattle.core_scripts.specs.declared.work.ScriptWork.{ScriptWork}
 use Rattle.core_program.specs.CoreFits.{OpensCells}

@@ -1,5 +1,5 @@
 -- What a run of scripts leaves and gives back.
-use Rattle.std.proofs.Common.{◌≡◌, ◌∙◌, ℕ, ◌+◌, ◌<◌, ◌≤◌, Bool, true, false, List, [], ◌∷◌, ◌++◌, length, map, get_or, Some, IsSomeAnd, IsTrue, Option, unwrap_or, sym, ap, subst, arith}
+use Rattle.std.proofs.Common.{◌≡◌, ◌∙◌, ℕ, ◌+◌, ◌<◌, ◌≤◌, Bool, true, false, List, [], ◌∷◌, ◌++◌, length, map, get_or, Some, IsSomeAnd, IsTrue, Option, unwrap_or, sym, ap, subst, arith, length-append}
 use Rattle.std.specs.Bool.{OnTrue}
 use Rattle.std.specs.Global.{Vec}
 use Rattle.std.specs.List.{AllByRecursion}
@@ -7,7 +7,8 @@ use Rattle.core_agreements.specs.ScriptedRuns.{IsScriptedRun}
 use Rattle.core_events.specs.Events.{Opening}
 use Rattle.core_records.specs.CoreRecords.{RunScripts, record_of}
 use Rattle.core_scripts.specs.GivenScripts.{AreReadyWorks, HavePlayedOnThreads}
-use Rattle.core_scripts.specs.ScriptsOnThreads.{replies_in, script_in}
+use Rattle.core_scripts.specs.ScriptWorks.{script_in}
+use Rattle.core_scripts.specs.ScriptsOnThreads.{replies_in}
 use Rattle.core_scripts.specs.ToldFiles.{ShelfTold, files_told}
 use Rattle.core_scripts.specs.declared.work.ScriptWork.{ScriptWork}
 use Rattle.counted_scripts.specs.CountedLoads.{CountsInTurn}
@@ -30,7 +31,6 @@ use Rattle.run_ends.specs.AllSafeEnds.{EndsWithAllSafe}
 use Rattle.run_ends.proofs.FlusherEvents.{caller_here}
 use Rattle.run_threads.specs.CoreWorks.{KeepsRounds, OpeningCells}
 use Rattle.script_sentences.specs.Sentences.{sentence_of}
-use Rattle.script_sentences.specs.declared.said.Said.{Said}
 use Rattle.scripted_ends.specs.PlayedHistories.{IsPlayedRun}
 use Rattle.threaded_core.specs.CoreParts.{IsLeftByRun}
 use Rattle.threaded_core.specs.RanCores.{FlusherEnds}
@@ -43,7 +43,7 @@ use Rattle.played_runs.specs.declared.rooms.ReadyScript.{ReadyScript}
 use Rattle.played_runs.proofs.Lists.{all-at, length-mapped, mapped-twice}
 use Rattle.played_runs.proofs.PlayedRuns.{on-true}
 use Rattle.played_runs.specs.LeftByRuns.{HasKeptOf, IsLeftByScripts}
-use Rattle.played_runs.specs.ReadySessions.{HasRounds, IsReadyScript, IsWhole, replies_of, said_in, script_of, script_ready, sentences_of, shelf_of}
+use Rattle.played_runs.specs.ReadySessions.{HasRounds, IsReadyScript, IsWhole, replies_of, said_in, script_ready, shelf_of}
 use Rattle.played_runs.specs.RunsOnRecord.{EndsSafe, HasPlayedOver, IsOnRecord, LeavesLegal, has_saved, told_to}
 use Rattle.played_runs.specs.Shelves.{ShelvesGoOn}
 use Rattle.played_runs.specs.declared.running.PlayedRun.{PlayedRun}
@@ -59,9 +59,8 @@ module _ {H G M : Type 0} (told : H → ShelfTold) (fault_count absence_count : 
     (shelves : map shelf_of works ++ rest ≡ given) (opens : OpenOver kept size.shards size.sessions cells)
     (h : HavePlayedOnThreads told fault_count absence_count serves has_kept becomes size cells works maker ran)
     (keeps : KeepsRounds serves has_kept size.sessions maker maker cells (size.sessions + 1 + size.shards) [])
-    (given_scripts : List (Vec Said)) (scripts_are : map script_of works ≡ given_scripts)
-    (few : AllByRecursion (λ (script : List Sentence). length script ≤ MOST_STATEMENTS)
-    (map sentences_of given_scripts))
+    (given_scripts : List (List Sentence)) (scripts_are : map script_in works ≡ given_scripts)
+    (few : AllByRecursion (λ (script : List Sentence). length script ≤ MOST_STATEMENTS) given_scripts)
     (r : PlayedRun H M) (same_shelves : r.shelves.items ≡ map shelf_of ran.sessions.items ++ rest)
     (same_replies : r.replies.items ≡ map replies_of ran.sessions.items)
     (is_whole : IsTrue r.whole → IsTrue ran.began × AllByRecursion IsWhole ran.sessions.items)
@@ -82,11 +81,6 @@ module _ {H G M : Type 0} (told : H → ShelfTold) (fault_count absence_count : 
   abbrev Played : Type 0
   Played = IsPlayedRun (λ session. files_told (told_to (map told given) session)) every (map script_in works) replies o
       l.to.es
-
-  scripts-same : map script_in works ≡ map sentences_of given_scripts
-  scripts-same =
-      sym (mapped-twice script_of sentences_of works)
-      ∙ ap (λ (all : List (Vec Said)). map sentences_of all) scripts_are
 
   replies-same : map said_in r.replies.items ≡ replies
   replies-same =
@@ -122,12 +116,12 @@ module _ {H G M : Type 0} (told : H → ShelfTold) (fault_count absence_count : 
       many some ready rounds shelves opens h (is_whole is).0 (is_whole is).1
 
   run-is : RunLaw → SafeLaw → r.whole ≡ true
-      → HasPlayedOver kept every (map told given) (map sentences_of given_scripts) (map said_in r.replies.items) r.names
+      → HasPlayedOver kept every (map told given) given_scripts (map said_in r.replies.items) r.names
       r.journal.items (has_saved r.last_round) r.shards.items o l.to.es
   run-is law end is =
       let p = it-played is in
       let long = length-mapped script_in works in
-      coe 1 0 (i. HasPlayedOver kept every (map told given) (sym scripts-same i) (replies-same i) (same_names i)
+      coe 1 0 (i. HasPlayedOver kept every (map told given) (sym scripts_are i) (replies-same i) (same_names i)
       (same_journal i) (has_saved (same_last i)) (same_shards i).items o l.to.es)
       (record {
         played = p;
@@ -144,7 +138,7 @@ module _ {H G M : Type 0} (told : H → ShelfTold) (fault_count absence_count : 
       (sym replies-same)
       (law (it-played is)
       (subst (λ (all : List (List Sentence)). AllByRecursion (λ (s : List Sentence). length s ≤ MOST_STATEMENTS) all)
-      (sym scripts-same) few))
+      (sym scripts_are) few))
 
   pub left-by-scripts : RunLaw → FewLaw → SafeLaw → CountsLaw
       → IsLeftByScripts told fault_count absence_count has_kept becomes kept size every given_scripts given maker r
@@ -190,10 +184,12 @@ module _ {H G M : Type 0} (told : H → ShelfTold) (fault_count absence_count : 
 -- Scripts that are ready are short.
 pub few-scripts : (ready : List ReadyScript) → AllByRecursion IsReadyScript ready
     → AllByRecursion (λ (script : List Sentence). length script ≤ MOST_STATEMENTS)
-    (map sentences_of (map script_ready ready))
+    (map script_ready ready)
 few-scripts [] all = tt
 few-scripts (x ∷ ready) all = (
-  (let l = length-mapped sentence_of x.script.items in let f = all.0.said.few in omega (arith, l, f)),
+  (let l = length-mapped sentence_of x.script.items in let m = length-mapped sentence_of x.closing.items in
+      let both = length-append (map sentence_of x.script.items) (map sentence_of x.closing.items) in
+      let f = all.0.few in omega (arith, l, m, both, f)),
   few-scripts ready all.1,
 )
 

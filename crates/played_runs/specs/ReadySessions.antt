@@ -1,11 +1,13 @@
 -- Sessions that are ready to play their scripts, each from a shelf of its own.
 -- Source: this project's own.
-use Rattle.std.specs.Prelude.{◌≡◌, ℕ, true, List, length, map, Option}
+use Rattle.std.specs.Prelude.{◌≡◌, ℕ, ◌+◌, ◌≤◌, true, List, ◌++◌, length, map, Option}
 use Rattle.std.specs.Global.{Vec}
+use Rattle.std.specs.List.{AllByRecursion}
 use Rattle.core_scripts.specs.GivenScripts.{IsPlayRoom}
-use Rattle.script_sentences.specs.GivenTexts.{MayBeSaid}
+use Rattle.script_sentences.specs.GivenTexts.{IsProperSaid}
 use Rattle.core_scripts.specs.declared.work.ScriptWork.{ScriptWork}
 use Rattle.cube_journal.specs.declared.reply.Reply.{Reply}
+use Rattle.cube_language.specs.declared.piece.TheConstants.{MOST_STATEMENTS}
 use Rattle.cube_run.specs.RunRecords.{Sentence}
 use Rattle.script_sentences.specs.Sentences.{sentence_of}
 use Rattle.script_sentences.specs.declared.said.Said.{Said}
@@ -19,19 +21,19 @@ sentences_of script = map sentence_of script.items
 abbrev pub said_in : Vec Reply → List Reply
 said_in replies = replies.items
 
--- A script that may be played, with room for that.
+-- A script and its closing part that may be played, with room for that.
 pub record IsReadyScript (ready : ReadyScript) : Type 0 where
-  pub said : MayBeSaid ready.script
-  pub room : IsPlayRoom (length ready.script.items) ready.room
+  pub few : length ready.script.items + length ready.closing.items ≤ MOST_STATEMENTS
+  pub proper : AllByRecursion IsProperSaid ready.script.items
+  pub proper_closing : AllByRecursion IsProperSaid ready.closing.items
+  pub room : IsPlayRoom (length ready.script.items + length ready.closing.items) ready.room
 
-abbrev pub script_ready : ReadyScript → Vec Said
-script_ready ready = ready.script
+-- What they say, one behind the other.
+abbrev pub script_ready : ReadyScript → List Sentence
+script_ready ready = map sentence_of ready.script.items ++ map sentence_of ready.closing.items
 
 module _ {H G : Type 0} where
-  -- The parts of a session's work.
-
-  abbrev pub script_of : ScriptWork H G → Vec Said
-  script_of work = work.script
+  -- Parts of a session's work.
 
   abbrev pub shelf_of : ScriptWork H G → H
   shelf_of work = work.shelf

@@ -11,7 +11,7 @@ ghost use Rattle.opened_core.specs.KeptShards.{TakeAllKept};
 ghost use Rattle.opened_core.specs.Openings.{AreCellsOver, OpenOver};
 ghost use Rattle.run_threads.specs.CoreWorks.{KeepsRounds};
 ghost use Rattle.played_runs.specs.LeftByRuns.{IsFullFor, IsGivenBack, IsLeftByScripts};
-ghost use Rattle.played_runs.specs.ReadySessions.{IsReadyScript, IsWhole, replies_of, script_ready, shelf_of};
+ghost use Rattle.played_runs.specs.ReadySessions.{IsReadyScript, IsWhole, replies_of, script_ready, sentences_of, shelf_of};
 
 use crate::law::what_is_left_is_on_record;
 use crate::rooms::{RunRoom, run_room};
@@ -203,7 +203,8 @@ fn play_over<
 /// Plays scripts over what a file keeps, each by a session of its own on a thread of its own, which reads the files
 /// of its LOADs from a shelf of its own: that at the same place among the shelves. There is a worker for each shard,
 /// and a flusher, which makes its rounds as `maker` does; after so many commits of a session one follows, if after
-/// any. In the end the flusher makes the closing round, and all shards purge.
+/// any. So many of the last statements of the first script wait until each session has played all others of its own. In
+/// the end the flusher makes the closing round, and all shards purge.
 ///
 /// No session begins where a shard would have more kept rows than it takes, and where memory runs out before. Want
 /// of memory in a session ends its part, and the rest goes on; so does the refusal of a thread end all.
@@ -220,6 +221,7 @@ pub fn play_run<
     round_every: Option<u32>,
     kept: &Kept,
     scripts: Vec<Vec<Said>>,
+    held_back: usize,
     shelves: Vec<H>,
     maker: M,
     gate: &G,
@@ -236,12 +238,13 @@ pub fn play_run<
         → KeepsRounds M.serves M.has_kept size.sessions maker maker cells
         (size.sessions + 1 + size.shards) [] }
     ensures left { IfOk result (IsLeftByScripts H.told H.fault_count H.absence_count M.has_kept
-        M.becomes kept.now size (unwrap_or round_every 0) scripts.items shelves.items maker) }
+        M.becomes kept.now size (unwrap_or round_every 0) (map sentences_of scripts.items)
+        shelves.items maker) }
     ensures takes { OnOk result (TakeAllKept kept.now size.shards) }
     ensures back { IfErr result (IsGivenBack shelves.items maker) }
     ensures full { IfErr result (λ u. IsFullFor kept.now size.shards u.cause) }
 {
-    let room = match run_room(alloc, scripts) {
+    let room = match run_room(alloc, scripts, held_back) {
         Ok(room) => room,
         Err(_) => {
             return Err(UnplayedRun {

@@ -2,7 +2,8 @@
 ghost use Rattle.std.specs.Prelude.{◌≡◌, ◌+◌, ◌≤◌, ◌++◌, ◌↔◌, [], IsTrue, length, map, vec_capacity};
 ghost use Rattle.std.specs.List.{AllByRecursion};
 ghost use Rattle.core_scripts.specs.GivenScripts.{AreReadyWorks};
-ghost use Rattle.played_runs.specs.ReadySessions.{HasRounds, IsReadyScript, IsWhole, replies_of, script_of, script_ready, shelf_of};
+ghost use Rattle.core_scripts.specs.ScriptWorks.{script_in};
+ghost use Rattle.played_runs.specs.ReadySessions.{HasRounds, IsReadyScript, IsWhole, replies_of, script_ready, shelf_of};
 
 use crate::rooms::ReadyScript;
 use core_program::CoreSize;
@@ -27,7 +28,7 @@ pub(crate) struct ReturnedShelves<H> {
     pub(crate) whole: bool,
 }
 
-/// The work of each session has the next script and the next shelf. The list of works has room.
+/// The work of each session has the next script, with its closing part, and the next shelf. The list of works has room.
 pub(crate) fn give_shelves<'g, H: Shelf + Drop, G: Gate>(
     alloc: Global,
     size: CoreSize,
@@ -45,7 +46,7 @@ pub(crate) fn give_shelves<'g, H: Shelf + Drop, G: Gate>(
     ensures long { length result.works.items ≡ size.sessions }
     ensures ready { AreReadyWorks size 1 result.works.items }
     ensures rounds { AllByRecursion (HasRounds round_every) result.works.items }
-    ensures scripts { map script_of result.works.items ≡ map script_ready scripts.items }
+    ensures scripts { map script_in result.works.items ≡ map script_ready scripts.items }
     ensures shelves { map shelf_of result.works.items ++ result.rest.items ≡ shelves.items }
     ensures capacity { vec_capacity result.rest ≡ vec_capacity shelves }
 {
@@ -53,7 +54,11 @@ pub(crate) fn give_shelves<'g, H: Shelf + Drop, G: Gate>(
     let mut rest = shelves;
     let mut works = works;
     'sessions: for number in 0..size.sessions {
-        let ReadyScript { script, room } = left.remove(0);
+        let ReadyScript {
+            script,
+            closing,
+            room,
+        } = left.remove(0);
         let shelf = rest.remove(0);
         works.push_reserved(ScriptWork::new(
             alloc,
@@ -61,12 +66,28 @@ pub(crate) fn give_shelves<'g, H: Shelf + Drop, G: Gate>(
             number + 1,
             round_every,
             script,
+            closing,
             shelf,
             room,
             gate,
         ));
     }
     GivenShelves { works, rest }
+}
+
+// What a work leaves: its shelf, its replies, and whether all was played to its end.
+fn left_by<'g, H: Drop, G>(work: ScriptWork<'g, H, G>) -> (H, Vec<Reply>, bool)
+    ensures shelf { result.0 ≡ shelf_of work.entry }
+    ensures replies { result.1 ≡ replies_of work.entry }
+    ensures whole { result.2 ≡ work.entry.whole }
+{
+    let ScriptWork {
+        shelf,
+        replies,
+        whole,
+        ..
+    } = work;
+    (shelf, replies, whole)
 }
 
 /// The shelves of works come back before the rest, and the replies of each. The lists have room.
@@ -89,12 +110,7 @@ pub(crate) fn return_shelves<'g, H: Drop, G>(
     let mut replies = replies;
     let mut whole = true;
     'works: for _number in 0..count {
-        let ScriptWork {
-            shelf,
-            replies: said,
-            whole: played,
-            ..
-        } = left.remove(0);
+        let (shelf, said, played) = left_by(left.remove(0));
         shelves.push_reserved(shelf);
         replies.push_reserved(said);
         whole = whole && played;

@@ -4,7 +4,8 @@ use Rattle.linked_shards.specs.CellShards.{CoreShardStands}
 use Rattle.scripted_ends.specs.PlayedHistories.{IsRunOfHistory}
 use Rattle.shard_events.specs.ShardsInRuns.{FitsShard, ShardAnswerSays}
 use Rattle.core_scripts.proofs.PlayedWorks.{all-played}
-use Rattle.core_scripts.specs.ScriptsOnThreads.{replies_in, script_in}
+use Rattle.core_scripts.specs.ScriptWorks.{script_in}
+use Rattle.core_scripts.specs.ScriptsOnThreads.{replies_in}
 use Rattle.core_scripts.proofs.on_record.scripts_on_threads_end_in_a_run.Goals as goal
 
 pub returns : goal.returns

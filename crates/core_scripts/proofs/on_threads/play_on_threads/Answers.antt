@@ -20,8 +20,8 @@ run_core-requires-clause-may g c =
     let may :
     MayRun {W = ScriptWork g.row.H.Denot g.row.G.Denot} {M = g.row.M.Denot}
     (λ (w : ScriptWork g.row.H.Denot g.row.G.Denot) (callers : ℕ) (there : List (CoreCell CoreShard)) (caller : ℕ).
-    MayPlay w.size.shards w.size.sessions w.player w.script.items w.replies.items (vec_capacity w.replies) callers there
-    caller)
+    MayPlay w.size.shards w.size.sessions w.player w.script.items w.closing.items w.replies.items
+    (vec_capacity w.replies) callers there caller)
     g.M.MakesRounds.serves g.M.MakesRounds.has_kept size.shards size.sessions cells works c.args.maker =
     record {
       some = c.requires.some;

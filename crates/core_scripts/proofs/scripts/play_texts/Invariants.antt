@@ -12,7 +12,8 @@ invariant-script g l =
       faults = g.H.Shelf.fault_count l.fn.shelf;
       absences = g.H.Shelf.absence_count l.fn.shelf;
     })
-    l.fn.player (into_iter_items l.said-iterator) (g.P.CellCaller.own l.caller) l.replies.items
+    l.fn.player (g.P.CellCaller.own l.fn.caller) l.fn.replies.items (into_iter_items l.said-iterator)
+    (g.P.CellCaller.own l.caller) l.replies.items
     (vec_capacity l.replies)
     (record {
       told = g.H.Shelf.told l.shelf;
@@ -25,3 +26,4 @@ invariant-script g l =
     × (g.P.CellCaller.opening l.caller ≡ g.P.CellCaller.opening l.fn.caller)
     × (g.P.CellCaller.number l.caller ≡ g.P.CellCaller.number l.fn.caller)
     × (g.P.CellCaller.others l.caller ≡ g.P.CellCaller.others l.fn.caller)
+    × (vec_capacity l.replies ≡ vec_capacity l.fn.replies)

@@ -1,5 +1,6 @@
 use Rattle.std.proofs.Common.{map, refl, unwrap_or}
-use Rattle.core_scripts.specs.ScriptsOnThreads.{replies_in, script_in}
+use Rattle.core_scripts.specs.ScriptWorks.{script_in}
+use Rattle.core_scripts.specs.ScriptsOnThreads.{replies_in}
 use Rattle.opened_core.specs.Openings.{opening_over}
 use Rattle.played_runs.proofs.WholeRuns.{few-scripts, left-by-scripts, made-by, rounds-at}
 use Rattle.played_runs.specs.ReadySessions.{script_ready}

@@ -1,12 +1,13 @@
-use Rattle.std.proofs.Common.{◌≡◌, ◌∙◌, ◌+◌, ◌∷◌, ℕ, List, length, map, sym, ap, subst, arith}
-use Rattle.std.specs.Global.{Vec}
+use Rattle.std.proofs.Common.{◌≡◌, ◌∙◌, ◌+◌, ◌∷◌, ◌++◌, ℕ, List, length, map, sym, ap, subst, arith}
 use Rattle.std.specs.List.{AllByRecursion}
 use Rattle.core_scripts.proofs.BegunWorks.{one-work-more}
 use Rattle.core_scripts.specs.GivenScripts.{AreReadyWorks, IsReadyWork}
+use Rattle.core_scripts.specs.ScriptWorks.{script_in}
 use Rattle.core_scripts.specs.declared.work.ScriptWork.{ScriptWork}
-use Rattle.script_sentences.specs.declared.said.Said.{Said}
+use Rattle.cube_run.specs.RunRecords.{Sentence}
+use Rattle.script_sentences.specs.Sentences.{sentence_of}
 use Rattle.played_runs.proofs.Lists.{all-behind, first-out, moved-on, one-out}
-use Rattle.played_runs.specs.ReadySessions.{HasRounds, IsReadyScript, script_of, script_ready, shelf_of}
+use Rattle.played_runs.specs.ReadySessions.{HasRounds, IsReadyScript, script_ready, shelf_of}
 use Rattle.played_runs.specs.declared.rooms.ReadyScript.{ReadyScript}
 use Rattle.played_runs.proofs.shelves.give_shelves.Goals as goal
 
@@ -36,6 +37,8 @@ sessions-preserved g c =
     in
     let fewer_scripts = one-out c.sessions.left.items c.remove-script.new.self.items c.remove-script.result scripts in
     let fewer_shelves = one-out c.sessions.rest.items c.remove-shelf.new.self.items c.remove-shelf.result shelves in
+    let says : script_in work ≡ script_ready c.remove-script.result =
+    λ i. map sentence_of (made.script i).items ++ map sentence_of (made.closing i).items in
     let number : c.sessions.number + 1 ≡ 1 + length works = omega (arith, long) in
     record {
       left = omega (arith, fewer_scripts, left);
@@ -49,10 +52,10 @@ sessions-preserved g c =
       rounds = subst
           (λ (xs : List (ScriptWork g.row.H.Denot g.row.G.Denot)). AllByRecursion (HasRounds c.args.round_every) xs)
           (sym put.items) (all-behind (HasRounds c.args.round_every) works work held.rounds made.every);
-      same = moved-on script_of works now work (map script_ready c.sessions.left.items)
+      same = moved-on script_in works now work (map script_ready c.sessions.left.items)
           (map script_ready c.remove-script.new.self.items) (map script_ready c.args.scripts.items) put.items
           (ap (λ (xs : List ReadyScript). map script_ready xs) scripts
-          ∙ ap (λ (s : Vec Said). s ∷ map script_ready c.remove-script.new.self.items) (sym made.script))
+          ∙ ap (λ (s : List Sentence). s ∷ map script_ready c.remove-script.new.self.items) (sym says))
           held.same;
       given = moved-on shelf_of works now work c.sessions.rest.items c.remove-shelf.new.self.items c.args.shelves.items
           put.items
