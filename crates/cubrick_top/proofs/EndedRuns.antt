@@ -184,85 +184,85 @@ module _ {H M : Type 0} (told : H → Option (List (List ℕ × List ℕ))) (fau
     (has_kept : M → M → KeptClaim) (becomes : M → M → Type 0) (stored : Bool) (kept : Kept) (size : CoreSize)
     (shards every : ℕ) (scripts : List (Vec Said)) (before : List H) (maker : M) (ran : PlayedRun H M)
     (many : length scripts ≡ size.sessions) (asked : size.shards ≡ shards)
-    (left : IsLeftByScripts told fault_count absence_count has_kept becomes kept size every scripts before maker ran)
-  where
-    abbrev said : List (List Sentence)
-    said = map sentences_of scripts
+    (left : IsLeftByScripts told fault_count absence_count has_kept becomes kept size every (map sentences_of scripts)
+    before maker ran) where
+  abbrev said : List (List Sentence)
+  said = map sentences_of scripts
 
-    abbrev replies : List (List Reply)
-    replies = map said_in ran.replies.items
+  abbrev replies : List (List Reply)
+  replies = map said_in ran.replies.items
 
-    abbrev OfRecord : RunRecord → Type 0
-    OfRecord run = HasKeptOfRecord has_kept maker ran.maker run
+  abbrev OfRecord : RunRecord → Type 0
+  OfRecord run = HasKeptOfRecord has_kept maker ran.maker run
 
-    abbrev OfRun : List JournalEntry → Type 0
-    OfRun journal = HasKeptOfRun has_kept maker ran.maker kept shards (length said) journal
+  abbrev OfRun : List JournalEntry → Type 0
+  OfRun journal = HasKeptOfRun has_kept maker ran.maker kept shards (length said) journal
 
-    sessions : size.sessions ≡ length said
-    sessions = sym (length-map scripts sentences_of ∙ many)
+  sessions : size.sessions ≡ length said
+  sessions = sym (length-map scripts sentences_of ∙ many)
 
-    of-run : OfRun ran.journal.items
-    of-run =
-        let single = left.of_run in
-        coe 0 1 (i. HasKeptOfRun has_kept maker ran.maker kept (asked i) (sessions i) ran.journal.items)
-        (record {
-          o = opening_over kept size.shards size.sessions single.log;
-          run = single.by_run.to.es;
-          is_run = record {
-            log = single.log;
-            over = refl;
-            is_run = single.by_run.to.run;
-            journal_is = single.journal_is ∙ ap (λ (desk : DeskState). desk.register.journal) single.by_run.desk;
-          };
-          keeps = single.keeps;
-        })
+  of-run : OfRun ran.journal.items
+  of-run =
+      let single = left.of_run in
+      coe 0 1 (i. HasKeptOfRun has_kept maker ran.maker kept (asked i) (sessions i) ran.journal.items)
+      (record {
+        o = opening_over kept size.shards size.sessions single.log;
+        run = single.by_run.to.es;
+        is_run = record {
+          log = single.log;
+          over = refl;
+          is_run = single.by_run.to.run;
+          journal_is = single.journal_is ∙ ap (λ (desk : DeskState). desk.register.journal) single.by_run.desk;
+        };
+        keeps = single.keeps;
+      })
 
-    abbrev Played : Type 0
-    Played =
-        HasPlayedOver kept every (map told before) said replies ran.names ran.journal.items (has_saved ran.last_round)
-        ran.shards.items (opening_over kept size.shards size.sessions left.of_run.log) left.of_run.by_run.to.es
+  abbrev Played : Type 0
+  Played =
+      HasPlayedOver kept every (map told before) said replies ran.names ran.journal.items (has_saved ran.last_round)
+      ran.shards.items (opening_over kept size.shards size.sessions left.of_run.log) left.of_run.by_run.to.es
 
-    abbrev Held : Type 0
-    Held =
-        IsHeldRun OfRecord kept every (map told before) said replies ran.names ran.journal.items
-        (has_saved ran.last_round) ran.shards.items
+  abbrev Held : Type 0
+  Held =
+      IsHeldRun OfRecord kept every (map told before) said replies ran.names ran.journal.items
+      (has_saved ran.last_round) ran.shards.items
 
-    held : Played → Held
-    held plays = record {
-      run = plays.on_record.over;
-      holds = record {
-        o = opening_over kept size.shards size.sessions left.of_run.log;
-        given = plays.played.given;
-        run = left.of_run.by_run.to.es;
-        scripted = plays.played.run;
-        same = plays.on_record.same;
-        keeps = left.of_run.keeps;
-      };
-    }
+  held : Played → Held
+  held plays = record {
+    run = plays.on_record.over;
+    holds = record {
+      o = opening_over kept size.shards size.sessions left.of_run.log;
+      given = plays.played.given;
+      run = left.of_run.by_run.to.es;
+      scripted = plays.played.run;
+      same = plays.on_record.same;
+      keeps = left.of_run.keeps;
+    };
+  }
 
-    held-if : (whole : Bool) → OnTrue whole Played → OnTrue whole Held
-    held-if true plays = held plays
-    held-if false plays = tt
+  held-if : (whole : Bool) → OnTrue whole Played → OnTrue whole Held
+  held-if true plays = held plays
+  held-if false plays = tt
 
-    pub played-ended : (after : List H) (finish : Finish) (taken now : Option (List ℕ)) → TakeAllKept kept shards
-        → finish.journal.items ≡ ran.journal.items → finish.names ≡ ran.names → finish.shards ≡ ran.shards
-        → after ≡ ran.shelves.items
-        → ((safe : ℕ) → ran.counters ≡ counters safe ran.journal.items
-        → IsLeft stored ran.whole ran.journal.items ran.last_round (whole_text safe replies ran.journal.items) taken now
-        finish.fault)
-        → PlayedEnds told fault_count absence_count OfRecord OfRun stored kept shards every said before after finish
-        taken now finish.fault
-    played-ended after finish taken now takes journal names same_shards shelves written =
-        let of_run = left.of_run in
-        let all : length finish.shards.items ≡ shards =
-        ap (λ (s : Vec CoreShard). length s.items) (same_shards ∙ of_run.shards_are) ∙ of_run.by_run.as_many ∙ asked in
-        ended told fault_count absence_count OfRecord OfRun stored kept shards every said before after finish taken now
-        replies ran.whole ran.last_round takes all (coe 1 0 (i. LeavesLegal kept (journal i)) left.legal)
-        (coe 1 0 (i. OfRun (journal i)) of-run)
-        (coe 1 0 (i. OnTrue ran.whole (IsHeldRun OfRecord kept every (map told before) said replies (names i)
-        (journal i) (has_saved ran.last_round) ((same_shards i).items))) (held-if ran.whole of_run.plays))
-        (coe 0 1 (i. ShelvesGoOn told fault_count absence_count (sessions i) ran.whole replies before (sym shelves i))
-        left.shelves_go_on)
-        finish.fault
-        (coe 1 0 (i. IsLeft stored ran.whole (journal i) ran.last_round (whole_text kept.epoch replies (journal i))
-        taken now finish.fault) (written kept.epoch left.counted))
+  pub played-ended : (after : List H) (finish : Finish) (taken now : Option (List ℕ)) → TakeAllKept kept shards
+      → finish.journal.items ≡ ran.journal.items → finish.names ≡ ran.names → finish.shards ≡ ran.shards
+      → after ≡ ran.shelves.items
+      → ((safe : ℕ) → ran.counters ≡ counters safe ran.journal.items
+      → IsLeft stored ran.whole ran.journal.items ran.last_round (whole_text safe replies ran.journal.items) taken now
+      finish.fault)
+      → PlayedEnds told fault_count absence_count OfRecord OfRun stored kept shards every said before after finish
+      taken now finish.fault
+  played-ended after finish taken now takes journal names same_shards shelves written =
+      let of_run = left.of_run in
+      let all : length finish.shards.items ≡ shards =
+      ap (λ (s : Vec CoreShard). length s.items) (same_shards ∙ of_run.shards_are) ∙ of_run.by_run.as_many ∙ asked in
+      ended told fault_count absence_count OfRecord OfRun stored kept shards every said before after finish taken now
+      replies ran.whole ran.last_round takes all (coe 1 0 (i. LeavesLegal kept (journal i)) left.legal)
+      (coe 1 0 (i. OfRun (journal i)) of-run)
+      (coe 1 0 (i. OnTrue ran.whole (IsHeldRun OfRecord kept every (map told before) said replies (names i)
+      (journal i) (has_saved ran.last_round) ((same_shards i).items))) (held-if ran.whole of_run.plays))
+      (coe 0 1 (i. ShelvesGoOn told fault_count absence_count (sessions i) ran.whole replies before (sym shelves i))
+      left.shelves_go_on)
+      finish.fault
+      (coe 1 0 (i. IsLeft stored ran.whole (journal i) ran.last_round (whole_text kept.epoch replies (journal i))
+      taken now finish.fault) (written kept.epoch left.counted))

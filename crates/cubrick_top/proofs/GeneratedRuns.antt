@@ -12,15 +12,15 @@ use Rattle.played_runs.specs.ReadySessions.{sentences_of}
 use Rattle.played_runs.specs.RunsOnRecord.{IsRunOver, has_saved}
 use Rattle.run_inputs.specs.declared.inputs.RunInput.{RunInput}
 use Rattle.run_words.specs.declared.command.GenerateCommand.{GenerateCommand}
-use Rattle.cubrick_top.specs.Generated.{GeneratedEnds, HasClosingLines, HasGeneratedText, IsWrittenFirst, PlaysGenerated, ReadsGenerated, generated_files}
+use Rattle.cubrick_top.specs.Generated.{GeneratedEnds, HasClosingLines, HasGeneratedText, IsWrittenFirst, PlaysGenerated, ReadsGenerated, generated_shelves}
 use Rattle.cubrick_top.specs.declared.fault.Fault.{Fault}
 use Rattle.cubrick_top.specs.declared.fault.Fault.TheVariants as fault
 use Rattle.cubrick_top.specs.declared.fault.Finish.{Finish}
 
--- A run over the cubes that were read plays the generated script.
+-- A run over the cubes that were read plays the generated scripts.
 pub plays : (command : GenerateCommand) (input : RunInput) → ReadsGenerated command.rows input
     → {kept : Kept} {cubes : List Decl} {tells : List (Option (List (List ℕ × List ℕ)))}
-    → cubes ≡ input.cubes.items → kept ≡ kept_of_cubes cubes → tells ≡ Some (generated_files command.rows) ∷ []
+    → cubes ≡ input.cubes.items → kept ≡ kept_of_cubes cubes → tells ≡ generated_shelves command.rows
     → (whole : Bool) (replies : List (List Reply)) (names : List (List Dictionary)) (journal : List JournalEntry)
     (saved : Bool) (shards : List CoreShard) → length shards ≡ command.settings.shards
     → OnTrue whole (IsRunOver kept (unwrap_or command.settings.round_every 0) tells

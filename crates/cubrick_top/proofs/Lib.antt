@@ -5,7 +5,6 @@ pub mod ReadRuns
 pub mod UnreadRuns
 pub mod AskedShards
 pub mod GeneratedRuns
-pub mod JoinedTexts
 pub mod KeptEnds
 pub mod ServedStores
 pub mod ServedRuns

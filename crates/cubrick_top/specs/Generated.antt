@@ -1,8 +1,9 @@
--- A run over generated rows: its files, its script, and the text that it comes to.
+-- A run over generated rows: its files, its scripts, and the text that it comes to.
 -- Source: this project's own.
-use Rattle.std.specs.Prelude.{◌≡◌, ◌⊎◌, ℕ, Bool, true, false, List, [], ◌∷◌, ◌++◌, codes, length, map, Option, Some, None, unwrap_or}
+use Rattle.std.specs.Prelude.{◌≡◌, ◌⊎◌, ℕ, Bool, true, false, List, [], ◌∷◌, ◌++◌, ◌&&◌, ◌==◌, codes, decimal, if◌then◌else◌, length, map, Option, Some, None, unwrap_or}
 use Rattle.std.specs.List.{AllByRecursion}
 use Rattle.cube_gen.specs.Generated.{part_name, part_text, script_text, visits}
+use Rattle.cube_journal.specs.Counters.{counters}
 use Rattle.cube_journal.specs.WholeText.{generated_text}
 use Rattle.cube_journal.specs.declared.journal_entry.JournalEntry.{JournalEntry}
 use Rattle.cube_journal.specs.declared.reply.Reply.{Reply}
@@ -25,25 +26,41 @@ use Rattle.cubrick_top.specs.PlayedEnds.{LeavesNothing}
 use Rattle.cubrick_top.specs.declared.fault.Fault.{Fault}
 use Rattle.cubrick_top.specs.declared.fault.Fault.TheVariants.{OutputFault, NoMemory}
 use Rattle.cubrick_top.specs.declared.fault.Finish.{Finish}
-use Rattle.cubrick_top.specs.declared.generating.TheConstants.{CUBES, SCRIPT}
+use Rattle.cubrick_top.specs.declared.generating.TheConstants.{CUBES}
 
--- The query that stands behind the loads.
+-- The query that the first session asks once all have loaded their files.
 abbrev pub closing_query : List ℕ
 closing_query = codes "SELECT region, SUM(likes), COUNT(*) FROM visits GROUP BY region"
 
--- The script loads the files one after the other, and asks.
-abbrev pub generated_script : List ℕ
-generated_script = script_text 1 ++ (script_text 2 ++ (script_text 3 ++ (script_text 4 ++ closing_query)))
+-- The name of a session's script.
+abbrev pub script_name : ℕ → List ℕ
+script_name session = codes "session" ++ (decimal session ++ codes ".sql")
 
--- The file of a part of the rows, by its name.
+-- The scripts by their names. Each loads the file of its session, and the first one asks in the end.
+abbrev pub first_script : List ℕ
+first_script = script_text 1 ++ closing_query
+
+abbrev pub script_file : ℕ → List ℕ × List ℕ
+script_file session = (script_name session, script_text session)
+
+abbrev pub script_names : List (List ℕ)
+script_names = script_name 1 ∷ script_name 2 ∷ script_name 3 ∷ script_name 4 ∷ []
+
+-- The file of a session's part of the rows, by its name.
 abbrev pub part_file : ℕ → ℕ → List ℕ × List ℕ
-part_file rows part = (part_name part, part_text rows part)
+part_file rows session = (part_name session, part_text rows session)
 
--- The files of a run over so many rows: its cubes file, its script, and the rows in four parts.
+-- The files of the first shelf: the cubes file, the scripts, and the first session's part of so many rows.
 abbrev pub generated_files : ℕ → List (List ℕ × List ℕ)
 generated_files rows =
-    (CUBES.now, cubes_text (visits ∷ [])) ∷ (SCRIPT.now, generated_script)
-    ∷ part_file rows 1 ∷ part_file rows 2 ∷ part_file rows 3 ∷ part_file rows 4 ∷ []
+    (CUBES.now, cubes_text (visits ∷ [])) ∷ (script_name 1, first_script) ∷ script_file 2 ∷ script_file 3 ∷ script_file 4
+    ∷ part_file rows 1 ∷ []
+
+-- What the shelves of the sessions tell: each has the part of its own.
+abbrev pub generated_shelves : ℕ → List (Option (List (List ℕ × List ℕ)))
+generated_shelves rows =
+    Some (generated_files rows) ∷ Some (part_file rows 2 ∷ []) ∷ Some (part_file rows 3 ∷ []) ∷ Some (part_file rows 4 ∷ [])
+    ∷ []
 
 -- What a shelf in memory tells.
 abbrev pub files_told : ShelfState → Option (List (List ℕ × List ℕ))
@@ -53,10 +70,10 @@ files_told shelf = Some shelf.files
 pub record ReadsGenerated (rows : ℕ) (input : RunInput) : Type 0 where
   pub reading : RunFile → FileReading
   pub as_told : AllByRecursion (λ file. IsToldAs (Some (generated_files rows)) file (reading file))
-      (files_of_run CUBES.now (SCRIPT.now ∷ []))
-  pub given : GiveRunInput CUBES.now (SCRIPT.now ∷ []) reading input
+      (files_of_run CUBES.now script_names)
+  pub given : GiveRunInput CUBES.now script_names reading input
 
--- The script was played over them, with these replies, and left this, with as many shards as were asked for. Where the
+-- The scripts were played over them, with these replies, and left this, with as many shards as were asked for. Where the
 -- last round saved all, the run ended with all safe.
 pub record PlaysGenerated (command : GenerateCommand) (replies : List (List Reply)) (names : List (List Dictionary))
     (journal : List JournalEntry) (saved : Bool) (shards : List CoreShard) : Type 0 where
@@ -64,25 +81,33 @@ pub record PlaysGenerated (command : GenerateCommand) (replies : List (List Repl
   pub read : ReadsGenerated command.rows input
   pub all_shards : length shards ≡ command.settings.shards
   pub run : IsRunOver (kept_of_cubes input.cubes.items) (unwrap_or command.settings.round_every 0)
-      (Some (generated_files command.rows) ∷ []) (map sentences_of input.scripts.items) replies names journal saved
-      shards
+      (generated_shelves command.rows) (map sentences_of input.scripts.items) replies names journal saved shards
 
--- The lines of the closing query, where all four files were stored.
-abbrev pub closing_lines : List Reply → Option (List (List Field))
-closing_lines (reply.Loaded a b c d ∷ reply.Loaded e f g h ∷ reply.Loaded i j k l ∷ reply.Loaded m n o p
-    ∷ reply.Rows epoch lines ∷ []) = Some lines
-closing_lines replies = None
+-- A session stored its file.
+abbrev pub is_stored : List Reply → Bool
+is_stored (reply.Loaded a b c d ∷ []) = true
+is_stored replies = false
 
--- The text over these replies and this journal: all files were stored, and it has the lines of the closing query.
+-- The lines of the closing query, where the first session stored its file, and then read at this epoch.
+abbrev pub lines_at : ℕ → List Reply → Option (List (List Field))
+lines_at latest (reply.Loaded a b c d ∷ reply.Rows epoch lines ∷ []) = if epoch == latest then Some lines else None
+lines_at latest replies = None
+
+-- The lines of the closing query at an epoch, where all four files were stored.
+abbrev pub closing_lines : ℕ → List (List Reply) → Option (List (List Field))
+closing_lines latest (first ∷ second ∷ third ∷ fourth ∷ []) =
+    if is_stored second && (is_stored third && is_stored fourth) then lines_at latest first else None
+closing_lines latest replies = None
+
+-- The text over these replies and this journal: all files were stored, and it has the lines of the closing query at the
+-- last committed epoch, so that it saw them all.
 pub record HasClosingLines (rows : ℕ) (replies : List (List Reply)) (journal : List JournalEntry) (text : List ℕ)
     : Type 0 where
-  pub said : List Reply
-  pub one : replies ≡ said ∷ []
   pub lines : List (List Field)
-  pub closing : closing_lines said ≡ Some lines
+  pub closing : closing_lines (counters 0 journal).lce replies ≡ Some lines
   pub text_is : text ≡ generated_text 0 rows lines journal
 
--- The script was played over the files, and this is the text.
+-- The scripts were played over the files, and this is the text.
 pub record HasGeneratedText (command : GenerateCommand) (saved : Bool) (finish : Finish) (text : List ℕ) : Type 0 where
   pub replies : List (List Reply)
   pub plays : PlaysGenerated command replies finish.names finish.journal.items saved finish.shards.items

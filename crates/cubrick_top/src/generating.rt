@@ -4,14 +4,14 @@ ghost use Rattle.std.specs.Bool.{OnTrue};
 ghost use Rattle.std.specs.List.{AllByRecursion};
 ghost use Rattle.std.specs.Option.{option_copied};
 ghost use Rattle.script_sentences.specs.GivenTexts.{MayBeSaid};
-ghost use Rattle.cube_gen.specs.Generated.{part_name, part_text};
+ghost use Rattle.cube_gen.specs.Generated.{part_name, part_text, script_text};
 ghost use Rattle.cube_journal.specs.Counters.{counters};
 ghost use Rattle.cube_journal.specs.JournalLines.{end_text};
 ghost use Rattle.cube_journal.specs.Replies.{table_text};
 ghost use Rattle.cube_schema.specs.Texts.{AreDeclared};
 ghost use Rattle.played_runs.specs.ReadySessions.{said_in};
 ghost use Rattle.played_runs.specs.RunsOnRecord.{has_saved};
-ghost use Rattle.cubrick_top.specs.Generated.{GeneratedEnds, HasClosingLines, IsWrittenFirst, PlaysGenerated, ReadsGenerated, closing_lines, files_told, generated_files, generated_script};
+ghost use Rattle.cubrick_top.specs.Generated.{GeneratedEnds, HasClosingLines, IsWrittenFirst, PlaysGenerated, ReadsGenerated, closing_lines, files_told, first_script, generated_files, generated_shelves, is_stored, lines_at, part_file, script_name, script_names};
 ghost use Rattle.cubrick_top.specs.PlayedEnds.{OutputRises};
 ghost use Rattle.cubrick_top.specs.Statuses.{status_of};
 
@@ -39,22 +39,31 @@ use threaded_callers::ThreadStarter;
 /// The name of the cubes file.
 const CUBES: &str = "visits.cubes";
 
-/// The name of the script.
-const SCRIPT: &str = "visits.sql";
-
-/// The query that stands behind the loads.
+/// The query that the first session asks once all have loaded their files.
 const CLOSING_QUERY: &[u8] = b"SELECT region, SUM(likes), COUNT(*) FROM visits GROUP BY region";
 
-// The script that loads the files, and asks.
-fn script_bytes(alloc: Global) -> Result<Vec<u8>, AllocError>
-    ensures { IfOk result (λ text. text.items ≡ generated_script) }
+// The name of a session's script.
+fn script_name(alloc: Global, session: u32) -> Result<String, AllocError>
+    ensures { IfOk result (λ name. string_bytes name ≡ script_name session) }
+{
+    format!(in alloc; "session{session}.sql")
+}
+
+// The script of the first session, which loads its file, and asks in the end.
+fn first_script(alloc: Global) -> Result<Vec<u8>, AllocError>
+    ensures { IfOk result (λ text. text.items ≡ first_script) }
 {
     let mut out = script(alloc, 1)?;
-    out.extend_from_slice(script(alloc, 2)?.as_slice())?;
-    out.extend_from_slice(script(alloc, 3)?.as_slice())?;
-    out.extend_from_slice(script(alloc, 4)?.as_slice())?;
     out.extend_from_slice(CLOSING_QUERY)?;
     Ok(out)
+}
+
+// The script of another session, by its name.
+fn script_file(alloc: Global, session: u32) -> Result<(String, Vec<u8>), AllocError>
+    ensures name { IfOk result (λ file. string_bytes file.0 ≡ script_name session) }
+    ensures text { IfOk result (λ file. file.1.items ≡ script_text session) }
+{
+    Ok((script_name(alloc, session)?, script(alloc, session)?))
 }
 
 // The file of a part of the rows.
@@ -68,34 +77,79 @@ fn part_file(alloc: Global, rows: u64, number: u32) -> Result<(String, Vec<u8>),
     ))
 }
 
-// A shelf with the cubes file, the script, and the files of so many rows.
-fn generated_shelf(alloc: Global, rows: u64) -> Result<ShelfMemory, AllocError>
+// The shelf of the first session: the cubes file, the scripts, and its part of so many rows.
+fn first_shelf(alloc: Global, rows: u64) -> Result<ShelfMemory, AllocError>
     ensures { IfOk result (λ shelf. shelf.files ≡ generated_files rows) }
 {
     let mut files = Vec::with_capacity(alloc, 6)?;
     let cubes = Vec::from_slice(alloc, cube_gen::cubes_text().as_bytes())?;
     files.push((String::from_str(alloc, CUBES)?, cubes))?;
-    files.push((String::from_str(alloc, SCRIPT)?, script_bytes(alloc)?))?;
+    files.push((script_name(alloc, 1)?, first_script(alloc)?))?;
+    files.push(script_file(alloc, 2)?)?;
+    files.push(script_file(alloc, 3)?)?;
+    files.push(script_file(alloc, 4)?)?;
     files.push(part_file(alloc, rows, 1)?)?;
-    files.push(part_file(alloc, rows, 2)?)?;
-    files.push(part_file(alloc, rows, 3)?)?;
-    files.push(part_file(alloc, rows, 4)?)?;
     Ok(ShelfMemory::new(files, Vec::new(alloc)))
 }
 
-// The lines of the closing query, where all four files were stored.
-fn closing_lines(replies: &[Reply]) -> Option<&[Line]>
-    ensures { option_copied result ≡ closing_lines replies.now }
+// The shelf of another session, with its part of so many rows.
+fn part_shelf(alloc: Global, rows: u64, session: u32) -> Result<ShelfMemory, AllocError>
+    ensures { IfOk result (λ shelf. shelf.files ≡ part_file rows session ∷ []) }
+{
+    let mut files = Vec::with_capacity(alloc, 1)?;
+    files.push(part_file(alloc, rows, session)?)?;
+    Ok(ShelfMemory::new(files, Vec::new(alloc)))
+}
+
+// The names of the scripts.
+fn script_names(alloc: Global) -> Result<Vec<Text>, AllocError>
+    ensures { IfOk result (λ names. names.items ≡ script_names) }
+{
+    let mut names = Vec::with_capacity(alloc, 4)?;
+    names.push(Text::from_string(script_name(alloc, 1)?))?;
+    names.push(Text::from_string(script_name(alloc, 2)?))?;
+    names.push(Text::from_string(script_name(alloc, 3)?))?;
+    names.push(Text::from_string(script_name(alloc, 4)?))?;
+    Ok(names)
+}
+
+// Whether a session stored its file.
+fn is_stored(replies: &[Reply]) -> bool
+    ensures { result ≡ is_stored replies.now }
 {
     match replies {
-        [
-            Reply::Loaded { .. },
-            Reply::Loaded { .. },
-            Reply::Loaded { .. },
-            Reply::Loaded { .. },
-            Reply::Rows { table, .. },
-        ] => Some(table.as_slice()),
+        [Reply::Loaded { .. }] => true,
+        _ => false,
+    }
+}
+
+// The lines of the closing query, where the first session stored its file, and then read at this epoch.
+fn lines_at(latest: u64, replies: &[Reply]) -> Option<&[Line]>
+    ensures { option_copied result ≡ lines_at latest replies.now }
+{
+    match replies {
+        [Reply::Loaded { .. }, Reply::Rows { epoch, table }] => {
+            if *epoch == latest {
+                Some(table.as_slice())
+            } else {
+                None
+            }
+        }
         _ => None,
+    }
+}
+
+// The lines of the closing query at an epoch, where all four files were stored.
+fn closing_lines(latest: u64, replies: &[Vec<Reply>]) -> Option<&[Line]>
+    ensures { option_copied result ≡ closing_lines latest (map said_in replies.now) }
+{
+    let [first, second, third, fourth] = replies else {
+        return None;
+    };
+    if is_stored(second.as_slice()) && is_stored(third.as_slice()) && is_stored(fourth.as_slice()) {
+        lines_at(latest, first.as_slice())
+    } else {
+        None
     }
 }
 
@@ -117,38 +171,50 @@ fn text_bytes(
     Ok(out)
 }
 
-// What a run over generated rows reads: its cubes and its script, and the shelf from which it loads.
+// What a run over generated rows reads: its cubes and its scripts, and the shelves from which it loads.
 #[derive(Drop)]
 struct GeneratedInput {
     input: RunInput,
     shelves: Vec<ShelfMemory>,
 }
 
-// Reads the cubes file and the script of a run over so many rows.
-fn read_generated(alloc: Global, rows: u64) -> Result<GeneratedInput, AllocError>
-    ensures read { IfOk result (λ g. ReadsGenerated rows g.input) }
-    ensures cubes { IfOk result (λ g. AreDeclared g.input.cubes.items) }
-    ensures said { IfOk result (λ g. AllByRecursion MayBeSaid g.input.scripts.items) }
-    ensures one { IfOk result (λ g. length g.input.scripts.items ≡ 1) }
-    ensures shelves { IfOk result (λ g.
-        map files_told g.shelves.items ≡ Some (generated_files rows) ∷ []) }
+// Reads the cubes file and the scripts of a run over so many rows from the first shelf, and gives that back.
+fn read_first_shelf(alloc: Global, rows: u64) -> Result<(RunInput, ShelfMemory), AllocError>
+    ensures read { IfOk result (λ r. ReadsGenerated rows r.0) }
+    ensures cubes { IfOk result (λ r. AreDeclared r.0.cubes.items) }
+    ensures said { IfOk result (λ r. AllByRecursion MayBeSaid r.0.scripts.items) }
+    ensures four { IfOk result (λ r. length r.0.scripts.items ≡ 4) }
+    ensures shelf { IfOk result (λ r. r.1.files ≡ generated_files rows) }
 {
     scripts_that_were_read_may_be_given();
-    let mut shelves = Vec::with_capacity(alloc, 1)?;
-    let mut names = Vec::with_capacity(alloc, 1)?;
-    names.push(Text::from_string(String::from_str(alloc, SCRIPT)?))?;
-    let mut shelf = generated_shelf(alloc, rows)?;
+    let names = script_names(alloc)?;
+    let mut shelf = first_shelf(alloc, rows)?;
     match read_run_files(alloc, &mut shelf, CUBES, names.as_slice()) {
-        Ok(input) => {
-            shelves.push(shelf)?;
-            Ok(GeneratedInput { input, shelves })
-        }
+        Ok(input) => Ok((input, shelf)),
         // The files are in order, so that memory ran out.
         Err(_) => Err(AllocError),
     }
 }
 
-// Plays the script over the files of so many rows.
+// Reads what a run over so many rows plays, and gives each session its shelf.
+fn read_generated(alloc: Global, rows: u64) -> Result<GeneratedInput, AllocError>
+    ensures read { IfOk result (λ g. ReadsGenerated rows g.input) }
+    ensures cubes { IfOk result (λ g. AreDeclared g.input.cubes.items) }
+    ensures said { IfOk result (λ g. AllByRecursion MayBeSaid g.input.scripts.items) }
+    ensures four { IfOk result (λ g. length g.input.scripts.items ≡ 4) }
+    ensures shelves { IfOk result (λ g.
+        map files_told g.shelves.items ≡ generated_shelves rows) }
+{
+    let mut shelves = Vec::with_capacity(alloc, 4)?;
+    let (input, shelf) = read_first_shelf(alloc, rows)?;
+    shelves.push(shelf)?;
+    shelves.push(part_shelf(alloc, rows, 2)?)?;
+    shelves.push(part_shelf(alloc, rows, 3)?)?;
+    shelves.push(part_shelf(alloc, rows, 4)?)?;
+    Ok(GeneratedInput { input, shelves })
+}
+
+// Plays the scripts over the files of so many rows. The closing query waits until all files are loaded.
 fn play_generated<R: Threads + Wait + Sync, G: Gate + Sync>(
     rt: &R,
     alloc: Global,
@@ -166,7 +232,7 @@ fn play_generated<R: Threads + Wait + Sync, G: Gate + Sync>(
     a_core_without_a_store_keeps_no_rounds();
     let GeneratedInput { input, shelves } = read_generated(alloc, command.rows as u64)?;
     let kept = kept_at_start(alloc, input.cubes.as_slice())?;
-    let size = CoreSize::new(command.settings.shards, 1);
+    let size = CoreSize::new(command.settings.shards, 4);
     match play_run(
         rt,
         alloc,
@@ -175,6 +241,7 @@ fn play_generated<R: Threads + Wait + Sync, G: Gate + Sync>(
         command.settings.round_every,
         &kept,
         input.scripts,
+        1,
         shelves,
         NoStore,
         gate,
@@ -185,7 +252,7 @@ fn play_generated<R: Threads + Wait + Sync, G: Gate + Sync>(
     }
 }
 
-// The text over what the script has left, where it was played whole and all files were stored.
+// The text over what the scripts have left, where they were played whole and all files were stored.
 fn generated_bytes(
     alloc: Global,
     rows: u64,
@@ -199,11 +266,8 @@ fn generated_bytes(
     if !ran.whole {
         return Err(AllocError);
     }
-    // The files are in order and so is the query: where they were not stored, memory ran out.
-    let [said] = ran.replies.as_slice() else {
-        return Err(AllocError);
-    };
-    match closing_lines(said.as_slice()) {
+    // The files are in order and so is the query, which waits for all loads: where they were not stored, memory ran out.
+    match closing_lines(ran.counters.lce, ran.replies.as_slice()) {
         Some(lines) => text_bytes(alloc, rows, lines, &ran.counters),
         None => Err(AllocError),
     }
@@ -269,7 +333,7 @@ fn write_generated<K: Sink>(
     }
 }
 
-/// Plays the script over the files of so many rows, and writes the text.
+/// Plays the scripts over the files of so many rows, and writes the text.
 pub(crate) fn run_generator<R: Threads + Wait + Sync, K: Sink, G: Gate + Sync>(
     rt: &R,
     alloc: Global,

@@ -191,6 +191,7 @@ pub(crate) fn play_kept<
         settings.round_every,
         kept,
         scripts,
+        0,
         shelves,
         maker,
         gate,
