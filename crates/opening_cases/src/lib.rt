@@ -5,6 +5,8 @@
 #[cfg(test)]
 mod bytes;
 #[cfg(test)]
+mod names;
+#[cfg(test)]
 mod stores;
 #[cfg(test)]
 mod texts;

@@ -29,7 +29,7 @@ struct OnDisk<'a> {
 const NO_STOP: (Option<u64>, Option<u64>) = (None, None);
 
 /// The cubes of a text that declares them.
-fn cubes_of(alloc: Global, text: &str) -> Result<Vec<Schema>, AllocError>
+pub(crate) fn cubes_of(alloc: Global, text: &str) -> Result<Vec<Schema>, AllocError>
     ensures { IfOk result (λ cubes. AreDeclared cubes.items) }
 {
     match read_cubes(alloc, text.as_bytes()) {
