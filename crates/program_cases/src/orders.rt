@@ -298,16 +298,14 @@ fn difference_named<R: Threads + Wait + Sync>(
     alloc: Global,
     lines: &str,
     pairs: &[(Asked, Asked)],
-    dimension: u32,
-    name: &str,
+    names: &str,
 ) -> Result<Option<String>, AllocError> {
     let holds = Holds::new(alloc, pairs)?;
     let RowEnd { wrong, left } = tried(rt, alloc, lines, given_scripts(""), &holds)?;
     if holds.gave_up.load(SeqCst) {
         return Ok(Some(String::from_str(alloc, "a hold gave up")?));
     }
-    let names = &left.finish.names;
-    if names.name_of(0, dimension, 0) != Some(name) || names.name_of(0, dimension, 1).is_some() {
+    if left.names.find(names).is_none() {
         return Ok(Some(String::from_str(alloc, "another name")?));
     }
     Ok(wrong)
@@ -389,7 +387,7 @@ fn behind_a_deletion() -> [(Asked, Asked); 4] {
 fn a_deletion_comes_before_the_brick(rt: HostRuntime) -> Result<(), Fail> {
     let pairs = behind_a_deletion();
     let row = DELETED_BEFORE_BIRTH;
-    let wrong = difference_named(&rt, rt.alloc(), row, &pairs, 1, "M")?;
+    let wrong = difference_named(&rt, rt.alloc(), row, &pairs, "\n1 M\n")?;
     assert_eq!(rt; wrong.as_deref(), None);
     Ok(())
 }
@@ -397,12 +395,22 @@ fn a_deletion_comes_before_the_brick(rt: HostRuntime) -> Result<(), Fail> {
 // Each of two sessions waits within a shard until the other one is within the other: an INSERT has its name by then.
 #[test]
 fn the_name_that_comes_first_has_the_place(rt: HostRuntime) -> Result<(), Fail> {
-    for (row, first, second, name) in [
-        (FIRST_HAS_THE_PLACE, within(0, 1, 1), within(1, 2, 1), "a"),
-        (SECOND_HAS_THE_PLACE, within(0, 2, 1), within(1, 1, 1), "b"),
+    for (row, first, second, names) in [
+        (
+            FIRST_HAS_THE_PLACE,
+            within(0, 1, 1),
+            within(1, 2, 1),
+            "\n0 a\n",
+        ),
+        (
+            SECOND_HAS_THE_PLACE,
+            within(0, 2, 1),
+            within(1, 1, 1),
+            "\n0 b\n",
+        ),
     ] {
         let pairs = [(first, second), (second, first)];
-        let wrong = difference_named(&rt, rt.alloc(), row, &pairs, 0, name)?;
+        let wrong = difference_named(&rt, rt.alloc(), row, &pairs, names)?;
         assert_eq!(rt; wrong.as_deref(), None);
     }
     Ok(())

@@ -16,6 +16,11 @@ use threaded_callers::ThreadStarter;
 // How many shelves a run has.
 const SHELVES: usize = 16;
 
+// Of how many dimensions of the first cube, and how many names of each, a run tells.
+const MOST_DIMENSIONS: u32 = 2;
+
+const MOST_NAMES: u32 = 4;
+
 // The room of a disk: each call uses up one, and one for each byte.
 const DISK_ROOM: u64 = 20_000;
 
@@ -72,7 +77,8 @@ pub(crate) struct Outcome {
     /// The status, and behind it the text of the fault, if there is one.
     pub(crate) ends: String,
     pub(crate) text: Vec<u8>,
-    pub(crate) finish: Finish,
+    /// The names of the first cube: for each dimension a line with its number and its names, and a line end before the first.
+    pub(crate) names: String,
     pub(crate) disk: DiskMemory,
     pub(crate) other: DiskMemory,
 }
@@ -148,6 +154,27 @@ fn ends_of(alloc: Global, finish: &Finish) -> Result<String, AllocError> {
     }
 }
 
+// The names of the first cube: for each dimension a line with its number and its names.
+fn names_of(alloc: Global, finish: &Finish) -> Result<String, AllocError> {
+    let mut out = String::from_str(alloc, "\n")?;
+    for dimension in 0..MOST_DIMENSIONS {
+        out.push_str(format!(in alloc; "{dimension}")?.as_str())?;
+        for number in 0..MOST_NAMES {
+            if let Some(name) = finish.names.name_of(0, dimension, number) {
+                out.push_str(" ")?;
+                out.push_str(name)?;
+            }
+        }
+        out.push_str("\n")?;
+    }
+    Ok(out)
+}
+
+// How a run ended, and its names. All else that it handed out goes here.
+fn told_by(alloc: Global, finish: Finish) -> Result<(String, String), AllocError> {
+    Ok((ends_of(alloc, &finish)?, names_of(alloc, &finish)?))
+}
+
 // The outside of a run.
 fn outside_of(alloc: Global, given: Given) -> Result<Outside<ShelfMemory, DiskMemory>, AllocError>
     ensures first_told { IfOk result (λ outside. IsSome (disk_view outside.disk).told) }
@@ -195,10 +222,12 @@ pub(crate) fn run_held<R: Threads + Wait + Sync, G: Gate + Sync>(
     if shelves.len() != SHELVES {
         return Err(AllocError);
     }
+    let (ends, names) = told_by(alloc, finish)?;
+    let text = Vec::from_slice(alloc, sink.taken())?;
     Ok(Outcome {
-        ends: ends_of(alloc, &finish)?,
-        text: Vec::from_slice(alloc, sink.taken())?,
-        finish,
+        ends,
+        text,
+        names,
         disk,
         other,
     })
