@@ -45,6 +45,11 @@ pub trait CellCaller<C: Cells> {
     /// which is a hint.
     fn rest<R: Wait>(&self, rt: &R, board: &Board<C>) -> u64
         requires board { calls_on board.now self.now };
+
+    /// Whether its rest does what others have left to do, so that it need not wake them. It is a hint.
+    fn helps(&self) -> bool {
+        false
+    }
 }
 
 impl<C: Cells> CellCaller<C> for Pass<C> {

@@ -91,7 +91,7 @@ pub fn purge_all<R: Wait, P: CellCaller<ShardCells>>(
             statement: 0,
             work: Work::Shard(ShardCall::Purge { epoch }),
         };
-        post_job::<CoreShard, R, P>(rt, board, caller, size, 0, number, job);
+        post_job::<CoreShard, R, P>(rt, board, caller, size, 0, number, job, true);
     }
     'fetches: for number in 0..size.shards {
         let _ = fetch_answer::<CoreShard, R, P>(rt, board, caller, size, 0, number);

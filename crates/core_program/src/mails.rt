@@ -19,7 +19,7 @@ use mail_cell::Fetched;
 use std::sync::Wait;
 use turn_board::Board;
 
-/// Posts a job to a mail and wakes whoever serves it. The client knows that it may.
+/// Posts a job to a mail, and wakes whoever serves it where it is said to. The client knows that it may.
 #[inline(always)]
 pub fn post_job<S: LinkedShard, R: Wait, P: CellCaller<CoreCells<S>>>(
     rt: &R,
@@ -29,6 +29,7 @@ pub fn post_job<S: LinkedShard, R: Wait, P: CellCaller<CoreCells<S>>>(
     client: u32,
     number: u32,
     job: Job,
+    wakes: bool,
 )
     requires board { P.calls_on board.now caller.old }
     requires callers { size.now.sessions + 2 + size.now.shards ≤ callers_of board.now }
@@ -51,7 +52,9 @@ pub fn post_job<S: LinkedShard, R: Wait, P: CellCaller<CoreCells<S>>>(
     let cell = size.mail_cell(number);
     let post = MailCall::Post { client, job };
     expect_posted(caller.call(rt, board, cell, CoreCall::Mail(post)));
-    board.ring(size.server_of(number));
+    if wakes {
+        board.ring(size.server_of(number));
+    }
 }
 
 // Asks a mail once for the answer.

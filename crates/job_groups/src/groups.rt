@@ -54,6 +54,8 @@ pub fn ask_each_shard<S: LinkedShard, R: Wait, P: CellCaller<CoreCells<S>>>(
     clients_learn_by_each_call::<S>();
     let mut calls = calls;
     let mut answers = answers;
+    // One job may be done here. More are done beside each other.
+    let wakes = size.shards != 1 || !caller.helps();
     'posts: for number in 0..size.shards {
         let call = calls.remove(0);
         let job = Job {
@@ -61,7 +63,7 @@ pub fn ask_each_shard<S: LinkedShard, R: Wait, P: CellCaller<CoreCells<S>>>(
             statement,
             work: Work::Shard(call),
         };
-        post_job(rt, board, caller, size, client, number, job);
+        post_job(rt, board, caller, size, client, number, job, wakes);
     }
     caller.rest(rt, board);
     'fetches: for number in 0..size.shards {

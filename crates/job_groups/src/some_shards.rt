@@ -54,6 +54,8 @@ pub fn ask_some_shards<S: LinkedShard, R: Wait, P: CellCaller<CoreCells<S>>>(
     clients_learn_by_each_call::<S>();
     let mut calls = calls;
     let mut answers = answers;
+    // One job may be done here. More are done beside each other.
+    let wakes = numbers.len() != 1 || !caller.helps();
     'posts: for place in 0..numbers.len() {
         let call = calls.remove(0);
         let job = Job {
@@ -61,7 +63,7 @@ pub fn ask_some_shards<S: LinkedShard, R: Wait, P: CellCaller<CoreCells<S>>>(
             statement,
             work: Work::Shard(call),
         };
-        post_job(rt, board, caller, size, client, numbers[place], job);
+        post_job(rt, board, caller, size, client, numbers[place], job, wakes);
     }
     caller.rest(rt, board);
     'fetches: for place in 0..numbers.len() {

@@ -7,6 +7,11 @@ pub trait Gate {
 
     /// A thread is about to do a job of this statement on a shard.
     fn within(&self, shard: u32, session: u32, statement: u32);
+
+    /// Whether it may hold a thread up. It is a hint.
+    fn may_hold(&self) -> bool {
+        true
+    }
 }
 
 /// A gate that holds nothing up.
@@ -17,4 +22,8 @@ impl Gate for NoGate {
     fn before(&self, _session: u32, _statement: u32) {}
 
     fn within(&self, _shard: u32, _session: u32, _statement: u32) {}
+
+    fn may_hold(&self) -> bool {
+        false
+    }
 }

@@ -58,6 +58,6 @@ pub fn ask_flush<R: Wait, P: CellCaller<ShardCells>>(
         statement,
         work: Work::Flush,
     };
-    post_job::<CoreShard, R, P>(rt, board, caller, size, session, size.shards, job);
+    post_job::<CoreShard, R, P>(rt, board, caller, size, session, size.shards, job, true);
     round_answer_in(fetch_answer::<CoreShard, R, P>(rt, board, caller, size, session, size.shards))
 }

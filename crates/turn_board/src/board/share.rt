@@ -87,7 +87,12 @@ impl<C: Cells> Board<C> {
     pub fn rest<R: Wait>(&self, rt: &R, pass: &Pass<C>) -> u64
         requires { IsPassOf self.now pass.now }
     {
-        match self.bells.get(pass.number() as usize) {
+        self.rest_for(rt, pass.number())
+    }
+
+    /// The same for a number whose pass is elsewhere. One thread at a time rests for a number.
+    pub fn rest_for<R: Wait>(&self, rt: &R, number: u32) -> u64 {
+        match self.bells.get(number as usize) {
             Some(bell) => bell.rest(rt),
             None => 0,
         }
