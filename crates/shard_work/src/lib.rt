@@ -5,4 +5,4 @@ mod answers;
 mod jobs;
 mod worker;
 
-pub use worker::work;
+pub use worker::{serve_waiting, work};
