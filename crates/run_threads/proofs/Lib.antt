@@ -1,1 +1,2 @@
 mod EndedRuns
+mod ServedSteps

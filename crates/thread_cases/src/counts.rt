@@ -1,5 +1,5 @@
 //! Sessions add to one cell, and the flusher and the workers wait each for a cell of its own.
-ghost use Rattle.std.specs.Prelude.{◌≡◌, ◌+◌, ◌<◌, ◌^◌, length, IfOk};
+ghost use Rattle.std.specs.Prelude.{◌≡◌, ◌+◌, ◌<◌, ◌^◌, length, IfOk, refl};
 ghost use Rattle.turn_board.specs.Calls.{IsFirst};
 ghost use Rattle.turn_board.specs.Passes.{callers_of, opening_of, view_of, IsPassOf};
 
@@ -8,7 +8,7 @@ use std::alloc::{AllocError, Global};
 use std::sync::Wait;
 use std::thread::Threads;
 use threaded_callers::{
-    CallerWork, Ended, MainWork, Task, ThreadStarter, give_callers, run_on_threads,
+    CallerWork, Ended, MainWork, StepWork, Task, ThreadStarter, give_callers, run_on_threads,
 };
 use turn_board::{Board, Cells, NoMemory, Pass};
 
@@ -97,6 +97,27 @@ impl CallerWork<Counts> for Waiter {
     ) {
         self.told = wait_until_told(rt, board, caller, self.cell);
     }
+}
+
+impl StepWork<Counts> for Waiter {
+    ghost so_far = { λ before after opening number own. after.cell ≡ before.cell };
+
+    fn step<R: Wait, P: CellCaller<Counts>>(
+        &mut self,
+        rt: &R,
+        board: &Board<Counts>,
+        caller: &mut P,
+    ) -> bool {
+        self.told = caller.call(rt, board, self.cell, 0);
+        self.told != 0
+    }
+
+    // Cell 2 is that of the first worker.
+    fn server_of(cell: u32, _works: usize) -> usize {
+        (cell as usize).wrapping_sub(2)
+    }
+
+    ghost begun = { λ work callers opening number may. refl };
 }
 
 fn wait_until_told<R: Wait, P: CellCaller<Counts>>(
@@ -201,6 +222,7 @@ fn ends_as_it_may<R: Threads + Wait + Sync>(
     alloc: Global,
     times: u32,
     most_threads: u64,
+    lends: bool,
 ) -> bool {
     let adder = || Task::new(Adder { times, done: false });
     let Ok(mut sessions) = vec![in alloc; adder(), adder(), adder()] else {
@@ -233,6 +255,8 @@ fn ends_as_it_may<R: Threads + Wait + Sync>(
         starter,
     } = run_on_threads(
         rt,
+        alloc,
+        lends,
         ThreadStarter::new(most_threads),
         board,
         main,
@@ -257,19 +281,19 @@ fn ends_as_it_may<R: Threads + Wait + Sync>(
 
 #[test]
 fn all_works_are_done(rt: HostRuntime) {
-    assert!(rt; ends_as_it_may(&rt, rt.alloc(), 10_000, 3));
+    assert!(rt; ends_as_it_may(&rt, rt.alloc(), 10_000, 3, true));
 }
 
 #[test]
 fn runs_with_too_few_threads_end(rt: HostRuntime) {
     for most_threads in 0..3 {
-        assert!(rt; ends_as_it_may(&rt, rt.alloc(), 100, most_threads));
+        assert!(rt; ends_as_it_may(&rt, rt.alloc(), 100, most_threads, most_threads == 2));
     }
 }
 
 #[test]
 fn many_runs_end(rt: HostRuntime) {
     for times in 1..200 {
-        assert!(rt; ends_as_it_may(&rt, rt.alloc(), times, u64::MAX));
+        assert!(rt; ends_as_it_may(&rt, rt.alloc(), times, u64::MAX, times % 2 == 0));
     }
 }

@@ -37,7 +37,12 @@ module _ {C T Q A W : Type 0} {g : Ghosts C T Q A} (may : W → ℕ → List T �
   pub pass-done : done first task.work (view_of p).opening (first_number (hands_of p)) (first_calls (hands_of p))
   pass-done = coe 0 1 (i. done first task.work (its-opening i) (its-number i) (its-calls i)) d.work
 
-  -- And back.
+  -- And back, by this relation and by another.
+  pub still-so : (relation : W → W → List T → ℕ → List (Event Q A) → Type 0) (after : W) (own : List (Event Q A))
+      → relation first after (view_of p).opening (first_number (hands_of p)) own
+      → relation first after (opening_of b) number own
+  still-so relation after own work = coe 1 0 (i. relation first after (its-opening i) (its-number i) own) work
+
   pub still-done : (after : W) (own : List (Event Q A)) → done first after (view_of p).opening (first_number (hands_of p)) own
       → done first after (opening_of b) number own
-  still-done after own work = coe 1 0 (i. done first after (its-opening i) (its-number i) own) work
+  still-done after own work = still-so done after own work

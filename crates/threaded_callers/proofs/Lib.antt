@@ -2,6 +2,8 @@ mod Elements
 mod Hands
 mod Tasks
 mod DoneSoFar
+mod Crossings
+mod Lent
 mod LastWorkers
 mod Starts
 mod SideEnds

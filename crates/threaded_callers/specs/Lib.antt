@@ -2,4 +2,5 @@ pub mod Hands
 pub mod Tasks
 pub mod Ends
 pub mod Starts
+pub mod Stations
 pub mod Sides

@@ -8,6 +8,7 @@ use Rattle.turn_board.specs.declared.board.Board.{Board}
 use Rattle.turn_board.specs.declared.cells.Cells.{Ghosts}
 use Rattle.threaded_callers.specs.Ends.{AmongCallers, FlusherEnded, FlusherStopped, MainEnded, SessionsEnded, WorkDone, WorkersStopped}
 use Rattle.threaded_callers.specs.Starts.{HaveThreads}
+use Rattle.threaded_callers.specs.Stations.{AreListed}
 use Rattle.threaded_callers.specs.Tasks.{AreReady, IsHeldBy, IsMain, IsReady, IsTaskOf, IsWorked, hands_in, others_in, view_in}
 use Rattle.threaded_callers.specs.declared.starter.ThreadStarter.{ThreadStarter}
 use Rattle.threaded_callers.specs.declared.task.Task.{Task}
@@ -57,12 +58,12 @@ module _ {C T Q A M W F : Type 0} {g : Ghosts C T Q A} (stopped : FlusherStopped
 
 module _ {C T Q A M W K F : Type 0} {g : Ghosts C T Q A} (main_may : M → ℕ → List T → Type 0)
     (session_may : W → ℕ → List T → ℕ → Type 0) (worker_may : K → ℕ → List T → ℕ → Type 0)
-    (flusher_may : F → ℕ → List T → ℕ → Type 0) (b : Board C T Q A) where
-  -- Main's side and the workers may begin.
+    (flusher_may : F → ℕ → List T → ℕ → Type 0) (b : Board C T Q A) (works : List K) (from : ℕ) where
+  -- Main's side and the workers may begin, and these are listed.
   pub record MayServe (main : Task C M T Q A g) (sessions : List (Task C W T Q A g)) (workers : List (Task C K T Q A g))
       (flusher : Task C F T Q A g) : Type 0 where
     pub play : MayPlay main_may session_may b main sessions
-    pub serve : (from : ℕ) × AreReady worker_may b from workers
+    pub serve : AreListed worker_may b works from workers
     pub flush : (number : ℕ) × IsReady flusher_may b number flusher
 
 module _ {C T Q A M W K F : Type 0} {g : Ghosts C T Q A} (stopped : FlusherStopped T Q A M)

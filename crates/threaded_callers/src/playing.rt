@@ -4,10 +4,12 @@ ghost use Rattle.threaded_callers.specs.Sides.{HasEnded, HasFinished, HaveEnded,
 ghost use Rattle.threaded_callers.specs.Starts.{HaveThreads};
 ghost use Rattle.threaded_callers.specs.Tasks.{IsHeldBy, IsReady, IsTaskOf, IsWorked};
 
+use crate::helping::Help;
 use crate::main_task::{gather_into, gather_one_into, stop_flusher, stop_workers};
 use crate::starter::ThreadStarter;
+use crate::station::Roster;
 use crate::task::Task;
-use crate::work::{CallerWork, MainWork};
+use crate::work::{CallerWork, MainWork, StepWork};
 use crate::working::{WorkPromise, work_through, work_where};
 use std::snapshot::Snapshot;
 use std::sync::Wait;
@@ -37,14 +39,23 @@ fn play_sessions<
     R: Threads + Wait + Sync,
     M: MainWork<C>,
     W: CallerWork<C> + Send,
->(rt: &R, board: &Board<C>, begins: bool, main: &mut Task<C, M>, sessions: &mut [Task<C, W>])
+    K: StepWork<C> + Send + Drop,
+    L: Roster<C, C::Cell, C::Call, C::Answer, K> + Send + Sync,
+>(
+    rt: &R,
+    board: &Board<C>,
+    help: &Help<'_, '_, C, K, L>,
+    begins: bool,
+    main: &mut Task<C, M>,
+    sessions: &mut [Task<C, W>],
+)
 where
     C::Cell: Send + Sync,
     requires may { MayPlay M.may_begin W.may_begin board.now main.old sessions.old }
     ensures { HaveEnded M.has_stopped W.has_done board.now begins main.old main.new sessions.old
         sessions.new }
 {
-    work_where(rt, board, sessions, begins);
+    work_where(rt, board, help, sessions, begins);
     gather_into(board, main, sessions);
     stop_flusher(rt, board, main);
 }
@@ -55,9 +66,12 @@ fn play_side<
     R: Threads + Wait + Sync,
     M: MainWork<C> + Drop,
     W: CallerWork<C> + Send + Drop,
+    K: StepWork<C> + Send + Drop,
+    L: Roster<C, C::Cell, C::Call, C::Answer, K> + Send + Sync,
 >(
     rt: &R,
     board: &Board<C>,
+    help: &Help<'_, '_, C, K, L>,
     begins: bool,
     main: Task<C, M>,
     sessions: Vec<Task<C, W>>,
@@ -70,7 +84,7 @@ where
 {
     let mut main = main;
     let mut sessions = sessions;
-    play_sessions(rt, board, begins, &mut main, sessions.as_mut_slice());
+    play_sessions(rt, board, help, begins, &mut main, sessions.as_mut_slice());
     MainSide { main, sessions }
 }
 
@@ -91,11 +105,14 @@ fn flush_beside<
     M: MainWork<C> + Drop,
     W: CallerWork<C> + Send + Drop,
     F: CallerWork<C> + Send + Drop + 's,
+    K: StepWork<C> + Send + Drop + 's,
+    L: Roster<C, C::Cell, C::Call, C::Answer, K> + Send + Sync + 's,
 >(
     rt: &'s R,
     scope: &Scope<'s, E>,
     starter: &mut ThreadStarter,
     board: &'s Board<C>,
+    help: &Help<'_, '_, C, K, L>,
     main: Task<C, M>,
     sessions: Vec<Task<C, W>>,
     flusher: Task<C, F>,
@@ -122,7 +139,7 @@ where
         { work_through(rt, board, flusher) },
     ) {
         Ok(handle) => {
-            let side = play_side(rt, board, true, main, sessions);
+            let side = play_side(rt, board, help, true, main, sessions);
             FlushedSide {
                 side,
                 flusher: handle.join(rt),
@@ -130,7 +147,7 @@ where
             }
         }
         Err(refused) => {
-            let side = play_side(rt, board, false, main, sessions);
+            let side = play_side(rt, board, help, false, main, sessions);
             FlushedSide {
                 side,
                 flusher: (refused.value)(),
@@ -149,11 +166,14 @@ fn play_beside_flusher<
     M: MainWork<C> + Drop,
     W: CallerWork<C> + Send + Drop,
     F: CallerWork<C> + Send + Drop + 's,
+    K: StepWork<C> + Send + Drop + 's,
+    L: Roster<C, C::Cell, C::Call, C::Answer, K> + Send + Sync + 's,
 >(
     rt: &'s R,
     scope: &Scope<'s, E>,
     starter: &mut ThreadStarter,
     board: &'s Board<C>,
+    help: &Help<'_, '_, C, K, L>,
     main: Task<C, M>,
     sessions: Vec<Task<C, W>>,
     flusher: Task<C, F>,
@@ -172,7 +192,7 @@ where
         side,
         mut flusher,
         began,
-    } = flush_beside(rt, scope, starter, board, main, sessions, flusher);
+    } = flush_beside(rt, scope, starter, board, help, main, sessions, flusher);
     let MainSide { mut main, sessions } = side;
     gather_one_into(board, &mut main, &mut flusher);
     Played {
@@ -191,10 +211,13 @@ fn play_nothing<
     M: MainWork<C> + Drop,
     W: CallerWork<C> + Send + Drop,
     F: CallerWork<C> + Drop,
+    K: StepWork<C> + Send + Drop,
+    L: Roster<C, C::Cell, C::Call, C::Answer, K> + Send + Sync,
 >(
     rt: &R,
     _starter: &ThreadStarter,
     board: &Board<C>,
+    help: &Help<'_, '_, C, K, L>,
     main: Task<C, M>,
     sessions: Vec<Task<C, W>>,
     flusher: Task<C, F>,
@@ -212,7 +235,7 @@ where
         result.main sessions.items result.sessions.items flusher result.flusher }
 {
     let mut flusher = flusher;
-    let MainSide { mut main, sessions } = play_side(rt, board, false, main, sessions);
+    let MainSide { mut main, sessions } = play_side(rt, board, help, false, main, sessions);
     gather_one_into(board, &mut main, &mut flusher);
     Played {
         main,
@@ -233,11 +256,14 @@ fn play<
     M: MainWork<C> + Drop,
     W: CallerWork<C> + Send + Drop,
     F: CallerWork<C> + Send + Drop + 's,
+    K: StepWork<C> + Send + Drop + 's,
+    L: Roster<C, C::Cell, C::Call, C::Answer, K> + Send + Sync + 's,
 >(
     rt: &'s R,
     scope: &Scope<'s, E>,
     starter: &mut ThreadStarter,
     board: &'s Board<C>,
+    help: &Help<'_, '_, C, K, L>,
     main: Task<C, M>,
     sessions: Vec<Task<C, W>>,
     flusher: Task<C, F>,
@@ -254,9 +280,9 @@ where
 {
     let refused = starter.has_refused();
     if refused {
-        play_nothing(rt, starter, board, main, sessions, flusher)
+        play_nothing(rt, starter, board, help, main, sessions, flusher)
     } else {
-        play_beside_flusher(rt, scope, starter, board, main, sessions, flusher)
+        play_beside_flusher(rt, scope, starter, board, help, main, sessions, flusher)
     }
 }
 
@@ -269,11 +295,14 @@ pub(crate) fn play_whole<
     M: MainWork<C> + Drop,
     W: CallerWork<C> + Send + Drop,
     F: CallerWork<C> + Send + Drop + 's,
+    K: StepWork<C> + Send + Drop + 's,
+    L: Roster<C, C::Cell, C::Call, C::Answer, K> + Send + Sync + 's,
 >(
     rt: &'s R,
     scope: &Scope<'s, E>,
     starter: &mut ThreadStarter,
     board: &'s Board<C>,
+    help: &Help<'_, '_, C, K, L>,
     main: Task<C, M>,
     sessions: Vec<Task<C, W>>,
     flusher: Task<C, F>,
@@ -289,7 +318,7 @@ where
         result.flushed number main result.main sessions.items result.sessions.items flusher
         result.flusher }
 {
-    let mut played = play(rt, scope, starter, board, main, sessions, flusher);
+    let mut played = play(rt, scope, starter, board, help, main, sessions, flusher);
     stop_workers(rt, board, &mut played.main, played.began);
     played
 }

@@ -1,5 +1,5 @@
 //! All works on threads, and the board that is shut behind them.
-ghost use Rattle.std.specs.Prelude.{◌≡◌, ◌+◌, ◌<◌, ℕ, [], false, IsTrue, length, slice_index_or};
+ghost use Rattle.std.specs.Prelude.{◌≡◌, ◌+◌, ◌<◌, ◌≤◌, ℕ, [], false, IsTrue, length, slice_index_or};
 ghost use Rattle.threaded_callers.specs.Ends.{HaveRun};
 ghost use Rattle.threaded_callers.specs.Sides.{MayPlay};
 ghost use Rattle.threaded_callers.specs.Starts.{HaveThreads};
@@ -13,7 +13,8 @@ use crate::serving::{Joined, Served, serve};
 use crate::sharing::{share_out, split_first};
 use crate::starter::ThreadStarter;
 use crate::task::Task;
-use crate::work::{CallerWork, MainWork};
+use crate::work::{CallerWork, MainWork, StepWork};
+use std::alloc::Global;
 use std::sync::Wait;
 use std::thread::Threads;
 use turn_board::{Board, Cells, Pass};
@@ -73,15 +74,20 @@ pub fn give_callers<C: Cells, M: MainWork<C>, W: CallerWork<C>, K: CallerWork<C>
 /// A session whose thread is refused is done here. A worker or the flusher has to work beside the
 /// sessions: where one of these is refused a thread no session begins, main stops the others, and what
 /// has no thread is done here then. So nobody waits for a thread that there is not.
+///
+/// Where it lends, a session that rests does first what its last call left to do, if no worker is at it.
+/// So it goes without a thread's waking. Without memory for that it is done by the workers alone.
 pub fn run_on_threads<
     C: Cells + Send + Sync,
     R: Threads + Wait + Sync,
     M: MainWork<C> + Drop,
     W: CallerWork<C> + Send + Drop,
-    K: CallerWork<C> + Send + Drop,
+    K: StepWork<C> + Send + Drop,
     F: CallerWork<C> + Send + Drop,
 >(
     rt: &R,
+    alloc: Global,
+    lends: bool,
     starter: ThreadStarter,
     board: Board<C>,
     main: Task<C, M>,
@@ -91,6 +97,7 @@ pub fn run_on_threads<
 ) -> Ended<C, M, W, K, F>
 where
     C::Cell: Send + Sync,
+    requires callers { 1 + length sessions.items + length workers.items ≤ callers_of board }
     requires play { MayPlay M.may_begin W.may_begin board main sessions.items }
     requires serve { AreReady K.may_begin board (1 + length sessions.items) workers.items }
     requires flush { IsReady F.may_begin board (1 + length sessions.items + length workers.items)
@@ -103,7 +110,9 @@ where
         result.played.main.work sessions.items result.played.sessions.items workers.items
         result.workers.items flusher.work result.played.flusher.work result.cells.items }
 {
-    let Joined { served, starter } = serve(rt, starter, &board, main, sessions, workers, flusher);
+    let Joined { served, starter } = serve(
+        rt, alloc, lends, starter, &board, main, sessions, workers, flusher,
+    );
     let Served {
         mut workers,
         mut played,

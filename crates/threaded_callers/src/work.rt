@@ -1,5 +1,5 @@
 //! What callers do: each its work, and main besides.
-ghost use Rattle.std.specs.Prelude.{◌≡◌, ℕ, Bool, List, []};
+ghost use Rattle.std.specs.Prelude.{◌≡◌, ℕ, Bool, MatchBool, List, []};
 ghost use Rattle.turn_board.specs.Passes.{callers_of};
 ghost use Rattle.turn_board.specs.declared.history.Event.{Event};
 
@@ -46,6 +46,38 @@ pub trait CallerWork<C: Cells> {
             (P.number _caller.old) (P.own _caller.old) → has_done first self.new
             (P.opening _caller.old) (P.number _caller.old) (P.own _caller.new) }
     {}
+}
+
+/// Work that may be done in steps, by whoever has time for one.
+pub trait StepWork<C: Cells>: CallerWork<C> {
+    /// What was done so far: of the work before and after, the cells that the board opened with, the caller's number,
+    /// and all calls that it made.
+    ghost so_far: { Self → Self → List C.Cell → ℕ → List (Event C.Call C.Answer) → Type 0 };
+
+    /// Does what is there to do now, and waits for nobody. It tells whether the work is done.
+    fn step<R: Wait, P: CellCaller<C>>(&mut self, rt: &R, board: &Board<C>, caller: &mut P) -> bool
+        requires board { P.calls_on board.now caller.old }
+        requires begun { (first : Self) × Self.may_begin first (callers_of board.now)
+            (P.opening caller.old) (P.number caller.old) × so_far first self.old (P.opening caller.old)
+            (P.number caller.old) (P.own caller.old) }
+        ensures board { P.calls_on board.now caller.new }
+        ensures opening { P.opening caller.new ≡ P.opening caller.old }
+        ensures number { P.number caller.new ≡ P.number caller.old }
+        ensures others { P.others caller.new ≡ P.others caller.old }
+        ensures goes_on { (first : Self) → Self.may_begin first (callers_of board.now)
+            (P.opening caller.old) (P.number caller.old) → so_far first self.old (P.opening caller.old)
+            (P.number caller.old) (P.own caller.old) → MatchBool result
+            (Self.has_done first self.new (P.opening caller.old) (P.number caller.old)
+            (P.own caller.new)) (so_far first self.new (P.opening caller.old) (P.number caller.old)
+            (P.own caller.new)) };
+
+    /// The place, among so many of these works, of the one that does what a call on this cell leaves to do. It is a
+    /// hint, and may be any other number.
+    fn server_of(cell: u32, works: usize) -> usize;
+
+    /// A work that may begin was done so far by no call.
+    ghost begun: { (work : Self) (callers : ℕ) (cells : List C.Cell) (caller : ℕ)
+        → Self.may_begin work callers cells caller → so_far work work cells caller [] };
 }
 
 /// The work of main, the caller that waits for the others: it stops the flusher once the sessions have

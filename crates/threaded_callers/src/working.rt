@@ -3,8 +3,10 @@ ghost use Rattle.std.specs.Prelude.{◌≡◌, ℕ, ◌+◌, ◌<◌, length, sl
 ghost use Rattle.threaded_callers.specs.Ends.{TaskEnds};
 ghost use Rattle.threaded_callers.specs.Tasks.{AreReady, GoesOn, IsDoneSoFar, IsReady, IsWorked};
 
+use crate::helping::{Help, work_helping};
+use crate::station::Roster;
 use crate::task::Task;
-use crate::work::CallerWork;
+use crate::work::{CallerWork, StepWork};
 use std::snapshot::Snapshot;
 use std::sync::Wait;
 use std::thread;
@@ -51,12 +53,14 @@ impl<'b, C: Cells, W: CallerWork<C>> Promise<Task<C, W>> for WorkPromise<'b, C, 
     ghost kept_by = { λ p task. IsWorked W.has_done p.board.now p.before.value task };
 }
 
-// Does the works of all tasks, each on a thread of its own where one can be started.
-pub(crate) fn work_all<C: Cells + Send + Sync, R: Threads + Wait + Sync, W: CallerWork<C> + Send>(
-    rt: &R,
-    board: &Board<C>,
-    tasks: &mut [Task<C, W>],
-)
+// Does the works of all tasks, each on a thread of its own where one can be started. They help the workers while they wait.
+pub(crate) fn work_all<
+    C: Cells + Send + Sync,
+    R: Threads + Wait + Sync,
+    W: CallerWork<C> + Send,
+    K: StepWork<C> + Send + Drop,
+    L: Roster<C, C::Cell, C::Call, C::Answer, K> + Send + Sync,
+>(rt: &R, board: &Board<C>, help: &Help<'_, '_, C, K, L>, tasks: &mut [Task<C, W>])
 where
     C::Cell: Send + Sync,
     requires ready { (from : ℕ) × AreReady W.may_begin board.now from tasks.old }
@@ -70,7 +74,7 @@ where
         &|_, task: &mut Task<C, W>|
             requires ready { (number : ℕ) × IsReady W.may_begin board.now number task.old }
             ensures { IsWorked W.has_done board.entry.now task.old task.new }
-        { work_task(rt, board, task) },
+        { work_helping(rt, board, help, task) },
     );
 }
 
@@ -102,12 +106,13 @@ fn finish_all<C: Cells, R: Wait, W: CallerWork<C>>(
 }
 
 // Does the works of all tasks, or of none. Once all are done, each goes on here.
-pub(crate) fn work_where<C: Cells + Send + Sync, R: Threads + Wait + Sync, W: CallerWork<C> + Send>(
-    rt: &R,
-    board: &Board<C>,
-    tasks: &mut [Task<C, W>],
-    begins: bool,
-)
+pub(crate) fn work_where<
+    C: Cells + Send + Sync,
+    R: Threads + Wait + Sync,
+    W: CallerWork<C> + Send,
+    K: StepWork<C> + Send + Drop,
+    L: Roster<C, C::Cell, C::Call, C::Answer, K> + Send + Sync,
+>(rt: &R, board: &Board<C>, help: &Help<'_, '_, C, K, L>, tasks: &mut [Task<C, W>], begins: bool)
 where
     C::Cell: Send + Sync,
     requires ready { (from : ℕ) × AreReady W.may_begin board.now from tasks.old }
@@ -116,7 +121,7 @@ where
         (slice_index_or tasks.old k d) (slice_index_or tasks.new k d) }
 {
     if begins {
-        work_all(rt, board, tasks);
+        work_all(rt, board, help, tasks);
         finish_all(rt, board, tasks);
     }
 }

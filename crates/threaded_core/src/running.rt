@@ -91,6 +91,7 @@ fn run_on_board<
     G: Gate + Sync,
 >(
     rt: &R,
+    alloc: Global,
     starter: ThreadStarter,
     board: Board<ShardCells>,
     pass: Pass<ShardCells>,
@@ -138,7 +139,17 @@ fn run_on_board<
         workers: _,
         played,
         starter,
-    } = run_on_threads(rt, starter, board, main, sessions, workers, flusher);
+    } = run_on_threads(
+        rt,
+        alloc,
+        !gate.may_hold(),
+        starter,
+        board,
+        main,
+        sessions,
+        workers,
+        flusher,
+    );
     let Played {
         main,
         sessions,
@@ -192,7 +203,7 @@ fn run_with_room<
     } = core;
     match Board::new(alloc, cells, size.callers()) {
         Ok((board, pass)) => Ok(run_on_board(
-            rt, starter, board, pass, size, sessions, maker, gate, room,
+            rt, alloc, starter, board, pass, size, sessions, maker, gate, room,
         )),
         Err(NoMemory { cells }) => Err(ReadyCore {
             size,

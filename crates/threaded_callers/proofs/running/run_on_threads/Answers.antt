@@ -61,7 +61,7 @@ pub serve-served-requires-clause-may : goal.serve-served-requires-clause-may
 serve-served-requires-clause-may g c κs within = c.requires.play
 
 pub serve-served-requires-clause-workers : goal.serve-served-requires-clause-workers
-serve-served-requires-clause-workers g c κs within = (1 + length c.args.sessions.items, c.requires.serve)
+serve-served-requires-clause-workers g c κs within = c.requires.serve
 
 pub serve-served-requires-clause-flusher : goal.serve-served-requires-clause-flusher
 serve-served-requires-clause-flusher g c κs within =

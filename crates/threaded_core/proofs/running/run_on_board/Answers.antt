@@ -1,3 +1,4 @@
+use Rattle.std.proofs.Common.{arith}
 use Rattle.turn_board.specs.Passes.{callers_of, opening_of}
 use Rattle.threaded_core.proofs.RanTasks.{core_left, has_run, works_left}
 use Rattle.threaded_core.proofs.running.run_on_board.Goals as goal
@@ -26,3 +27,9 @@ returns-clause-run g c =
     c.requires.may c.begin_all-main.ensures.tasks c.run_on_threads-cells.ensures.run
     c.ended_boards_are_core_runs.ensures c.take_apart.result c.works_of.result c.works_of.ensures
     c.take_apart.ensures.parts c.take_apart.ensures.many
+
+pub run_on_threads-cells-requires-clause-callers : goal.run_on_threads-cells-requires-clause-callers
+run_on_threads-cells-requires-clause-callers g c κs within =
+    let tasks = c.begin_all-main.ensures.tasks in let sessions = tasks.sessions.as_many in let workers = tasks.workers in
+    let many = c.requires.may.as_many in let callers = c.requires.callers in
+    omega (arith, sessions, workers, many, callers)
