@@ -179,7 +179,11 @@ struct GeneratedInput {
 }
 
 // Reads the cubes file and the scripts of a run over so many rows from the first shelf, and gives that back.
-fn read_first_shelf(alloc: Global, rows: u64) -> Result<(RunInput, ShelfMemory), AllocError>
+fn read_first_shelf<R: Threads + Sync>(
+    rt: &R,
+    alloc: Global,
+    rows: u64,
+) -> Result<(RunInput, ShelfMemory), AllocError>
     ensures read { IfOk result (λ r. ReadsGenerated rows r.0) }
     ensures cubes { IfOk result (λ r. AreDeclared r.0.cubes.items) }
     ensures said { IfOk result (λ r. AllByRecursion MayBeSaid r.0.scripts.items) }
@@ -189,7 +193,7 @@ fn read_first_shelf(alloc: Global, rows: u64) -> Result<(RunInput, ShelfMemory),
     scripts_that_were_read_may_be_given();
     let names = script_names(alloc)?;
     let mut shelf = first_shelf(alloc, rows)?;
-    match read_run_files(alloc, &mut shelf, CUBES, names.as_slice()) {
+    match read_run_files(rt, alloc, &mut shelf, CUBES, names.as_slice()) {
         Ok(input) => Ok((input, shelf)),
         // The files are in order, so that memory ran out.
         Err(_) => Err(AllocError),
@@ -197,7 +201,11 @@ fn read_first_shelf(alloc: Global, rows: u64) -> Result<(RunInput, ShelfMemory),
 }
 
 // Reads what a run over so many rows plays, and gives each session its shelf.
-fn read_generated(alloc: Global, rows: u64) -> Result<GeneratedInput, AllocError>
+fn read_generated<R: Threads + Sync>(
+    rt: &R,
+    alloc: Global,
+    rows: u64,
+) -> Result<GeneratedInput, AllocError>
     ensures read { IfOk result (λ g. ReadsGenerated rows g.input) }
     ensures cubes { IfOk result (λ g. AreDeclared g.input.cubes.items) }
     ensures said { IfOk result (λ g. AllByRecursion MayBeSaid g.input.scripts.items) }
@@ -206,7 +214,7 @@ fn read_generated(alloc: Global, rows: u64) -> Result<GeneratedInput, AllocError
         map files_told g.shelves.items ≡ generated_shelves rows) }
 {
     let mut shelves = Vec::with_capacity(alloc, 4)?;
-    let (input, shelf) = read_first_shelf(alloc, rows)?;
+    let (input, shelf) = read_first_shelf(rt, alloc, rows)?;
     shelves.push(shelf)?;
     shelves.push(part_shelf(alloc, rows, 2)?)?;
     shelves.push(part_shelf(alloc, rows, 3)?)?;
@@ -230,7 +238,7 @@ fn play_generated<R: Threads + Wait + Sync, G: Gate + Sync>(
     ensures counters { IfOk result (λ ran. ran.counters ≡ counters 0 ran.journal.items) }
 {
     a_core_without_a_store_keeps_no_rounds();
-    let GeneratedInput { input, shelves } = read_generated(alloc, command.rows as u64)?;
+    let GeneratedInput { input, shelves } = read_generated(rt, alloc, command.rows as u64)?;
     let kept = kept_at_start(alloc, input.cubes.as_slice())?;
     let size = CoreSize::new(command.settings.shards, 4);
     match play_run(

@@ -70,6 +70,7 @@ pub(crate) fn run_command<
         scripts,
     } = command;
     match read_run_files(
+        rt,
         alloc,
         &mut outside.shelves[0],
         cubes.as_str(),

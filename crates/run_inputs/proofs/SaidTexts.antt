@@ -1,8 +1,10 @@
 -- A script that was read, and what its texts say.
-use Rattle.std.proofs.Common.{◌≡◌, ◌∙◌, ℕ, ◌+◌, ◌≤◌, ◌<◌, List, [], ◌∷◌, ◌++◌, length, take, get_or, refl, sym, ap, subst, Option, Some, None, Result, Ok, Err, IfOk}
+use Rattle.std.proofs.Common.{◌≡◌, ◌∙◌, ℕ, ◌+◌, ◌≤◌, ◌<◌, List, [], ◌∷◌, ◌++◌, length, take, get_or, refl, sym, ap, subst, map, Option, Some, None, Result, Ok, Err, IfOk}
 use Rattle.std.proofs.lemmas.List.{take_more}
 use Rattle.std.proofs.lemmas.Slice.Zip.{AllZip-long}
 use Rattle.std.specs.Global.{Vec}
+use Rattle.std.specs.List.{AllZip}
+use Rattle.std.specs.declared.alloc.AllocError.{AllocError}
 use Rattle.cube_language.specs.declared.piece.Piece.{Piece}
 use Rattle.cube_language.specs.declared.piece.TheConstants.{MOST_STATEMENTS}
 use Rattle.cube_run.specs.RunRecords.{IsSaidBy}
@@ -21,18 +23,14 @@ use Rattle.script_sentences.specs.Sentences.{SaysInPlace, SaysInTurn, sentence_o
 use Rattle.script_sentences.specs.declared.said.Said.{Said}
 use Rattle.sql_words.specs.Texts.{AreTextsAt, piece_bytes}
 
--- One text more.
-pub says-more : (script : List ℕ) (pieces : List Piece) (i : ℕ) (d : Piece) (text : List ℕ) (said more : List Said)
-    (one : Said) → i < length pieces → text ≡ piece_bytes script (get_or pieces i d)
-    → SaysInTurn script (take i pieces) said → IsSaidBy text (sentence_of one) → more ≡ said ++ one ∷ []
-    → SaysInTurn script (take (i + 1) pieces) more
-says-more script pieces i d text said more one lt is says spoken e =
-    let in_place : SaysInPlace script (get_or pieces i d) one =
-    subst (λ bytes. IsSaidBy bytes (sentence_of one)) is spoken
-    in
-    subst (λ ps. SaysInTurn script ps more) (sym (take_more pieces i d lt))
-    (subst (SaysInTurn script (take i pieces ++ get_or pieces i d ∷ [])) (sym e)
-    (zip-more (SaysInPlace script) (take i pieces) said (get_or pieces i d) one says in_place))
+-- The texts say what the answers give, which are all there.
+pub says-by-answers : (script : List ℕ) (pieces : List Piece) (said : List Said)
+    → AllZip (λ piece (answer : Result Said AllocError). IfOk answer (SaysInPlace script piece)) pieces (map Ok said)
+    → SaysInTurn script pieces said
+says-by-answers script [] [] h = h
+says-by-answers script [] (one ∷ said) h = absurd h
+says-by-answers script (piece ∷ pieces) [] h = absurd h
+says-by-answers script (piece ∷ pieces) (one ∷ said) h = (h.0, says-by-answers script pieces said h.1)
 
 -- As many as there are texts.
 pub count-if-ok : {E : Type 0} (bytes : List ℕ) (items pieces : List Piece) (answer : Result (Vec Said) E)

@@ -16,6 +16,7 @@ use outside::Shelf;
 use run_files::{BadFile, files_decide_their_end, read_cubes};
 use script_sentences::Said;
 use std::alloc::Global;
+use std::thread::Threads;
 
 /// What a run of scripts is given: its cubes, and what the texts of each script say.
 #[derive(Drop)]
@@ -25,7 +26,8 @@ pub struct RunInput {
 }
 
 // What a run over these cubes is given by the scripts of these names.
-fn read_over_cubes<H: Shelf>(
+fn read_over_cubes<R: Threads + Sync, H: Shelf>(
+    rt: &R,
     alloc: Global,
     shelf: &mut H,
     declared: Vec<Schema>,
@@ -39,7 +41,7 @@ fn read_over_cubes<H: Shelf>(
     ensures ends { ReadingEnds (GiveOverCubes declared.items scripts.now) (H.told shelf.old)
         (H.call_list shelf.old) (H.call_list shelf.new) (script_files 1 scripts.now) result }
 {
-    match read_scripts(alloc, shelf, scripts) {
+    match read_scripts(rt, alloc, shelf, scripts) {
         Ok(said) => Ok(RunInput {
             cubes: declared,
             scripts: said,
@@ -49,7 +51,8 @@ fn read_over_cubes<H: Shelf>(
 }
 
 // Reads the cubes file and then the scripts.
-fn read_in_turn<H: Shelf>(
+fn read_in_turn<R: Threads + Sync, H: Shelf>(
+    rt: &R,
     alloc: Global,
     shelf: &mut H,
     cubes: &str,
@@ -65,15 +68,16 @@ fn read_in_turn<H: Shelf>(
         (files_of_run cubes.now scripts.now) result }
 {
     match read_cubes(alloc, shelf, cubes) {
-        Ok(declared) => read_over_cubes(alloc, shelf, declared, scripts),
+        Ok(declared) => read_over_cubes(rt, alloc, shelf, declared, scripts),
         Err(error) => Err(error),
     }
 }
 
 /// Reads the cubes file and then the scripts of these names, and parses them, up to the first file that is bad: no
-/// file after that is read. The shelf's counts of absences and of faults rise just where that is the cause. Want of
+/// file after that is read. The statements of a long script are parsed on all processors. The shelf's counts of absences and of faults rise just where that is the cause. Want of
 /// memory may be answered at any time.
-pub fn read_run_files<H: Shelf>(
+pub fn read_run_files<R: Threads + Sync, H: Shelf>(
+    rt: &R,
     alloc: Global,
     shelf: &mut H,
     cubes: &str,
@@ -97,5 +101,5 @@ pub fn read_run_files<H: Shelf>(
         → IfFault result (λ _. ⊥) }
 {
     files_decide_their_end();
-    read_in_turn(alloc, shelf, cubes, scripts)
+    read_in_turn(rt, alloc, shelf, cubes, scripts)
 }

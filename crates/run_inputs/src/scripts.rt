@@ -12,20 +12,26 @@ use outside::Shelf;
 use run_files::{BadFile, Script, read_script};
 use script_sentences::Said;
 use std::alloc::Global;
+use std::thread::Threads;
 
 // What a script that was read says, or want of memory.
-fn said_of(alloc: Global, script: &Script) -> Result<Vec<Said>, CallError<BadFile>>
-    requires { AreTextsAt script.now.bytes.items script.now.pieces }
+fn said_of<R: Threads + Sync>(
+    rt: &R,
+    alloc: Global,
+    script: &Script,
+) -> Result<Vec<Said>, CallError<BadFile>>
+    requires texts { AreTextsAt script.now.bytes.items script.now.pieces }
     ensures { ShowsScriptSaid script.now.bytes.items script.now.pieces result }
 {
-    match script_said(alloc, script) {
+    match script_said(rt, alloc, script) {
         Ok(said) => Ok(said),
         Err(_) => Err(CallError::NoMemory),
     }
 }
 
 // What the script of a number and a name says.
-fn read_one<H: Shelf>(
+fn read_one<R: Threads + Sync, H: Shelf>(
+    rt: &R,
     alloc: Global,
     shelf: &mut H,
     number: u64,
@@ -40,13 +46,14 @@ fn read_one<H: Shelf>(
         (H.call_list shelf.old) (H.call_list shelf.new) (ScriptFile number name.now) result }
 {
     match read_script(alloc, shelf, number, name) {
-        Ok(script) => said_of(alloc, &script),
+        Ok(script) => said_of(rt, alloc, &script),
         Err(error) => Err(error),
     }
 }
 
 /// What each of the scripts of these names says, up to the first that is bad.
-pub(crate) fn read_scripts<H: Shelf>(
+pub(crate) fn read_scripts<R: Threads + Sync, H: Shelf>(
+    rt: &R,
     alloc: Global,
     shelf: &mut H,
     names: &[Text],
@@ -61,7 +68,7 @@ pub(crate) fn read_scripts<H: Shelf>(
 {
     let mut scripts = Vec::new(alloc);
     'names: for (i, name) in names.iter().enumerate() {
-        let said = match read_one(alloc, shelf, i as u64 + 1, name.as_str()) {
+        let said = match read_one(rt, alloc, shelf, i as u64 + 1, name.as_str()) {
             Ok(said) => said,
             Err(error) => return Err(error),
         };

@@ -4,8 +4,8 @@ use Rattle.run_files.specs.declared.bad_file.BadFile.{BadFile}
 use Rattle.run_inputs.proofs.SaidTexts.{no-bad-said, one-said, one-unread, texts-stand}
 use Rattle.run_inputs.proofs.scripts.read_one.Goals as goal
 
-pub said_of-requires : goal.said_of-requires
-said_of-requires g c =
+pub said_of-requires-clause-texts : goal.said_of-requires-clause-texts
+said_of-requires-clause-texts g c κs within =
     texts-stand (g.H.Shelf.told c.args.shelf.now) (g.H.Shelf.call_list c.args.shelf.now)
     (g.H.Shelf.call_list c.read_script.new.shelf) c.args.number c.args.name.now c.in-Ok.script c.in-Ok.ensures.read
 
