@@ -3,7 +3,7 @@ use Rattle.std.proofs.Common.{◌≡◌, ◌∙◌, ℕ, ◌+◌, Bool, true, fa
 use Rattle.std.specs.Prelude.{flat_map, MatchBool}
 use Rattle.std.specs.Bool.{OnFalse, OnTrue}
 use Rattle.core_program.specs.CoreFits.{CoreEntry}
-use Rattle.shard_work.specs.Serving.{HasServed, HasServedAll, Turn, turn_entries}
+use Rattle.shard_work.specs.Serving.{HasServed, HasServedAll, HasServedWaiting, Turn, turn_entries}
 
 flat-append : (entries : Turn → List CoreEntry) (first more : List Turn)
     → flat_map entries (first ++ more) ≡ flat_map entries first ++ flat_map entries more
@@ -24,9 +24,9 @@ module _ (caller number cell : ℕ) where
   }
 
   -- It has served all where it found the mail closed, and else as far as there was something to do.
-  pub served-so : {X : Type 0} (over : Bool) (own mid now : List CoreEntry) → X → HasServed caller number cell own mid
-      → OnFalse over (HasServed caller number cell mid now) → OnTrue over (HasServedAll caller number cell mid now)
+  pub served-so : {X : Type 0} (over : Bool) (most : ℕ) (own mid now : List CoreEntry) → X → HasServed caller number cell own mid
+      → OnFalse over (HasServedWaiting caller number cell most mid now) → OnTrue over (HasServedAll caller number cell mid now)
       → MatchBool over (HasServedAll caller number cell own now) (X × HasServed caller number cell own now)
-  served-so true own mid now x first some all =
+  served-so true most own mid now x first some all =
       record { before = all.before; served = served-on own mid all.before first all.served; last = all.last }
-  served-so false own mid now x first some all = (x, served-on own mid now first some)
+  served-so false most own mid now x first some all = (x, served-on own mid now first some.served)

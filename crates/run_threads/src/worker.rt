@@ -2,7 +2,7 @@
 ghost use Rattle.std.specs.Prelude.{◌≡◌, ◌+◌, [], refl};
 ghost use Rattle.run_threads.specs.CoreWorks.{MayServeShard};
 ghost use Rattle.shard_work.proofs.Served.{served-none};
-ghost use Rattle.shard_work.specs.Serving.{HasServed, HasServedAll};
+ghost use Rattle.shard_work.specs.Serving.{HasServed, HasServedAll, HasServedWaiting};
 
 use board_callers::CellCaller;
 use core_program::CoreSize;
@@ -41,6 +41,9 @@ impl<'g, G: Gate> CallerWork<ShardCells> for ShardWorker<'g, G> {
 impl<'g, G: Gate> StepWork<ShardCells> for ShardWorker<'g, G> {
     ghost so_far = { λ before after cells caller own. (after ≡ before)
         × HasServed caller before.number (2 + before.size.shards + before.number) [] own };
+
+    ghost has_stepped = { λ w cells caller before now. HasServedWaiting caller w.number
+        (2 + w.size.shards + w.number) (w.size.sessions + 2 + w.size.shards) before now };
 
     fn step<R: Wait, P: CellCaller<ShardCells>>(
         &mut self,

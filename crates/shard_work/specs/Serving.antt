@@ -1,6 +1,6 @@
 -- What the worker of a shard does: one turn after the other, until its mail is closed.
 -- Source: this project's own.
-use Rattle.std.specs.Prelude.{◌≡◌, ℕ, List, [], ◌∷◌, ◌++◌, flat_map}
+use Rattle.std.specs.Prelude.{◌≡◌, ◌⊎◌, ℕ, List, [], ◌∷◌, ◌++◌, length, flat_map}
 use Rattle.mail_cell.specs.declared.answer.Taken.{Taken}
 use Rattle.mail_cell.specs.declared.answer.Taken.TheVariants.{Job as SomeJob, Empty, Closed}
 use Rattle.turn_board.specs.History.{event}
@@ -21,6 +21,12 @@ use Rattle.cube_core.specs.declared.shard.ShardCall.{ShardCall}
 pub data Turn : Type 0 where
   FoundNone : Turn
   DidJob : (client : ℕ) (job : Job) (c : ShardCall) (a : ShardAnswer) (asks : job.work ≡ work.Shard c) → Turn
+
+-- In each of these it does a job.
+abbrev pub AreJobs : List Turn → Type 0
+AreJobs [] = Unit {0}
+AreJobs (FoundNone ∷ turns) = ⊥
+AreJobs (DidJob client job c a asks ∷ turns) = AreJobs turns
 
 -- The calls of a worker, by its own number, that of its shard, and the cell of its mail.
 
@@ -63,3 +69,10 @@ module _ (caller number cell : ℕ) where
     pub before : List CoreEntry
     pub served : HasServed own before
     pub last : now ≡ before ++ take_entry caller cell Closed ∷ []
+
+  -- It did one job after the other until it found none, or had done so many.
+  pub record HasServedWaiting (most : ℕ) (own now : List CoreEntry) : Type 0 where
+    pub served : HasServed own now
+    pub jobs : List Turn
+    pub are_jobs : AreJobs jobs
+    pub ends : (served.turns ≡ jobs ++ FoundNone ∷ []) ⊎ ((served.turns ≡ jobs) × (length jobs ≡ most))

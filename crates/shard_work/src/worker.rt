@@ -2,7 +2,7 @@
 ghost use Rattle.std.specs.Prelude.{◌≡◌, ◌+◌, ◌<◌, ◌≤◌};
 ghost use Rattle.std.specs.Bool.{OnFalse, OnTrue};
 ghost use Rattle.core_program.specs.Workers.{IsWorkerOf, NoneInHand, in_hand};
-ghost use Rattle.shard_work.specs.Serving.{HasServed, HasServedAll};
+ghost use Rattle.shard_work.specs.Serving.{HasServedAll, HasServedWaiting};
 ghost use Rattle.turn_board.specs.Passes.{callers_of};
 
 use crate::jobs::{do_job, take_job};
@@ -77,8 +77,9 @@ pub fn serve_waiting<S: LinkedShard, R: Wait, P: CellCaller<CoreCells<S>>, G: Ga
     ensures opening { P.opening caller.new ≡ P.opening caller.old }
     ensures number { P.number caller.new ≡ P.number caller.old }
     ensures others { P.others caller.new ≡ P.others caller.old }
-    ensures served { OnFalse result (HasServed (P.number caller.old) number
-        (2 + size.now.shards + number) (P.own caller.old) (P.own caller.new)) }
+    ensures served { OnFalse result (HasServedWaiting (P.number caller.old) number
+        (2 + size.now.shards + number) (size.now.sessions + 2 + size.now.shards) (P.own caller.old)
+        (P.own caller.new)) }
     ensures all { OnTrue result (HasServedAll (P.number caller.old) number
         (2 + size.now.shards + number) (P.own caller.old) (P.own caller.new)) }
 {

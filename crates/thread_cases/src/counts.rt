@@ -102,6 +102,8 @@ impl CallerWork<Counts> for Waiter {
 impl StepWork<Counts> for Waiter {
     ghost so_far = { λ before after opening number own. after.cell ≡ before.cell };
 
+    ghost has_stepped = { λ work opening number before now. Unit {0} };
+
     fn step<R: Wait, P: CellCaller<Counts>>(
         &mut self,
         rt: &R,

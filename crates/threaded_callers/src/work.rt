@@ -1,5 +1,6 @@
 //! What callers do: each its work, and main besides.
 ghost use Rattle.std.specs.Prelude.{◌≡◌, ℕ, Bool, MatchBool, List, []};
+ghost use Rattle.std.specs.Bool.{OnFalse};
 ghost use Rattle.turn_board.specs.Passes.{callers_of};
 ghost use Rattle.turn_board.specs.declared.history.Event.{Event};
 
@@ -54,6 +55,11 @@ pub trait StepWork<C: Cells>: CallerWork<C> {
     /// and all calls that it made.
     ghost so_far: { Self → Self → List C.Cell → ℕ → List (Event C.Call C.Answer) → Type 0 };
 
+    /// What a step did that leaves the work to go on: of the work before it, the cells that the board opened with, the
+    /// caller's number, and its calls before and after.
+    ghost has_stepped: { Self → List C.Cell → ℕ → List (Event C.Call C.Answer)
+        → List (Event C.Call C.Answer) → Type 0 };
+
     /// Does what is there to do now, and waits for nobody. It tells whether the work is done.
     fn step<R: Wait, P: CellCaller<C>>(&mut self, rt: &R, board: &Board<C>, caller: &mut P) -> bool
         requires board { P.calls_on board.now caller.old }
@@ -69,7 +75,9 @@ pub trait StepWork<C: Cells>: CallerWork<C> {
             (P.number caller.old) (P.own caller.old) → MatchBool result
             (Self.has_done first self.new (P.opening caller.old) (P.number caller.old)
             (P.own caller.new)) (so_far first self.new (P.opening caller.old) (P.number caller.old)
-            (P.own caller.new)) };
+            (P.own caller.new)) }
+        ensures stepped { OnFalse result (has_stepped self.old (P.opening caller.old) (P.number caller.old)
+            (P.own caller.old) (P.own caller.new)) };
 
     /// The place, among so many of these works, of the one that does what a call on this cell leaves to do. It is a
     /// hint, and may be any other number.

@@ -1,5 +1,5 @@
 use Rattle.std.proofs.Common.{◌≡◌, ◌+◌}
-use Rattle.shard_work.specs.Serving.{HasServed}
+use Rattle.shard_work.proofs.Served.{HasDone}
 use Rattle.shard_work.proofs.worker.serve_waiting.Given as goal
 
 abbrev pub invariant-jobs : goal.invariant-jobs
@@ -8,4 +8,5 @@ invariant-jobs g l =
     × (g.P.CellCaller.opening l.caller ≡ g.P.CellCaller.opening l.fn.caller)
     × (g.P.CellCaller.number l.caller ≡ g.P.CellCaller.number l.fn.caller)
     × (g.P.CellCaller.others l.caller ≡ g.P.CellCaller.others l.fn.caller)
-    × HasServed (g.P.CellCaller.number l.fn.caller) l.number (2 + l.size.shards + l.number) (g.P.CellCaller.own l.fn.caller) (g.P.CellCaller.own l.caller)
+    × HasDone (g.P.CellCaller.number l.fn.caller) l.number (2 + l.size.shards + l.number) (g.P.CellCaller.own l.fn.caller)
+    (g.P.CellCaller.own l.caller) l.counter

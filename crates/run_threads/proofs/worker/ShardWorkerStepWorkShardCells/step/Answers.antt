@@ -36,6 +36,7 @@ returns-clause-goes_on g c first may so_far =
     let w = c.args.self.now in
     subst (λ f. MatchBool c.serve_waiting.result (HasServedAll number f.number (2 + f.size.shards + f.number) [] now)
     ((w ≡ first) × HasServed number f.number (2 + f.size.shards + f.number) [] now)) so_far.0
-    (served-so number w.number (2 + w.size.shards + w.number) c.serve_waiting.result [] before now so_far.0
+    (served-so number w.number (2 + w.size.shards + w.number) c.serve_waiting.result (w.size.sessions + 2 + w.size.shards) []
+    before now so_far.0
     (subst (λ f. HasServed number f.number (2 + f.size.shards + f.number) [] before) (sym so_far.0) so_far.1)
     e.served e.all)
