@@ -20,11 +20,12 @@ use Rattle.cube_core.specs.declared.jobs.JobAnswer.{JobAnswer}
 use Rattle.cube_core.specs.declared.jobs.Work.TheVariants as work
 use Rattle.cube_core.specs.declared.shard.ShardAnswer.{ShardAnswer}
 use Rattle.cube_core.specs.declared.shard.ShardCall.{ShardCall}
-use Rattle.job_groups.proofs.GroupSteps.{IsPostedUpTo, IsFetchedUpTo, none-posted, may-post, next-posted, none-fetched, may-fetch, next-fetched, all-fetched}
+use Rattle.job_groups.proofs.GroupSteps.{IsPostedUpTo, IsFetchedUpTo, none-posted, may-post, next-posted, none-fetched, may-fetch, next-fetched, all-fetched, all-posted}
 use Rattle.job_groups.proofs.Waits.{as-many, number-at, numbers_from, received-in-order}
 use Rattle.job_groups.specs.AskedEach.{AreOfOneKind, HasAskedShards, HasMore, MayAskEach, MayAskShard, kind_of_calls, whole_group}
-use Rattle.job_groups.specs.AskedSome.{LearnsOfSome, MayAskSome, group_of_some, posts_to, received_from}
+use Rattle.job_groups.specs.AskedSome.{MayAskSome, posts_to, received_from}
 use Rattle.job_groups.specs.EachPosted.{LearnsOfEach, posts_from}
+use Rattle.job_groups.specs.PostedSome.{LearnsOfPosts}
 
 -- The first of those that are left of a list.
 pub next-of : {X : Type 0} (xs rest new : List X) (n : ℕ) (x : X) → rest ≡ drop n xs → n < length xs → x ≡ slice_index_or rest 0 x
@@ -163,13 +164,10 @@ module _ {S : Type 0} (fits : Opening → ℕ → ShardCall → Type 0) (stands 
   learns-all group_of n answers now all each fetched is o log run es later are =
       all-fetched fits stands says o client numbers calls own group_of n answers es all each (fetched.learns o log run es later are) is
 
-  pub learns-of-some : (n : ℕ) (answers : List JobAnswer) (now : List CoreEntry) → n ≡ length numbers → length calls ≡ n → FetchedSome n answers now
-      → LearnsOfSome fits stands says cells caller client numbers calls answers own now
-  learns-of-some n answers now all each fetched o log run es later are =
-      let f = fetched.learns o log run es later are in record {
-        asked = all-fetched fits stands says o client numbers calls own (group_of_some numbers calls) n answers es all each f (λ outcomes long. refl);
-        posts = f.posts;
-      }
+  pub learns-of-posts : (n : ℕ) (now : List CoreEntry) → 1 ≤ n → n ≡ length numbers → PostedSome n now
+      → LearnsOfPosts fits stands says cells caller client numbers calls own now
+  learns-of-posts n now some all posted o log run es later are =
+      all-posted fits stands says o client numbers calls own n es some all (posted.learns o log run es later are)
 
 -- A call for each shard.
 pub number-is : (shards place : ℕ) → place < shards → slice_get (numbers_from 0 shards) place ≡ Some place

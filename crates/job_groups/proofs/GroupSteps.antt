@@ -18,9 +18,10 @@ use Rattle.cube_core.specs.declared.jobs.Work.TheVariants as work
 use Rattle.cube_core.specs.declared.shard.ShardAnswer.{ShardAnswer}
 use Rattle.cube_core.specs.declared.shard.ShardCall.{ShardCall}
 use Rattle.cube_core.specs.declared.shard.ShardCall.TheVariants as shard
-use Rattle.job_groups.proofs.Waits.{apart, has-waits, never-empty, none-before, none-left, received-more, take-next, waits-after, waits-has, waits-more, waits_of, whole-taken}
+use Rattle.job_groups.proofs.Waits.{apart, has-waits, never-empty, none-before, none-left, received-more, take-next, waits-after, waits-has, waits-more, whole-taken}
 use Rattle.job_groups.specs.AskedEach.{AreOfOneKind, HasAskedShards, IsGroupCall, StandForEach, kind_of_calls, with_group}
 use Rattle.job_groups.specs.AskedSome.{MayAskSome, posts_among, posts_to, received_from}
+use Rattle.job_groups.specs.PostedSome.{HasPostedSome, waits_of}
 
 -- A call on a shard goes to a shard's mail, and is no FLUSH.
 is-for : (o : Opening) (number : ℕ) (c : ShardCall) → number < o.shards → IsFor o number (call_job c)
@@ -46,7 +47,7 @@ abbrev pub group_posted : GroupKind → JobGroup → List ℕ → JobGroup
 group_posted kind old [] = old
 group_posted kind old (x ∷ xs) = record { kind = kind; waits = waits_of (x ∷ xs); answers = [] }
 
-some-posted : (kind : GroupKind) (old : JobGroup) (posted : List ℕ) → 1 ≤ length posted
+pub some-posted : (kind : GroupKind) (old : JobGroup) (posted : List ℕ) → 1 ≤ length posted
     → group_posted kind old posted ≡ record { kind = kind; waits = waits_of posted; answers = [] }
 some-posted kind old [] le = absurd (omega (arith, le))
 some-posted kind old (x ∷ xs) le = refl
@@ -77,7 +78,7 @@ after-post : (o : Opening) (a n : ℕ) (job : CoreJob) (g : JobGroup) (k : Clien
     → after_client_call o a (Post n job) (with_group g k) ≡ with_group (group_after_post o.shards n job g) k
 after-post o a n job g k = refl
 
-after-fetch : (o : Opening) (a n : ℕ) (outcome : JobOutcome) (g : JobGroup) (k : ClientState) → flush_after_fetch g.kind outcome k.flush ≡ k.flush
+pub after-fetch : (o : Opening) (a n : ℕ) (outcome : JobOutcome) (g : JobGroup) (k : ClientState) → flush_after_fetch g.kind outcome k.flush ≡ k.flush
     → after_client_call o a (Fetch n outcome) (with_group g k) ≡ with_group (group_after_fetch n outcome g) k
 after-fetch o a n outcome g k same = λ i. record (with_group (group_after_fetch n outcome g) k) { flush = same i }
 
@@ -89,12 +90,12 @@ only-waits : (waits : ℕ) (calls : List ClientCall) → AllByRecursion IsGroupC
 only-waits zero calls only = only
 only-waits (suc waits) calls only = (tt, only-waits waits calls only)
 
-waits-by : (client waits : ℕ) (calls : List ClientCall) (before : List CoreEvent)
+pub waits-by : (client waits : ℕ) (calls : List ClientCall) (before : List CoreEvent)
     → replicate waits (By client NoChange) ++ (map (λ c. By client c) calls ++ before) ≡ map (λ c. By client c) (replicate waits NoChange ++ calls) ++ before
 waits-by client zero calls before = refl
 waits-by client (suc waits) calls before = ap (λ (l : List CoreEvent). By client NoChange ∷ l) (waits-by client waits calls before)
 
-posted-waits : (number waits : ℕ) (calls : List ClientCall) → last_posted number (replicate waits NoChange ++ calls) ≡ last_posted number calls
+pub posted-waits : (number waits : ℕ) (calls : List ClientCall) → last_posted number (replicate waits NoChange ++ calls) ≡ last_posted number calls
 posted-waits number zero calls = refl
 posted-waits number (suc waits) calls = posted-waits number waits calls
 
@@ -103,7 +104,7 @@ kinds-flush : (calls : List ShardCall) (n : ℕ) (c : ShardCall) (outcome : JobO
 kinds-flush calls n c outcome flush one is =
     ap (λ (k : GroupKind). flush_after_fetch k outcome flush) (sym (one n c is)) ∙ no-flush c outcome flush
 
-one-longer : (xs : List JobOutcome) (x : JobOutcome) → length (xs ++ x ∷ []) ≡ length xs + 1
+pub one-longer : (xs : List JobOutcome) (x : JobOutcome) → length (xs ++ x ∷ []) ≡ length xs + 1
 one-longer [] x = refl
 one-longer (y ∷ xs) x = let rest = one-longer xs x in omega (arith, rest)
 
@@ -115,7 +116,7 @@ in-or j n lt = at (in-order j n)
     at (inr (inl same)) = inr same
     at (inr (inr high)) = absurd (omega (arith, lt, high))
 
-got-last : {X : Type 0} (xs : List X) (x y : X) (n : ℕ) → slice_get (xs ++ x ∷ []) n ≡ Some y
+pub got-last : {X : Type 0} (xs : List X) (x y : X) (n : ℕ) → slice_get (xs ++ x ∷ []) n ≡ Some y
     → (slice_get xs n ≡ Some y) ⊎ ((n ≡ length xs) × (x ≡ y))
 got-last [] x y zero is = inr (refl, same_Some x y is)
 got-last [] x y (suc n) is = absurd (none-some y is)
@@ -135,7 +136,7 @@ posts-next (x ∷ xs) (d ∷ ds) zero number c at is = λ i. Post (same_Some x n
 posts-next (x ∷ xs) (d ∷ ds) (suc n) number c at is =
     ap (λ (l : List ClientCall). l ++ Post x (call_job d) ∷ []) (posts-next xs ds n number c at is)
 
-posts-all : (numbers : List ℕ) (calls : List ShardCall) (n : ℕ) → n ≡ length numbers
+pub posts-all : (numbers : List ℕ) (calls : List ShardCall) (n : ℕ) → n ≡ length numbers
     → posts_to (take n numbers) (take n calls) ≡ posts_to numbers calls
 posts-all [] calls zero all = refl
 posts-all [] calls (suc n) all = absurd (omega (arith, all))
@@ -144,7 +145,7 @@ posts-all (x ∷ xs) [] (suc n) all = refl
 posts-all (x ∷ xs) (c ∷ calls) (suc n) all =
     ap (λ (l : List ClientCall). l ++ Post x (call_job c) ∷ []) (posts-all xs calls n (omega (arith, all)))
 
-posts-waits : (waits : ℕ) (calls : List ClientCall) → posts_among (replicate waits NoChange ++ calls) ≡ posts_among calls
+pub posts-waits : (waits : ℕ) (calls : List ClientCall) → posts_among (replicate waits NoChange ++ calls) ≡ posts_among calls
 posts-waits zero calls = refl
 posts-waits (suc waits) calls = posts-waits waits calls
 
@@ -243,6 +244,25 @@ module _ {S : Type 0} (fits : Opening → ℕ → ShardCall → Type 0) (stands 
         ap (λ (b : Bool). if b then Some (call_job c) else last_posted other (calls_of client mid))
         (eq-eqb number other (same_Some number other (sym at ∙ ap (slice_get numbers) (sym same) ∙ there)))
         ∙ ap (λ (x : ShardCall). Some (call_job x)) (same_Some c d (sym is ∙ ap (slice_get calls) (sym same) ∙ got))
+
+  -- After all of them.
+  pub all-posted : (n : ℕ) (es : List CoreEvent) → 1 ≤ n → n ≡ length numbers → IsPostedUpTo n es
+      → HasPostedSome fits stands says numbers calls o client own es
+  all-posted n es some all p = record {
+    before = p.before;
+    events = p.events;
+    added = p.added;
+    whole = p.whole;
+    past = p.past;
+    only = p.only;
+    posts = p.posts ∙ posts-all numbers calls n all;
+    group = p.group
+        ∙ ap (λ (l : List ℕ). with_group (group_posted (kind_of_calls calls) (state (calls_of client p.before)).group l) (state (calls_of client p.before)))
+        (whole-taken numbers n all)
+        ∙ ap (λ (g : JobGroup). with_group g (state (calls_of client p.before)))
+        (some-posted (kind_of_calls calls) (state (calls_of client p.before)).group numbers (omega (arith, some, all)));
+    last = λ place number c at got. let low = slice_get_within numbers place number at in p.last place number c (omega (arith, low, all)) at got;
+  }
 
   -- After so many answers.
   pub record IsFetchedUpTo (n : ℕ) (answers : List JobAnswer) (es : List CoreEvent) : Type 0 where

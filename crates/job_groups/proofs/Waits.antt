@@ -6,11 +6,7 @@ use Rattle.core_events.specs.Groups.{Received, has_number, is_empty, numbers_wit
 use Rattle.core_events.specs.Jobs.{JobOutcome}
 use Rattle.job_groups.specs.AskedEach.{received}
 use Rattle.job_groups.specs.AskedSome.{received_from}
-
--- The mails of numbers, the newest first.
-abbrev pub waits_of : List ℕ → List ℕ
-waits_of [] = []
-waits_of (x ∷ xs) = waits_of xs ++ x ∷ []
+use Rattle.job_groups.specs.PostedSome.{waits_of}
 
 pub waits-more : (xs : List ℕ) (x : ℕ) → waits_of (xs ++ x ∷ []) ≡ x ∷ waits_of xs
 waits-more [] x = refl

@@ -1,3 +1,4 @@
 pub mod AskedEach
 pub mod AskedSome
 pub mod EachPosted
+pub mod PostedSome

@@ -7,4 +7,4 @@ mod some_shards;
 
 pub use groups::ask_each_shard;
 pub use law::groups_have_their_answers;
-pub use some_shards::ask_some_shards;
+pub use some_shards::{ask_some_shards, fetch_some_shards, post_some_shards};

@@ -3,9 +3,11 @@ use Rattle.std.proofs.Common.{◌≡◌, ◌∙◌, ℕ, List, [], ◌∷◌, �
 use Rattle.std.specs.List.{AllByRecursion}
 use Rattle.core_agreements.specs.PostsForOperations.{batches_posted}
 use Rattle.core_events.specs.Clients.{calls_of}
-use Rattle.core_events.specs.Events.{ClientCall, OnDesk, OnNames, Post, Fetch, CloseMail, NoChange}
+use Rattle.core_events.specs.Events.{Opening, CoreEvent, ClientCall, OnDesk, OnNames, Post, Fetch, CloseMail, NoChange}
 use Rattle.core_events.specs.Jobs.{Append, DropBox, Scan, Delta, Rollback, Purge, CopyRound, Flush}
 use Rattle.core_program.specs.CoreFits.{CoreEntry}
+use Rattle.cube_core.specs.Links.{AreEventsOf}
+use Rattle.cube_core.specs.BoardCells.{IsEntryEvent}
 use Rattle.cube_core.specs.declared.cell.CoreCell.{CoreCell}
 use Rattle.cube_values.specs.declared.row.CodedRow.{CodedRow}
 use Rattle.cube_values.specs.declared.shape.CubeShape.{CubeShape}
@@ -14,9 +16,10 @@ use Rattle.linked_shards.specs.CellShards.{CoreShardStands}
 use Rattle.linked_shards.specs.declared.cell.CoreShard.{CoreShard}
 use Rattle.posted_changes.proofs.ShardedRows.{rows-at}
 use Rattle.posted_pasts.proofs.AddedCalls.{only-rows}
-use Rattle.posted_pasts.specs.PostsAdded.{AddsAtEpoch, AddsOperations, LearnsThat, PostsRowsAt, batches_among}
-use Rattle.session_batches.specs.PutRows.{HasPut, LearnsOfRows}
-use Rattle.session_batches.specs.RowPosts.{row_posts, shards_with_rows}
+use Rattle.posted_pasts.specs.PostsAdded.{AddsAtEpoch, AddsOperations, GoesOnWith, LearnsThat, PostsRowsAt, batches_among}
+use Rattle.session_batches.specs.PutRows.{LearnsOfRows}
+use Rattle.session_batches.specs.RowPosts.{row_posts}
+use Rattle.session_batches.specs.RowsOut.{LearnsOfPostedRows}
 use Rattle.session_batches.specs.declared.answers.PutEnd.{PutEnd}
 use Rattle.shard_events.specs.ShardsInRuns.{FitsShard, ShardAnswerSays}
 
@@ -48,6 +51,33 @@ same-batches (Post mail (Purge at) ∷ calls) = same-batches calls
 same-batches (Post mail (CopyRound from to) ∷ calls) = same-batches calls
 same-batches (Post mail Flush ∷ calls) = same-batches calls
 
+-- By calls that post just the rows of a cube, each to the shard of its brick, and nothing else.
+posts-add : (o : Opening) (session shards cube epoch : ℕ) (shape : CubeShape) (rows : List CodedRow)
+    (own : List CoreEntry) (before es : List CoreEvent) (added : List ClientCall)
+    → AreEventsOf (IsEntryEvent FitsShard CoreShardStands ShardAnswerSays o) own before
+    → calls_of session es ≡ added ++ calls_of session before
+    → posts_among added ≡ row_posts shape.shape.sizes shards cube epoch rows
+    → GoesOnWith FitsShard CoreShardStands ShardAnswerSays
+    (AddsOperations cube epoch (batches_posted (batches_among (row_posts shape.shape.sizes shards cube epoch rows)))) o
+    session own es
+posts-add o session shards cube epoch shape rows own before es added events is posted =
+    let posts = row_posts shape.shape.sizes shards cube epoch rows in
+    let past = calls_of session before in
+    let each : AllByRecursion (PostsRowsAt cube epoch) added =
+    posts-suffice cube epoch added
+    (subst (λ (calls : List ClientCall). AllByRecursion (PostsRowsAt cube epoch) calls) (sym posted)
+    (rows-at shape.shape.sizes shards cube epoch rows))
+    in
+    let same : batches_among added ≡ batches_among posts = same-batches added ∙ ap batches_among posted in
+    record {
+      before = before;
+      events = events;
+      adds =
+          coe 1 0 (i. AddsOperations cube epoch (batches_posted (batches_among posts)) session o past (is i))
+          (coe 0 1 (i. AddsOperations cube epoch (batches_posted (same i)) session o past (added ++ past))
+          (only-rows o session cube epoch added past each));
+    }
+
 module _ (cells : List (CoreCell CoreShard)) (caller session : ℕ) where
   pub rows-learned : (shards cube epoch : ℕ) (shape : CubeShape) (rows : List CodedRow) (told : PutEnd)
       (own now : List CoreEntry) → LearnsOfRows cells caller session shards cube shape epoch rows told own now
@@ -55,25 +85,17 @@ module _ (cells : List (CoreCell CoreShard)) (caller session : ℕ) where
       (AddsOperations cube epoch
       (batches_posted (batches_among (row_posts shape.shape.sizes shards cube epoch rows)))) cells caller session own now
   rows-learned shards cube epoch shape rows told own now learns = λ o log run es later are.
-      let posts = row_posts shape.shape.sizes shards cube epoch rows in
-      let h : HasPut (shards_with_rows shape.shape.sizes shards rows) posts told o session own es =
-      learns o log run es later are
-      in
-      let past = calls_of session h.before in
-      let each : AllByRecursion (PostsRowsAt cube epoch) h.added =
-      posts-suffice cube epoch h.added
-      (subst (λ (calls : List ClientCall). AllByRecursion (PostsRowsAt cube epoch) calls) (sym h.posted)
-      (rows-at shape.shape.sizes shards cube epoch rows))
-      in
-      let same : batches_among h.added ≡ batches_among posts = same-batches h.added ∙ ap batches_among h.posted in
-      record {
-        before = h.before;
-        events = h.events;
-        adds =
-            coe 1 0 (i. AddsOperations cube epoch (batches_posted (batches_among posts)) session o past (h.past i))
-            (coe 0 1 (i. AddsOperations cube epoch (batches_posted (same i)) session o past (h.added ++ past))
-            (only-rows o session cube epoch h.added past each));
-      }
+      let h = learns o log run es later are in
+      posts-add o session shards cube epoch shape rows own h.before es h.added h.events h.past h.posted
+
+  pub posts-learned : (shards cube epoch : ℕ) (shape : CubeShape) (rows : List CodedRow) (own now : List CoreEntry)
+      → LearnsOfPostedRows cells caller session shards cube shape epoch rows own now
+      → LearnsThat FitsShard CoreShardStands ShardAnswerSays
+      (AddsOperations cube epoch
+      (batches_posted (batches_among (row_posts shape.shape.sizes shards cube epoch rows)))) cells caller session own now
+  posts-learned shards cube epoch shape rows own now learns = λ o log run es later are.
+      let h = learns o log run es later are in
+      posts-add o session shards cube epoch shape rows own h.before es h.added h.events h.past h.posted
 
   pub nothing-elsewhere : (shards cube epoch : ℕ) (shape : CubeShape) (rows : List CodedRow) (told : PutEnd)
       (own now : List CoreEntry) → LearnsOfRows cells caller session shards cube shape epoch rows told own now

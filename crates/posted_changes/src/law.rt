@@ -15,15 +15,23 @@ ghost use Rattle.one_session.specs.Changes.{ComeFor};
 ghost use Rattle.posted_pasts.specs.PostsAdded.{AddsAtEpoch, AddsOperations, LearnsThat, batches_among};
 ghost use Rattle.session_batches.specs.PutRows.{LearnsOfRows};
 ghost use Rattle.session_batches.specs.RowPosts.{row_posts};
+ghost use Rattle.session_batches.specs.RowsOut.{LearnsOfPostedRows};
 ghost use Rattle.session_batches.specs.declared.answers.PutEnd.{PutEnd};
 ghost use Rattle.shard_events.specs.ShardsInRuns.{FitsShard, ShardAnswerSays};
 
 /// A session that puts rows adds their batches to the operations of the cube at its epoch, whatever comes of them, and
-/// nothing of another cube or at another epoch.
+/// nothing of another cube or at another epoch. It does so once they are posted.
 pub fn posted_rows_are_operations()
     ensures rows { (cells : List (CoreCell CoreShard)) (caller session shards cube epoch : ℕ)
         (shape : CubeShape) (rows : List CodedRow) (told : PutEnd) (own now : List CoreEntry)
         → LearnsOfRows cells caller session shards cube shape epoch rows told own now
+        → LearnsThat FitsShard CoreShardStands ShardAnswerSays
+        (AddsOperations cube epoch
+        (batches_posted (batches_among (row_posts shape.shape.sizes shards cube epoch rows))))
+        cells caller session own now }
+    ensures posts { (cells : List (CoreCell CoreShard)) (caller session shards cube epoch : ℕ)
+        (shape : CubeShape) (rows : List CodedRow) (own now : List CoreEntry)
+        → LearnsOfPostedRows cells caller session shards cube shape epoch rows own now
         → LearnsThat FitsShard CoreShardStands ShardAnswerSays
         (AddsOperations cube epoch
         (batches_posted (batches_among (row_posts shape.shape.sizes shards cube epoch rows))))

@@ -17,7 +17,7 @@ append-kind : (c : ShardCall) → IsAppend c → kind_of (call_job c) ≡ Puts
 append-kind (shard.Append cube shape epoch rows) is = refl
 append-kind c is = absurd is
 
-append-at : (calls : List ShardCall) (n : ℕ) (c : ShardCall) → AreAppends calls → slice_get calls n ≡ Some c
+pub append-at : (calls : List ShardCall) (n : ℕ) (c : ShardCall) → AreAppends calls → slice_get calls n ≡ Some c
     → IsAppend c
 append-at [] n c are at = absurd (none-some c at)
 append-at (d ∷ ds) zero c are at = subst IsAppend (same_Some d c at) are.0

@@ -3,3 +3,4 @@ pub mod Appending
 pub mod OneRow
 pub mod Posting
 pub mod Putting
+pub mod GoneOut

@@ -71,6 +71,43 @@ holds-after cells caller session own writer put.Done knows = knows
 holds-after cells caller session own writer (put.ShardFull n rows) knows = knows
 holds-after cells caller session own writer (put.OutOfMemory n) knows = knows
 
+abbrev pub WrittenLaw : Type 0
+WrittenLaw = (o : Opening) (a : ℕ) (s : Snapshot) (k : ClientState) (kind : GroupKind) (g : JobGroup)
+    → IsWriting o a s k
+    → HasWritten o.shards kind g → has_refusal g.answers ≡ false → IsWriting o a s (record k { group = g })
+
+abbrev pub SpoiledLaw : Type 0
+SpoiledLaw = (o : Opening) (a : ℕ) (s : Snapshot) (k : ClientState) (kind : GroupKind) (g : JobGroup)
+    → IsWriting o a s k
+    → HasWritten o.shards kind g → has_refusal g.answers ≡ true → HasSpoiledWrite o a s (record k { group = g })
+
+abbrev pub RefusedLaw : Type 0
+RefusedLaw = (numbers : List ℕ) (calls : List ShardCall) (outcomes : List JobOutcome)
+    → length outcomes ≡ length numbers
+    → has_refusal (group_of_some numbers calls outcomes).answers ≡ list_any is_refusal outcomes
+
+module _ (o : Opening) (session : ℕ) (writer : Snapshot) where
+  by-told : (told : PutEnd) (k : ClientState) → (is_refused told ≡ false → IsWriting o session writer k)
+      → (is_refused told ≡ true → HasSpoiledWrite o session writer k) → IsLeftBy told o session writer k
+  by-told put.Done k ok bad = ok refl
+  by-told (put.ShardFull n rows) k ok bad = bad refl
+  by-told (put.OutOfMemory n) k ok bad = bad refl
+
+  pub left-with : (refused : RefusedLaw) (written : WrittenLaw) (spoiled : SpoiledLaw) (numbers : List ℕ)
+      (outcomes : List JobOutcome) (told : PutEnd) (k : ClientState)
+      → length outcomes ≡ length numbers → told ≡ first_refusal put_by_outcome numbers outcomes
+      → IsWriting o session writer k
+      → IsLeftBy told o session writer (with_answers numbers outcomes k)
+  left-with refused written spoiled [] outcomes told k each tells writes =
+      subst (λ (p : PutEnd). IsLeftBy p o session writer k) (sym tells) writes
+  left-with refused written spoiled (n ∷ numbers) outcomes told k each tells writes =
+      let g : JobGroup = record { kind = Puts; waits = []; answers = received_from (n ∷ numbers) outcomes [] } in
+      let same : has_refusal g.answers ≡ is_refused told =
+      refused (n ∷ numbers) [] outcomes each ∙ sym (ap is_refused tells ∙ refused-any (n ∷ numbers) outcomes each) in
+      by-told told (with_group g k)
+      (λ ok. written o session writer k Puts g writes (record { kind_is = refl; none_out = refl }) (same ∙ ok))
+      (λ bad. spoiled o session writer k Puts g writes (record { kind_is = refl; none_out = refl }) (same ∙ bad))
+
 module _ (o : Opening) (session shards cube : ℕ) (shape : CubeShape) (writer : Snapshot) where
   abbrev PutsLaw : Type 0
   PutsLaw = (o : Opening) (a mail cube : ℕ) (rows : List CodedRow) (s : Snapshot) (k : ClientState) → IsSession o a
@@ -147,42 +184,6 @@ module _ (o : Opening) (session shards cube : ℕ) (shape : CubeShape) (writer :
             }));
       }
 
-  by-told : (told : PutEnd) (k : ClientState) → (is_refused told ≡ false → IsWriting o session writer k)
-      → (is_refused told ≡ true → HasSpoiledWrite o session writer k) → IsLeftBy told o session writer k
-  by-told put.Done k ok bad = ok refl
-  by-told (put.ShardFull n rows) k ok bad = bad refl
-  by-told (put.OutOfMemory n) k ok bad = bad refl
-
-  abbrev WrittenLaw : Type 0
-  WrittenLaw = (o : Opening) (a : ℕ) (s : Snapshot) (k : ClientState) (kind : GroupKind) (g : JobGroup)
-      → IsWriting o a s k
-      → HasWritten o.shards kind g → has_refusal g.answers ≡ false → IsWriting o a s (record k { group = g })
-
-  abbrev SpoiledLaw : Type 0
-  SpoiledLaw = (o : Opening) (a : ℕ) (s : Snapshot) (k : ClientState) (kind : GroupKind) (g : JobGroup)
-      → IsWriting o a s k
-      → HasWritten o.shards kind g → has_refusal g.answers ≡ true → HasSpoiledWrite o a s (record k { group = g })
-
-  abbrev RefusedLaw : Type 0
-  RefusedLaw = (numbers : List ℕ) (calls : List ShardCall) (outcomes : List JobOutcome)
-      → length outcomes ≡ length numbers
-      → has_refusal (group_of_some numbers calls outcomes).answers ≡ list_any is_refusal outcomes
-
-  left-with : (refused : RefusedLaw) (written : WrittenLaw) (spoiled : SpoiledLaw) (numbers : List ℕ)
-      (outcomes : List JobOutcome) (told : PutEnd) (k : ClientState)
-      → length outcomes ≡ length numbers → told ≡ first_refusal put_by_outcome numbers outcomes
-      → IsWriting o session writer k
-      → IsLeftBy told o session writer (with_answers numbers outcomes k)
-  left-with refused written spoiled [] outcomes told k each tells writes =
-      subst (λ (p : PutEnd). IsLeftBy p o session writer k) (sym tells) writes
-  left-with refused written spoiled (n ∷ numbers) outcomes told k each tells writes =
-      let g : JobGroup = record { kind = Puts; waits = []; answers = received_from (n ∷ numbers) outcomes [] } in
-      let same : has_refusal g.answers ≡ is_refused told =
-      refused (n ∷ numbers) [] outcomes each ∙ sym (ap is_refused tells ∙ refused-any (n ∷ numbers) outcomes each) in
-      by-told told (with_group g k)
-      (λ ok. written o session writer k Puts g writes (record { kind_is = refl; none_out = refl }) (same ∙ ok))
-      (λ bad. spoiled o session writer k Puts g writes (record { kind_is = refl; none_out = refl }) (same ∙ bad))
-
   -- It goes on to write, or has spoiled its write.
   pub left-by : (refused : RefusedLaw) (written : WrittenLaw) (spoiled : SpoiledLaw) (numbers : List ℕ)
       (posts : List ClientCall) (told : PutEnd) (own : List CoreEntry)
@@ -191,7 +192,7 @@ module _ (o : Opening) (session shards cube : ℕ) (shape : CubeShape) (writer :
       → IsLeftBy told o session writer (state_from_calls o session (calls_of session es))
   left-by refused written spoiled numbers posts told own es h writes =
       subst (λ (k : ClientState). IsLeftBy told o session writer k) (sym h.group)
-      (left-with refused written spoiled numbers h.outcomes told
+      (left-with o session writer refused written spoiled numbers h.outcomes told
       (state_from_calls o session (calls_of session h.before)) h.each h.tells writes)
 
 -- Without appends nothing was put.

@@ -2,3 +2,4 @@ pub mod BatchCalls
 pub mod Refusals
 pub mod RowPosts
 pub mod PutRows
+pub mod RowsOut
