@@ -27,9 +27,8 @@ use Rattle.posted_pasts.proofs.AddedCalls.{without-changes}
 use Rattle.posted_pasts.specs.PostsAdded.{AddsNoOperation, AddsOperations, LearnsThat, PostsNoChange, batches_among}
 use Rattle.query_plan.specs.Ties.{StandForValues, stored_for}
 use Rattle.cube_values.specs.declared.shape.CubeShape.{CubeShape}
-use Rattle.session_batches.specs.PutRows.{LearnsOfRows}
 use Rattle.session_batches.specs.RowPosts.{row_posts}
-use Rattle.session_batches.specs.declared.answers.PutEnd.{PutEnd}
+use Rattle.session_batches.specs.RowsOut.{LearnsOfPostedRows}
 use Rattle.loaded_batches.specs.LoadingCalls.{ArePosted, StandAlike}
 use Rattle.loaded_batches.proofs.LoadingMoments.{learns-both}
 
@@ -42,6 +41,18 @@ none-then session cube epoch added o a b c none adds = record {
   here = adds.here ∙ ap (λ (l : List CubeOperation). added ++ l) (none cube epoch);
   elsewhere = λ x e away. adds.elsewhere x e away ∙ none x e;
 }
+
+then-none : (session cube epoch : ℕ) (added : List CubeOperation) (o : Opening) (a b c : List ClientCall)
+    → AddsOperations cube epoch added session o a b → AddsNoOperation session o b c
+    → AddsOperations cube epoch added session o a c
+then-none session cube epoch added o a b c adds none = record {
+  here = none cube epoch ∙ adds.here;
+  elsewhere = λ x e away. none x e ∙ adds.elsewhere x e away;
+}
+
+none-both : (session : ℕ) (o : Opening) (a b c : List ClientCall) → AddsNoOperation session o a b
+    → AddsNoOperation session o b c → AddsNoOperation session o a c
+none-both session o a b c one two cube epoch = two cube epoch ∙ one cube epoch
 
 then-more : (session cube epoch : ℕ) (first second : List CubeOperation) (o : Opening) (a b c : List ClientCall)
     → AddsOperations cube epoch first session o a b → AddsOperations cube epoch second session o b c
@@ -151,33 +162,54 @@ module _ (cells : List (CoreCell CoreShard)) (caller session cube epoch : ℕ) w
             (without-changes o session a.added (calls_of session a.before) (names-post-none a.added a.each));
       }
 
-  -- Those before them do not.
-  pub posted-behind-names : IsClientOf FitsShard CoreShardStands ShardAnswerSays cells caller session
-      → (rows : List CodedRow) (own mid now : List CoreEntry) → IsPrefix mid now → GoOnByNames caller own mid
+  -- Nor do calls before them or behind them that add nothing.
+  pub posted-behind-none : (rows : List CodedRow) (own mid now : List CoreEntry) → IsPrefix mid now
+      → LearnsThat FitsShard CoreShardStands ShardAnswerSays AddsNoOperation cells caller session own mid
       → Posted rows mid now → Posted rows own now
-  posted-behind-names acts rows own mid now goes asks h = record {
+  posted-behind-none rows own mid now goes none h = record {
     batches = h.batches;
     alike = h.alike;
     posted =
         learns-both cells caller session AddsNoOperation (AddsOperations cube epoch (batches_posted h.batches))
         (AddsOperations cube epoch (batches_posted h.batches))
-        (none-then session cube epoch (batches_posted h.batches)) own mid now goes
-        (names-add-none acts own mid asks) h.posted;
+        (none-then session cube epoch (batches_posted h.batches)) own mid now goes none h.posted;
   }
 
-  -- Rows that are put are posted, whatever comes of them.
-  pub posted-by-put : {E : Type 0} (shards : ℕ) (shape : CubeShape) (rows : List CodedRow) (own now : List CoreEntry)
-      (result : Result PutEnd E)
-      → IfOk result (λ said. LearnsOfRows cells caller session shards cube shape epoch rows said own now)
-      → ((said : PutEnd) → LearnsOfRows cells caller session shards cube shape epoch rows said own now
+  pub posted-before-none : (rows : List CodedRow) (own mid now : List CoreEntry) → IsPrefix mid now
+      → Posted rows own mid
+      → LearnsThat FitsShard CoreShardStands ShardAnswerSays AddsNoOperation cells caller session mid now
+      → Posted rows own now
+  posted-before-none rows own mid now goes h none = record {
+    batches = h.batches;
+    alike = h.alike;
+    posted =
+        learns-both cells caller session (AddsOperations cube epoch (batches_posted h.batches)) AddsNoOperation
+        (AddsOperations cube epoch (batches_posted h.batches))
+        (then-none session cube epoch (batches_posted h.batches)) own mid now goes h.posted none;
+  }
+
+  -- So are names, and then others.
+  pub names-then-none : IsClientOf FitsShard CoreShardStands ShardAnswerSays cells caller session
+      → (own mid now : List CoreEntry) → IsPrefix mid now → GoOnByNames caller own mid
+      → LearnsThat FitsShard CoreShardStands ShardAnswerSays AddsNoOperation cells caller session mid now
+      → LearnsThat FitsShard CoreShardStands ShardAnswerSays AddsNoOperation cells caller session own now
+  names-then-none acts own mid now goes asks none =
+      learns-both cells caller session AddsNoOperation AddsNoOperation AddsNoOperation (none-both session) own mid now
+      goes (names-add-none acts own mid asks) none
+
+  -- Rows that are put out are posted.
+  pub posted-by-posts : {R E : Type 0} (shards : ℕ) (shape : CubeShape) (rows : List CodedRow) (own now : List CoreEntry)
+      (result : Result R E)
+      → IfOk result (λ out. LearnsOfPostedRows cells caller session shards cube shape epoch rows own now)
+      → (LearnsOfPostedRows cells caller session shards cube shape epoch rows own now
       → LearnsThat FitsShard CoreShardStands ShardAnswerSays
       (AddsOperations cube epoch (batches_posted (batches_among (row_posts shape.shape.sizes shards cube epoch rows))))
       cells caller session own now)
       → StandAlike rows (batches_among (row_posts shape.shape.sizes shards cube epoch rows))
-      → IfOk result (λ said. Posted rows own now)
-  posted-by-put shards shape rows own now (Ok said) learns posts alike = record {
+      → IfOk result (λ out. Posted rows own now)
+  posted-by-posts shards shape rows own now (Ok out) learns posts alike = record {
     batches = batches_among (row_posts shape.shape.sizes shards cube epoch rows);
     alike = alike;
-    posted = posts said learns;
+    posted = posts learns;
   }
-  posted-by-put shards shape rows own now (Err e) learns posts alike = tt
+  posted-by-posts shards shape rows own now (Err e) learns posts alike = tt

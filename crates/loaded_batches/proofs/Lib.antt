@@ -11,3 +11,4 @@ pub mod RestOfRecords
 pub mod RestEnds
 pub mod HeldWriters
 pub mod ToldRows
+pub mod ReadBeside

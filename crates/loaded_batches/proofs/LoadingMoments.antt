@@ -10,6 +10,7 @@ use Rattle.core_cells.specs.declared.names.NamesCall.{NamesCall}
 use Rattle.core_cells.specs.declared.names.NamesCall.TheVariants as names
 use Rattle.core_events.specs.Clients.{calls_of}
 use Rattle.core_events.specs.Events.{Opening, OnDesk, OnNames, Post, Fetch, CloseMail, NoChange, ClientCall, CoreEvent}
+use Rattle.core_events.specs.Jobs.{JobOutcome}
 use Rattle.cube_core.specs.NamesEvents.{names_event}
 use Rattle.core_names.specs.AskedNames.{GoOnByNames}
 use Rattle.core_names.proofs.HeldOn.{by-names}
@@ -24,12 +25,14 @@ use Rattle.cube_values.specs.declared.shape.CubeShape.{CubeShape}
 use Rattle.cube_values.specs.declared.shape.Size.{Size}
 use Rattle.job_groups.specs.AskedEach.{HasMore, IsGroupCall}
 use Rattle.job_groups.specs.AskedSome.{posts_among}
+use Rattle.job_groups.specs.PostedSome.{IsFetchCall}
 use Rattle.linked_shards.specs.CellShards.{CoreShardStands}
 use Rattle.shard_events.specs.ShardsInRuns.{FitsShard, ShardAnswerSays}
 use Rattle.linked_shards.specs.declared.cell.CoreShard.{CoreShard}
-use Rattle.posted_pasts.specs.PostsAdded.{GoesOnWith, LearnsThat}
-use Rattle.session_batches.specs.PutRows.{HasPut, LearnsOfRows}
-use Rattle.session_batches.specs.RowPosts.{row_post, row_posts, shards_with_rows}
+use Rattle.posted_pasts.proofs.AddedCalls.{without-changes}
+use Rattle.posted_pasts.specs.PostsAdded.{AddsNoOperation, GoesOnWith, LearnsThat, PostsNoChange}
+use Rattle.session_batches.specs.RowPosts.{row_post, shards_with_rows}
+use Rattle.session_batches.specs.RowsOut.{LearnsOfFetchedRows, LearnsOfPostedRows}
 use Rattle.session_batches.specs.declared.answers.PutEnd.{PutEnd}
 use Rattle.loaded_batches.specs.LoadingCalls.{GoesOnLoading, IsLoadCall}
 
@@ -70,6 +73,18 @@ names-load cube epoch (names.Encode place dim shape name) (told.Coded code) = tt
 names-load cube epoch (names.Find place dim name) (told.Found number) = tt
 names-load cube epoch (names.CopyFrom place dim from) (told.Copied copied) = tt
 names-load cube epoch c said = tt
+
+-- Fetches are whatever a fetch is, and a call that changes nothing.
+fetches-are : (Is : ClientCall → Type 0) → ((mail : ℕ) (outcome : JobOutcome) → Is (Fetch mail outcome)) → Is NoChange
+    → (calls : List ClientCall) → AllByRecursion IsFetchCall calls → AllByRecursion Is calls
+fetches-are Is fetch none [] only = tt
+fetches-are Is fetch none (Fetch mail outcome ∷ calls) only =
+    (fetch mail outcome, fetches-are Is fetch none calls only.1)
+fetches-are Is fetch none (NoChange ∷ calls) only = (none, fetches-are Is fetch none calls only.1)
+fetches-are Is fetch none (Post mail job ∷ calls) only = absurd only.0
+fetches-are Is fetch none (OnDesk c ∷ calls) only = absurd only.0
+fetches-are Is fetch none (OnNames c ∷ calls) only = absurd only.0
+fetches-are Is fetch none (CloseMail mail ∷ calls) only = absurd only.0
 
 -- ---- moments
 
@@ -176,17 +191,14 @@ module _ (cells : List (CoreCell CoreShard)) (caller session : ℕ) where
         (λ l c said h. loading-both own l (l ++ names_entry caller c said ∷ []) h (loading-by-one acts l c said))
         own now asks (loading-none own)
 
-    -- By rows that are put.
-    pub loading-by-rows : (shards : ℕ) (shape : CubeShape) (rows : List CodedRow) (said : PutEnd)
-        (own now : List CoreEntry) → HasMore own now
-        → LearnsOfRows cells caller session shards cube shape epoch rows said own now → Loading own now
-    loading-by-rows shards shape rows said own now more learns = record {
+    -- By rows that are posted.
+    loading-by-rows : (shards : ℕ) (shape : CubeShape) (rows : List CodedRow) (own now : List CoreEntry)
+        → HasMore own now → LearnsOfPostedRows cells caller session shards cube shape epoch rows own now
+        → Loading own now
+    loading-by-rows shards shape rows own now more learns = record {
       more = (more.more, sym more.whole);
       calls = λ o log run es later are.
-          let posts = row_posts shape.shape.sizes shards cube epoch rows in
-          let h : HasPut (shards_with_rows shape.shape.sizes shards rows) posts said o session own es =
-          learns o log run es later are
-          in
+          let h = learns o log run es later are in
           record {
             before = h.before;
             events = h.events;
@@ -199,26 +211,23 @@ module _ (cells : List (CoreCell CoreShard)) (caller session : ℕ) where
           };
     }
 
-    -- By a call that puts rows, or wants memory.
-    pub loading-by-put : {E : Type 0} (shards : ℕ) (shape : CubeShape) (rows : List CodedRow) (own now : List CoreEntry)
-        (result : Result PutEnd E) → HasMore own now
-        → IfOk result (λ said. LearnsOfRows cells caller session shards cube shape epoch rows said own now)
+    -- By a call that posts rows, or wants memory.
+    pub loading-by-posts : {R E : Type 0} (shards : ℕ) (shape : CubeShape) (rows : List CodedRow)
+        (own now : List CoreEntry) (result : Result R E) → HasMore own now
+        → IfOk result (λ out. LearnsOfPostedRows cells caller session shards cube shape epoch rows own now)
         → OnErr result (now ≡ own) → Loading own now
-    loading-by-put shards shape rows own now (Ok said) more learns none =
-        loading-by-rows shards shape rows said own now more learns
-    loading-by-put shards shape rows own now (Err e) more learns none =
+    loading-by-posts shards shape rows own now (Ok out) more learns none =
+        loading-by-rows shards shape rows own now more learns
+    loading-by-posts shards shape rows own now (Err e) more learns none =
         subst (λ (l : List CoreEntry). Loading own l) (sym none) (loading-none own)
 
     -- Such a call asks for no text.
-    pub none-by-put : {E : Type 0} (shards : ℕ) (shape : CubeShape) (rows : List CodedRow) (own now : List CoreEntry)
-        (result : Result PutEnd E)
-        → IfOk result (λ said. LearnsOfRows cells caller session shards cube shape epoch rows said own now)
+    pub none-by-posts : {R E : Type 0} (shards : ℕ) (shape : CubeShape) (rows : List CodedRow)
+        (own now : List CoreEntry) (result : Result R E)
+        → IfOk result (λ out. LearnsOfPostedRows cells caller session shards cube shape epoch rows own now)
         → OnErr result (now ≡ own) → GoOn AsksForNone own now
-    none-by-put shards shape rows own now (Ok said) learns none = λ o log run es later are.
-        let posts = row_posts shape.shape.sizes shards cube epoch rows in
-        let h : HasPut (shards_with_rows shape.shape.sizes shards rows) posts said o session own es =
-        learns o log run es later are
-        in
+    none-by-posts shards shape rows own now (Ok out) learns none = λ o log run es later are.
+        let h = learns o log run es later are in
         record {
           before = h.before;
           events = h.events;
@@ -226,6 +235,48 @@ module _ (cells : List (CoreCell CoreShard)) (caller session : ℕ) where
           calls = h.past;
           each = group-asks-none h.added h.only;
         }
-    none-by-put shards shape rows own now (Err e) learns none =
+    none-by-posts shards shape rows own now (Err e) learns none =
         subst (λ (l : List CoreEntry). GoOn AsksForNone own l) (sym none)
         (λ o log run es later are. record { before = es; events = are; added = []; calls = refl; each = tt })
+
+    -- By fetches.
+    pub loading-by-fetches : (shards : List ℕ) (said : PutEnd) (own now : List CoreEntry) → HasMore own now
+        → LearnsOfFetchedRows cells caller session shards said own now → Loading own now
+    loading-by-fetches shards said own now more learns = record {
+      more = (more.more, sym more.whole);
+      calls = λ o log run es later are.
+          let h = learns o log run es later are in
+          record {
+            before = h.before;
+            events = h.events;
+            added = h.added;
+            calls = h.past;
+            each = fetches-are (IsLoadCall cube epoch) (λ mail outcome. tt) tt h.added h.only;
+          };
+    }
+
+  -- Fetches ask for no text, and post nothing.
+  pub none-by-fetches : (shards : List ℕ) (said : PutEnd) (own now : List CoreEntry)
+      → LearnsOfFetchedRows cells caller session shards said own now → GoOn AsksForNone own now
+  none-by-fetches shards said own now learns = λ o log run es later are.
+      let h = learns o log run es later are in
+      record {
+        before = h.before;
+        events = h.events;
+        added = h.added;
+        calls = h.past;
+        each = fetches-are AsksForNone (λ mail outcome. tt) tt h.added h.only;
+      }
+
+  pub fetches-add-none : (shards : List ℕ) (said : PutEnd) (own now : List CoreEntry)
+      → LearnsOfFetchedRows cells caller session shards said own now → Learns AddsNoOperation own now
+  fetches-add-none shards said own now learns = λ o log run es later are.
+      let h = learns o log run es later are in
+      record {
+        before = h.before;
+        events = h.events;
+        adds =
+            coe 1 0 (i. AddsNoOperation session o (calls_of session h.before) (h.past i))
+            (without-changes o session h.added (calls_of session h.before)
+            (fetches-are PostsNoChange (λ mail outcome. tt) tt h.added h.only));
+      }

@@ -1,5 +1,5 @@
 -- Rows of a cube that a session was told of may be put.
-use Rattle.std.proofs.Common.{◌≡◌, ◌∙◌, ℕ, ◌+◌, ◌≤◌, List, All, length, sym, subst, arith}
+use Rattle.std.proofs.Common.{◌≡◌, ◌∙◌, ℕ, ◌+◌, ◌≤◌, List, ◌++◌, All, length, sym, subst, arith}
 use mathlib.Core.List.{IsPrefix}
 use Rattle.brick_map.specs.Batches.{IsRowOfCube}
 use Rattle.core_names.specs.CoreEncoders.{MayAskForCodes}
@@ -17,6 +17,8 @@ use Rattle.cube_values.specs.declared.row.CodedRow.{CodedRow}
 use Rattle.cube_values.specs.declared.shape.CubeShape.{CubeShape}
 use Rattle.job_groups.specs.AskedEach.{AreShardMails}
 use Rattle.known_cubes.proofs.ToldCubes.{knows-cube, told-later}
+use Rattle.known_cubes.proofs.ToldNames.{told-later as number-later}
+use Rattle.std.proofs.lemmas.List.Elements.{All-weaker}
 use Rattle.linked_shards.specs.CellShards.{CoreShardStands}
 use Rattle.shard_events.specs.ShardsInRuns.{FitsShard, ShardAnswerSays}
 use Rattle.linked_shards.specs.declared.cell.CoreShard.{CoreShard}
@@ -88,3 +90,13 @@ may-ask-still cells caller session place own now d known more may =
       long = may.long;
       right = still-told own more.0 place d.dims known may.right;
     })
+
+-- The numbers that its rows have were told it still.
+pub numbers-still : (place : ℕ) (own now : List CoreEntry) (d : Decl) (rows : List CodedRow) → IsPrefix own now
+    → All (HasNumbers (HasToldNumber own place) d) rows → All (HasNumbers (HasToldNumber now place) d) rows
+numbers-still place own now d rows more told =
+    subst (λ (l : List CoreEntry). All (HasNumbers (HasToldNumber l place) d) rows) more.1
+    (All-weaker (HasNumbers (HasToldNumber own place) d) (HasNumbers (HasToldNumber (own ++ more.0) place) d)
+    (λ row numbers dim coord is at.
+    let h = numbers dim coord is at in
+    record { name = h.name; told = number-later own more.0 place dim h.name coord h.told }) rows told)

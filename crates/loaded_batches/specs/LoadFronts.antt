@@ -1,6 +1,6 @@
 -- How far a LOAD has come with the records of its file: what it took, and what of it is with the shards.
 -- Source: Cubrick (VLDB 2016), dictionary encoding of text dimensions; that rows come in batches is this project's own.
-use Rattle.std.specs.Prelude.{◌≡◌, ℕ, ◌+◌, ◌≤◌, List, [], All}
+use Rattle.std.specs.Prelude.{◌≡◌, ℕ, ◌+◌, ◌≤◌, Bool, false, true, List, [], All, Result, Ok, Err}
 use Rattle.core_names.specs.NamesInTheEnd.{MayLeaveNames}
 use Rattle.core_program.specs.CoreFits.{CoreEntry}
 use Rattle.core_program.specs.Knowing.{IsClientOf, IsSessionOf}
@@ -23,8 +23,16 @@ use Rattle.row_encoding.specs.declared.load.BatchEnd.TheVariants as batch_is
 use Rattle.loaded_batches.specs.LoadingCalls.{ArePosted}
 use Rattle.loaded_batches.specs.declared.records.LoadEnd.{LoadEnd}
 use Rattle.loaded_batches.specs.declared.records.LoadEnd.TheVariants as end
+use Rattle.loaded_batches.specs.declared.turns.LoadStop.{LoadStop}
+use Rattle.loaded_batches.specs.declared.turns.LoadStop.TheVariants as stop
 use Rattle.loaded_batches.specs.declared.turns.LoadTurn.{LoadTurn}
 use Rattle.loaded_batches.specs.declared.turns.LoadTurn.TheVariants as turn
+use Rattle.loaded_batches.specs.declared.turns.Reading.{Reading}
+use Rattle.loaded_batches.specs.declared.turns.Reading.TheVariants as reading
+use Rattle.session_batches.specs.RowsOut.{HoldsRowsOut, MayBeFetched}
+use Rattle.session_batches.specs.declared.answers.PutEnd.{PutEnd}
+use Rattle.session_batches.specs.declared.answers.PutEnd.TheVariants as put
+use Rattle.session_groups.specs.ShardGroups.{HoldsOpenWriter}
 
 -- How a LOAD ends of which a shard was full, by how the records ended that were left: full unless too many are bad.
 abbrev pub end_of_rest : BatchEnd → BadRecords → ℕ → ℕ → LoadEnd
@@ -88,40 +96,87 @@ module _ (cells : List (CoreCell CoreShard)) (caller place : ℕ) (d : Decl) (al
   IsEndOfRest now start load before bad (end.ShardFull shard rows) = HasTakenAll now start load before bad
   IsEndOfRest now start load before bad end.OutOfMemory = Unit {0}
 
-module _ (cells : List (CoreCell CoreShard)) (caller session : ℕ) (writer : Snapshot) where
-  -- A turn that puts rows ends so, and the writer is held still, or a shard was full.
-  abbrev pub EndsPut : List CoreEntry → LoadTurn → LoadTurn → Type 0
-  EndsPut now next (turn.ShardFull shard rows) = Unit {0}
-  EndsPut now next t =
-      (t ≡ next) × HoldsWriter FitsShard CoreShardStands ShardAnswerSays cells caller session now writer
+  -- What has come of the next records once the rows before them were fetched too. Those behind the last are none.
+  abbrev pub IsAfterReading : List CoreEntry → LoadState → LoadState → BadRecords → BadRecords → List CodedRow → Reading
+      → Type 0
+  IsAfterReading now start load before bad rows (reading.Rows last) =
+      HasTakenSoFar now start load before bad rows × (last ≡ true → load.left ≡ [])
+  IsAfterReading now start load before bad rows reading.TooMany = HasTooManyBad now start load before bad
+  IsAfterReading now start load before bad rows (reading.ShardFull shard count) = HasTakenSome now start load before bad
+
+-- What has come of a batch that is the last, or is not, where its rows may be put.
+abbrev pub IsReadingOfRows : Bool → PutEnd → Reading → Type 0
+IsReadingOfRows last put.Done r = r ≡ reading.Rows last
+IsReadingOfRows last (put.ShardFull shard rows) r = r ≡ reading.ShardFull shard rows
+IsReadingOfRows last (put.OutOfMemory shard) r = ⊥
+
+-- What has come of a batch that was read, by how it ended and by what came of the rows before it: that too many are bad
+-- comes before that a shard is full.
+abbrev pub IsReadingOf : {E : Type 0} → Result BatchEnd E → PutEnd → Reading → Type 0
+IsReadingOf (Ok batch_is.TooMany) p r = r ≡ reading.TooMany
+IsReadingOf (Ok batch_is.Full) p r = IsReadingOfRows false p r
+IsReadingOf (Ok batch_is.End) p r = IsReadingOfRows true p r
+IsReadingOf (Err e) p r = ⊥
+
+module _ (cells : List (CoreCell CoreShard)) (caller session : ℕ) (now : List CoreEntry) (writer : Snapshot) where
+  -- After reading the session holds its writer still, but where a shard was full.
+  abbrev pub HoldsAfterReading : Reading → Type 0
+  HoldsAfterReading (reading.Rows last) =
+      HoldsWriter FitsShard CoreShardStands ShardAnswerSays cells caller session now writer
+  HoldsAfterReading r = HoldsOpenWriter cells caller session now writer
+
+  -- After a turn that posted rows these are out; after any other the writer is open.
+  abbrev pub HoldsAfterTurn : LoadTurn → Type 0
+  HoldsAfterTurn (turn.Posted out last) = HoldsRowsOut cells caller session now writer out.shards.items
+  HoldsAfterTurn t = HoldsOpenWriter cells caller session now writer
+
+  -- After the last rows the session holds its writer, or a shard was full.
+  abbrev pub IsAfterLast : LoadStop → Type 0
+  IsAfterLast stop.Done = HoldsWriter FitsShard CoreShardStands ShardAnswerSays cells caller session now writer
+  IsAfterLast stop.TooMany = ⊥
+  IsAfterLast (stop.ShardFull shard rows) = Unit {0}
+
+-- A turn has posted rows, the last ones or not.
+abbrev pub IsPostedAs : Bool → LoadTurn → Type 0
+IsPostedAs last (turn.Posted out l) = l ≡ last
+IsPostedAs last t = ⊥
+
+-- The answers of the rows that a turn posted may be fetched.
+abbrev pub MayBeFetchedAfter : ℕ → LoadTurn → Type 0
+MayBeFetchedAfter shards (turn.Posted out last) = MayBeFetched shards out
+MayBeFetchedAfter shards t = Unit {0}
 
 module _ (cells : List (CoreCell CoreShard)) (caller session place : ℕ) (d : Decl) (allowed : ℕ) (writer : Snapshot)
   where
-    -- All rows that it took are with their shards, and the session holds its writer still.
-    pub record HasPutSoFar (own now : List CoreEntry) (start load : LoadState) (before bad : BadRecords) : Type 0 where
-      pub rows : List CodedRow
-      pub taken : HasTakenSoFar cells caller place d allowed now start load before bad rows
-      pub inside : All (HasCoords d) rows
-      pub posted : ArePosted cells caller session place writer.epoch rows own now
+    -- All rows that it took are posted.
+    pub record HasPostedSoFar (own now : List CoreEntry) (start load : LoadState) (before bad : BadRecords) : Type 0
+      where
+        pub rows : List CodedRow
+        pub taken : HasTakenSoFar cells caller place d allowed now start load before bad rows
+        pub inside : All (HasCoords d) rows
+        pub posted : ArePosted cells caller session place writer.epoch rows own now
+
+    -- No record is left, all rows are with their shards, and the session holds its writer still.
+    pub record HasPutAll (own now : List CoreEntry) (start load : LoadState) (before bad : BadRecords) : Type 0 where
+      pub so_far : HasPostedSoFar own now start load before bad
+      pub none_left : load.left ≡ []
       pub holds : HoldsWriter FitsShard CoreShardStands ShardAnswerSays cells caller session now writer
 
-    -- So it is, and no record is left.
-    pub record HasPutAll (own now : List CoreEntry) (start load : LoadState) (before bad : BadRecords) : Type 0 where
-      pub so_far : HasPutSoFar own now start load before bad
-      pub none_left : load.left ≡ []
-
-    -- What has come of records in a turn. Where a shard was full the rows were taken all the same.
+    -- What has come of records in a turn. Where a shard was full rows were taken all the same.
     abbrev pub IsAfterTurn : List CoreEntry → List CoreEntry → LoadState → LoadState → BadRecords → BadRecords → LoadTurn
         → Type 0
-    IsAfterTurn own now start load before bad turn.More = HasPutSoFar own now start load before bad
-    IsAfterTurn own now start load before bad turn.Done = HasPutAll own now start load before bad
+    IsAfterTurn own now start load before bad (turn.Posted out last) =
+        HasPostedSoFar own now start load before bad × (last ≡ true → load.left ≡ [])
     IsAfterTurn own now start load before bad turn.TooMany =
         HasTooManyBad cells caller place d allowed now start load before bad
     IsAfterTurn own now start load before bad (turn.ShardFull shard rows) =
         HasTakenSome cells caller place d allowed now start load before bad
 
-    -- What has come of them where no turn follows.
-    abbrev pub IsAfterTurns : List CoreEntry → List CoreEntry → LoadState → LoadState → BadRecords → BadRecords → LoadTurn
+    -- What has come of them in all turns.
+    abbrev pub IsAfterTurns : List CoreEntry → List CoreEntry → LoadState → LoadState → BadRecords → BadRecords → LoadStop
         → Type 0
-    IsAfterTurns own now start load before bad turn.More = ⊥
-    IsAfterTurns own now start load before bad t = IsAfterTurn own now start load before bad t
+    IsAfterTurns own now start load before bad stop.Done = HasPutAll own now start load before bad
+    IsAfterTurns own now start load before bad stop.TooMany =
+        HasTooManyBad cells caller place d allowed now start load before bad
+    IsAfterTurns own now start load before bad (stop.ShardFull shard rows) =
+        HasTakenSome cells caller place d allowed now start load before bad

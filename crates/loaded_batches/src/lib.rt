@@ -1,8 +1,9 @@
 //! The records of a LOAD, batch by batch: a session's caller gives their texts codes, and puts their rows on the shards
-//! of their bricks.
+//! of their bricks. While a batch is appended it reads the next.
 #![tactic(auto)]
 
 mod batches;
+mod beside;
 mod law;
 mod putting;
 mod records;

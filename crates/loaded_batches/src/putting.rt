@@ -1,8 +1,11 @@
-//! The rows of a batch come to the shards of their bricks.
+//! The rows of a batch are posted to the shards of their bricks, and their answers fetched.
 
-ghost use Rattle.std.specs.Prelude.{◌≡◌, ◌+◌, ◌≤◌, length, All, IfOk, OnErr};
+ghost use Rattle.std.specs.Prelude.{◌≡◌, ℕ, ◌+◌, ◌≤◌, length, All, IfOk, OnErr};
 ghost use Rattle.core_names.specs.KnownNumbers.{HasToldNumber};
+ghost use Rattle.core_program.specs.Knowing.{IsClientOf};
 ghost use Rattle.cube_values.specs.Batches.{HasWidths};
+ghost use Rattle.cube_values.specs.declared.snapshot.Snapshot.{Snapshot};
+ghost use Rattle.posted_pasts.specs.PostsAdded.{AddsNoOperation, LearnsThat};
 ghost use Rattle.core_states.specs.LeftBehind.{AsksForNone, GoOnByCalls};
 ghost use Rattle.job_groups.specs.AskedEach.{AreShardMails};
 ghost use Rattle.session_snapshots.specs.KnownHolds.{HoldsWriter};
@@ -10,6 +13,7 @@ ghost use Rattle.linked_shards.specs.CellShards.{CoreShardStands};
 ghost use Rattle.shard_events.specs.ShardsInRuns.{FitsShard, ShardAnswerSays};
 ghost use Rattle.row_encoding.specs.CodedInserts.{HasCoords, HasNumbers};
 ghost use Rattle.session_batches.specs.PutRows.{HoldsAfterPut};
+ghost use Rattle.session_batches.specs.RowsOut.{HoldsRowsOut, HoldsSomeRowsOut, MayBeFetched};
 ghost use Rattle.turn_board.specs.Passes.{callers_of};
 ghost use Rattle.loaded_batches.specs.LoadFronts.{MayPutInto};
 ghost use Rattle.loaded_batches.specs.LoadingCalls.{ArePosted, GoesOnLoading};
@@ -21,7 +25,7 @@ use cube_schema::Schema;
 use cube_values::{CodedRows, Snapshot};
 use linked_shards::{CoreShard, ShardCells};
 use posted_changes::{posted_rows_are_operations, posted_rows_stand_for_rows};
-use session_batches::{PutEnd, put_rows};
+use session_batches::{PutEnd, RowsOut, fetch_rows, post_rows};
 use std::alloc::{AllocError, Global};
 use std::sync::Wait;
 use turn_board::Board;
@@ -33,9 +37,9 @@ fn rows_have_widths(rows: &CodedRows)
     let _count = rows.len();
 }
 
-/// Puts the rows of a batch of the cube that the session was told of, where it was told of each number that
-/// these have. Where memory is wanted for them nothing was posted.
-pub(crate) fn put_told<R: Wait, P: CellCaller<ShardCells>>(
+/// Posts the rows of a batch of the cube that the session was told of, where it was told of each number that
+/// these have; whether it fetches the answers at once is said. Where memory is wanted for them nothing was posted.
+pub(crate) fn post_told<R: Wait, P: CellCaller<ShardCells>>(
     rt: &R,
     board: &Board<ShardCells>,
     caller: &mut P,
@@ -46,8 +50,9 @@ pub(crate) fn put_told<R: Wait, P: CellCaller<ShardCells>>(
     cube: &Schema,
     rows: CodedRows,
     writer: &Snapshot,
+    waits: bool,
     alloc: Global,
-) -> Result<PutEnd, AllocError>
+) -> Result<RowsOut, AllocError>
     requires board { P.calls_on board.now caller.old }
     requires callers { size.now.sessions + 2 + size.now.shards ≤ callers_of board.now }
     requires some { 1 ≤ size.now.shards }
@@ -68,9 +73,10 @@ pub(crate) fn put_told<R: Wait, P: CellCaller<ShardCells>>(
         writer.now.epoch (P.own caller.old) (P.own caller.new) }
     ensures none { GoOnByCalls FitsShard CoreShardStands ShardAnswerSays (P.opening caller.old)
         (P.number caller.old) session AsksForNone (P.own caller.old) (P.own caller.new) }
-    ensures holds { IfOk result (λ end. HoldsAfterPut (P.opening caller.new) (P.number caller.new)
-        session (P.own caller.new) writer.now end) }
-    ensures posted { IfOk result (λ end. ArePosted (P.opening caller.old) (P.number caller.old)
+    ensures out { IfOk result (MayBeFetched size.now.shards) }
+    ensures holds { IfOk result (λ out. HoldsRowsOut (P.opening caller.new) (P.number caller.new)
+        session (P.own caller.new) writer.now out.shards.items) }
+    ensures posted { IfOk result (λ out. ArePosted (P.opening caller.old) (P.number caller.old)
         session place writer.now.epoch rows.rows (P.own caller.old) (P.own caller.new)) }
     ensures err { OnErr result (P.own caller.new ≡ P.own caller.old) }
 {
@@ -79,7 +85,43 @@ pub(crate) fn put_told<R: Wait, P: CellCaller<ShardCells>>(
     posted_rows_stand_for_rows();
     rows_have_widths(&rows);
     let shape = cube.shared_shape();
-    put_rows(
-        rt, board, caller, size, session, statement, place, shape, rows, writer, alloc,
+    post_rows(
+        rt, board, caller, size, session, statement, place, shape, rows, writer, waits, alloc,
     )
+}
+
+/// Fetches the answers of rows that are out. It posts nothing, and asks for no text.
+pub(crate) fn fetch_told<R: Wait, P: CellCaller<ShardCells>>(
+    rt: &R,
+    board: &Board<ShardCells>,
+    caller: &mut P,
+    size: &CoreSize,
+    session: u32,
+    out: RowsOut,
+) -> PutEnd
+    requires board { P.calls_on board.now caller.old }
+    requires client { IsClientOf FitsShard CoreShardStands ShardAnswerSays (P.opening caller.old)
+        (P.number caller.old) session }
+    requires mails { AreShardMails FitsShard CoreShardStands ShardAnswerSays (P.opening caller.old)
+        session size.now.shards (2 + size.now.shards) }
+    requires out { MayBeFetched size.now.shards out }
+    requires waits { HoldsSomeRowsOut (P.opening caller.old) (P.number caller.old) session
+        (P.own caller.old) out.shards.items }
+    ensures board { P.calls_on board.now caller.new }
+    ensures opening { P.opening caller.new ≡ P.opening caller.old }
+    ensures number { P.number caller.new ≡ P.number caller.old }
+    ensures others { P.others caller.new ≡ P.others caller.old }
+    ensures goes { (cube epoch : ℕ) → GoesOnLoading (P.opening caller.old) (P.number caller.old)
+        session cube epoch (P.own caller.old) (P.own caller.new) }
+    ensures none { GoOnByCalls FitsShard CoreShardStands ShardAnswerSays (P.opening caller.old)
+        (P.number caller.old) session AsksForNone (P.own caller.old) (P.own caller.new) }
+    ensures adds { LearnsThat FitsShard CoreShardStands ShardAnswerSays AddsNoOperation
+        (P.opening caller.old) (P.number caller.old) session (P.own caller.old) (P.own caller.new) }
+    ensures holds { (writer : Snapshot)
+        → HoldsRowsOut (P.opening caller.old) (P.number caller.old) session (P.own caller.old)
+        writer out.shards.items
+        → HoldsAfterPut (P.opening caller.new) (P.number caller.new) session (P.own caller.new)
+        writer result }
+{
+    fetch_rows(rt, board, caller, size, session, out)
 }

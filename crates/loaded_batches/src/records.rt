@@ -16,7 +16,7 @@ ghost use Rattle.loaded_batches.specs.LoadingCalls.{GoesOnLoading};
 
 use crate::batches::load_turns;
 use crate::rest::take_rest;
-use crate::turns::LoadTurn;
+use crate::turns::LoadStop;
 use board_callers::CellCaller;
 use core_names::CubeTexts;
 use core_program::CoreSize;
@@ -145,18 +145,17 @@ fn put_all<R: Wait, P: CellCaller<ShardCells>>(
         rt, board, caller, size, session, statement, place, cube, known, &mut load, allowed,
         &mut bad, writer, alloc,
     )? {
-        LoadTurn::Done => Ok(LoadEnd::Stored {
+        LoadStop::Done => Ok(LoadEnd::Stored {
             rows: load.number() - bad.count,
             bad,
         }),
-        LoadTurn::TooMany => Ok(LoadEnd::TooMany {
+        LoadStop::TooMany => Ok(LoadEnd::TooMany {
             rejected: bad.count,
         }),
-        LoadTurn::ShardFull { shard, rows } => refuse_full(
+        LoadStop::ShardFull { shard, rows } => refuse_full(
             rt, board, caller, session, place, cube, known, &mut load, allowed, &mut bad, shard,
             rows, alloc,
         ),
-        LoadTurn::More => unreachable!(),
     }
 }
 

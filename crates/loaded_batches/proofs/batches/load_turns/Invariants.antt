@@ -1,8 +1,9 @@
 use Rattle.std.proofs.Common.{◌≡◌, ◌-◌}
 use Rattle.core_names.specs.CoreEncoders.{MayAskForCodes}
 use Rattle.linked_shards.specs.CellShards.{CoreShardStands}
+use Rattle.session_batches.specs.RowsOut.{HoldsRowsOut, MayBeFetched}
 use Rattle.shard_events.specs.ShardsInRuns.{FitsShard, ShardAnswerSays}
-use Rattle.loaded_batches.specs.LoadFronts.{HasPutSoFar}
+use Rattle.loaded_batches.specs.LoadFronts.{HasPostedSoFar}
 use Rattle.loaded_batches.specs.LoadTexts.{AsksForSuch}
 use Rattle.loaded_batches.specs.LoadingCalls.{GoesOnLoading}
 use Rattle.loaded_batches.proofs.batches.load_turns.Given as goal
@@ -22,7 +23,10 @@ invariant-turns g l =
       may : MayAskForCodes FitsShard CoreShardStands ShardAnswerSays (g.P.CellCaller.opening l.caller)
           (g.P.CellCaller.number l.caller) (g.P.CellCaller.own l.caller) l.session l.known l.place l.cube;
       cube : l.load.decl ≡ l.cube;
-      put : HasPutSoFar (g.P.CellCaller.opening l.fn.caller) (g.P.CellCaller.number l.fn.caller) l.session l.place l.cube
-          l.allowed l.writer (g.P.CellCaller.own l.fn.caller) (g.P.CellCaller.own l.caller) l.fn.load l.load l.fn.bad
-          l.bad;
+      put : HasPostedSoFar (g.P.CellCaller.opening l.fn.caller) (g.P.CellCaller.number l.fn.caller) l.session l.place
+          l.cube l.allowed l.writer (g.P.CellCaller.own l.fn.caller) (g.P.CellCaller.own l.caller) l.fn.load l.load
+          l.fn.bad l.bad;
+      out : MayBeFetched l.size.shards l.out;
+      holds : HoldsRowsOut (g.P.CellCaller.opening l.fn.caller) (g.P.CellCaller.number l.fn.caller) l.session
+          (g.P.CellCaller.own l.caller) l.writer l.out.shards.items;
     }

@@ -28,7 +28,7 @@ returns-in-Done-clause-holds g c =
     let after = coe 0 1 (i. IsAfterTurns (opening new.caller) (number new.caller) c.args.session c.args.place c.args.cube.now
     c.args.allowed c.args.writer.now (own c.args.caller.now) (own new.caller) c.args.records new.load c.none-bad.result
     new.bad (c.in-Done.is i)) c.in_ok-load_turns.ensures.turns in
-    after.so_far.holds
+    after.holds
 
 pub returns-in-Done-clause-ended : goal.returns-in-Done-clause-ended
 returns-in-Done-clause-ended g c =
@@ -97,8 +97,8 @@ refuse_full-requires-clause-counted g c =
     new.bad (c.in-ShardFull.is i)) c.in_ok-load_turns.ensures.turns in
     after.taken.counted
 
-pub returns-in-ShardFull-clause-goes : goal.returns-in-ShardFull-clause-goes
-returns-in-ShardFull-clause-goes g c =
+pub returns-clause-goes : goal.returns-clause-goes
+returns-clause-goes g c =
     let opening = g.P.CellCaller.opening in
     let number = g.P.CellCaller.number in
     let own = g.P.CellCaller.own in
@@ -118,8 +118,8 @@ returns-in-ShardFull-clause-goes g c =
     (loading-by-names cells caller c.args.session c.args.place c.args.writer.now.epoch acts (own new.caller)
     (own last.caller) asks)
 
-pub returns-in-ShardFull-clause-held : goal.returns-in-ShardFull-clause-held
-returns-in-ShardFull-clause-held g c =
+pub returns-clause-held : goal.returns-clause-held
+returns-clause-held g c =
     let opening = g.P.CellCaller.opening in
     let number = g.P.CellCaller.number in
     let own = g.P.CellCaller.own in
@@ -140,8 +140,8 @@ returns-in-ShardFull-clause-held g c =
     (before-of (λ (cs : List (CoreCell CoreShard)) (n : ℕ).
     HoldsOpenWriter cs n c.args.session (own new.caller) c.args.writer.now) e.opening e.number e.holds))
 
-pub returns-in-ShardFull-clause-holds : goal.returns-in-ShardFull-clause-holds
-returns-in-ShardFull-clause-holds g c =
+pub returns-clause-holds : goal.returns-clause-holds
+returns-clause-holds g c =
     let opening = g.P.CellCaller.opening in
     let number = g.P.CellCaller.number in
     let own = g.P.CellCaller.own in
@@ -165,11 +165,11 @@ returns-in-ShardFull-clause-holds g c =
     c.none-bad.result new.bad) r.opening r.number after in
     all-held (opening last.caller) (number last.caller) c.args.session c.args.place c.args.writer.now c.args.cube.now
     c.args.allowed (own c.args.caller.now) (own new.caller) (own last.caller) more c.args.records new.load last.load
-    c.none-bad.result new.bad last.bad c.none-bad.ensures c.requires.begins some (returns-in-ShardFull-clause-held g c)
+    c.none-bad.result new.bad last.bad c.none-bad.ensures c.requires.begins some (returns-clause-held g c)
     c.refuse_full.result r.ended
 
-pub returns-in-ShardFull-clause-ended : goal.returns-in-ShardFull-clause-ended
-returns-in-ShardFull-clause-ended g c =
+pub returns-clause-ended : goal.returns-clause-ended
+returns-clause-ended g c =
     let opening = g.P.CellCaller.opening in
     let number = g.P.CellCaller.number in
     let own = g.P.CellCaller.own in
@@ -216,8 +216,8 @@ returns-in-TooMany-clause-asked g c =
     (g.P.CellCaller.own c.args.caller.now) (g.P.CellCaller.own c.load_turns.new.caller))
     (sym (none-bad-yet c.args.allowed c.none-bad.result c.none-bad.ensures)) c.load_turns.ensures.asked
 
-pub returns-in-ShardFull-clause-asked : goal.returns-in-ShardFull-clause-asked
-returns-in-ShardFull-clause-asked g c =
+pub returns-clause-asked : goal.returns-clause-asked
+returns-clause-asked g c =
     let opening = g.P.CellCaller.opening in
     let number = g.P.CellCaller.number in
     let own = g.P.CellCaller.own in
