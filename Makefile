@@ -1,9 +1,10 @@
 # `make demo` runs the program on an example, unproved; `make compare` on a script whose text a model in Python works out; `make starve` with each
 # of its allocations refused in turn. `make starve_append` appends to a shard, unproved, with each allocation of the append refused in turn.
-# `make program` proves the program and builds it as bin/cubrick. `make bench` proves and builds the program of measures, and prints what each hot
+# `make program` proves the program and builds it as bin/cubrick, and `make sixteen` then runs that ten times with sixteen sessions beside each other, and
+# judges each run by its journal. `make bench` proves and builds the program of measures, and prints what each hot
 # path costs per item. `make edits` tries the edits of edits/, which the prover must refuse and which the gate leaves out for their time: of all
 # crates, or of those in NAMES.
-.PHONY: demo compare starve starve_append program bench edits
+.PHONY: demo compare starve starve_append program sixteen bench edits
 EXAMPLE = $(CURDIR)/examples
 demo:
 	@echo 'The program runs unproved here (rt try); make program proves and builds it.'
@@ -21,6 +22,8 @@ program:
 	@echo 'Every crate that the program stands on is proved first: from nothing that takes more than an hour on four processors.'
 	@cd crates/cubrick && rt run -- >/dev/null; test -x out/cubrick
 	@mkdir -p bin && cp crates/cubrick/out/cubrick bin/cubrick && echo 'bin/cubrick is built.'
+sixteen:
+	@python3 tools/sixteen
 bench:
 	@cd crates/measures && rt run -- split 1 >/dev/null
 	@tools/bench
